@@ -1,0 +1,14 @@
+pub mod Tests
+pub mod Lists
+pub mod Folds
+pub mod Tables
+pub mod Loops
+pub mod Sums
+pub mod Overlay
+pub mod Slots
+pub mod Words
+pub mod Digits
+pub mod Order
+pub mod ByKey
+pub mod Keys
+pub mod Rising

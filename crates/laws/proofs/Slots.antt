@@ -1,0 +1,88 @@
+-- Reading a slot after a slot was written, for any head and width. Assumes nothing.
+use mathlib.Core.Path.{_≡_, refl, sym, ap, _∙_}
+use mathlib.Core.List.{List, [], _∷_, _++_}
+use Prim.Native.Nat.{ℕ, zero, suc, _+_, _-_, _*_, _≤_, _<_}
+use native.Mathlib.Numerals.{add-one}
+use native.Mathlib.Nat.{suc-mul, mul-le-mul-right}
+use native.Mathlib.Decide.{decLe}
+use native.Mathlib.Omega.{arith}
+use lib.ListN.{length, take, drop, getD, set, replicate, length-append, length-replicate, length-take}
+use lib.Seq.{take-at, take-take, take-all, drop-cons}
+use Rattle.laws.specs.Overlay.{overlay, part}
+use Rattle.laws.specs.Slots.{slotAt, slotOf, heldIn}
+use Rattle.laws.proofs.Overlay.{part-same, part-before, part-after, overlay-append}
+
+-- a lower slot ends before a higher one begins
+pub slots-apart : (width : ℕ) {j k : ℕ} → j < k → j * width + width ≤ k * width
+slots-apart width {j} {k} h = omega (arith, suc-mul j width, mul-le-mul-right width h)
+
+-- what was written in a slot is read there
+pub slot-same : (head width : ℕ) (xs : List ℕ) (k : ℕ) (ys : List ℕ) → head + k * width + width ≤ length xs → length ys ≡ width
+    → slotAt head width (overlay xs (head + k * width) ys) k ≡ ys
+unfolding slotAt
+slot-same head width xs k ys fits e = part-same xs (head + k * width) ys width (omega arith) e
+
+-- and every other slot is as it was
+pub slot-lower : (head width : ℕ) (xs : List ℕ) (j k : ℕ) (ys : List ℕ) → j < k
+    → slotAt head width (overlay xs (head + k * width) ys) j ≡ slotAt head width xs j
+unfolding slotAt
+slot-lower head width xs j k ys h = part-before xs (head + k * width) ys (head + j * width) width (omega (arith, slots-apart width h))
+
+pub slot-higher : (head width : ℕ) (xs : List ℕ) (j k : ℕ) (ys : List ℕ) → k < j → length ys ≡ width
+    → slotAt head width (overlay xs (head + k * width) ys) j ≡ slotAt head width xs j
+unfolding slotAt
+slot-higher head width xs j k ys h e = part-after xs (head + k * width) ys (head + j * width) width (omega (arith, slots-apart width h))
+
+pub slot-other : (head width : ℕ) (xs : List ℕ) (j k : ℕ) (ys : List ℕ) → (j ≡ k → ⊥) → length ys ≡ width
+    → slotAt head width (overlay xs (head + k * width) ys) j ≡ slotAt head width xs j
+slot-other head width xs j k ys ne e =
+    elim (decLe j k) [ yes h ↦ slot-lower head width xs j k ys (omega arith) | no h ↦ slot-higher head width xs j k ys (omega arith) e ]
+
+-- a write in the head changes no slot
+pub slot-head : (head width : ℕ) (xs : List ℕ) (k at : ℕ) (ys : List ℕ) → at + length ys ≤ head
+    → slotAt head width (overlay xs at ys) k ≡ slotAt head width xs k
+unfolding slotAt
+slot-head head width xs k at ys h = part-after xs at ys (head + k * width) width (omega arith)
+
+-- ---- a slot that holds a length byte, so many bytes, and zeros
+pub length-slot : (width : ℕ) (bytes : List ℕ) → length bytes < width → length (slotOf width bytes) ≡ width
+unfolding slotOf
+length-slot width bytes h = simp (length-append, length-replicate) (omega arith)
+
+pub held-slot : (width : ℕ) (bytes : List ℕ) → heldIn (slotOf width bytes) ≡ bytes
+unfolding slotOf heldIn
+held-slot width bytes = take-at bytes _ _ refl
+
+-- a length byte, then the bytes, then zeros, written one after the other, are the slot
+pub slot-written : (width : ℕ) (xs : List ℕ) (at : ℕ) (bytes d : List ℕ) → d ≡ overlay (set xs at (length bytes)) (at + 1) bytes
+    → overlay d (at + 1 + length bytes) (replicate (width - 1 - length bytes) 0) ≡ overlay xs at (slotOf width bytes)
+unfolding slotOf overlay
+slot-written width xs at bytes d e =
+    ap (λ (l : List ℕ). overlay l (at + 1 + length bytes) (replicate (width - 1 - length bytes) 0)) e
+    ∙ sym (overlay-append (set xs at (length bytes)) (at + 1) bytes (replicate (width - 1 - length bytes) 0))
+
+-- a slot within the buffer: its first byte, and the bytes behind it
+slot-split : (w : ℕ) (xs : List ℕ) (at : ℕ) → at + suc w ≤ length xs → part xs at (suc w) ≡ getD xs at 0 ∷ take w (drop (at + 1) xs)
+unfolding part
+slot-split w xs at h = rw (drop-cons xs at 0 (omega arith), add-one)
+
+-- the m bytes behind the first byte of a slot are its bytes, where m is what the first byte says
+pub held-short : (width : ℕ) (xs : List ℕ) (at n m : ℕ) → at + width ≤ length xs → n ≡ getD xs at 0 → n < width → m ≡ n
+    → take m (drop (at + 1) xs) ≡ heldIn (part xs at width)
+unfolding heldIn
+held-short zero xs at n m fits e h em = absurd (omega arith)
+held-short (suc w) xs at n m fits e h em =
+    ap (λ (k : ℕ). take k (drop (at + 1) xs)) (em ∙ e)
+    ∙ sym (take-take (getD xs at 0) w (drop (at + 1) xs) (omega arith))
+    ∙ sym (ap heldIn (slot-split w xs at fits))
+
+-- or all that stand there, where it says more
+pub held-long : (width : ℕ) (xs : List ℕ) (at n m : ℕ) → at + width ≤ length xs → n ≡ getD xs at 0 → width ≤ n → m + 1 ≡ width
+    → take m (drop (at + 1) xs) ≡ heldIn (part xs at width)
+unfolding heldIn
+held-long zero xs at n m fits e h em = absurd (omega arith)
+held-long (suc w) xs at n m fits e h em =
+    let all : m ≡ w = omega arith in
+    ap (λ (k : ℕ). take k (drop (at + 1) xs)) all
+    ∙ sym (take-all (getD xs at 0) (take w (drop (at + 1) xs)) (rw length-take (omega arith)))
+    ∙ sym (ap heldIn (slot-split w xs at fits))
