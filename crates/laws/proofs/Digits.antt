@@ -1,6 +1,6 @@
 -- Reading digits undoes writing them, and the other way round. Assumes nothing.
 use Prim.Native.Nat.{ℕ, zero, suc, _+_, _-_, _*_, _/_, _%_, _^_, _<_, _≤_}
-use native.Mathlib.Nat.{add-zero, mul-assoc, pow-succ', mul-le-mul-right, lt-of-lt-of-le}
+use native.Mathlib.Nat.{add-zero, zero-add, add-suc, mul-assoc, pow-succ', mul-le-mul-right, lt-of-lt-of-le}
 use native.Mathlib.Numerals.{add-one}
 use native.Mathlib.Omega.{arith}
 use mathlib.Core.Path.{_≡_, refl, sym, ap, ap₂, _∙_}
@@ -172,3 +172,33 @@ pub size-le : (k n : ℕ) → sizeOf k n ≤ k
 unfolding sizeOf
 size-le zero n = omega arith
 size-le (suc k) n = size-step (ltb n 10) k (sizeOf k (n / 10)) (size-le k (n / 10))
+
+-- ---- the last n digits, and the digits before them
+pub digits-append : (j n p : ℕ) → digits (j + n) p ≡ digits j (down n p) ++ digits n p
+unfolding digits down
+digits-append j zero p = rw (add-zero, append-nil)
+digits-append j (suc n) p =
+    ap (λ (k : ℕ). digits k p) (add-suc j n)
+    ∙ ap (λ (l : List ℕ). l ++ (48 + p % 10) ∷ []) (digits-append j n (p / 10))
+    ∙ append-assoc (digits j (down n (p / 10))) (digits n (p / 10)) ((48 + p % 10) ∷ [])
+
+pub down-down : (j n p : ℕ) → down j (down n p) ≡ down (j + n) p
+unfolding down
+down-down j zero p = ap (λ (k : ℕ). down k p) (sym (add-zero j))
+down-down j (suc n) p = down-down j n (p / 10) ∙ ap (λ (k : ℕ). down k p) (sym (add-suc j n))
+
+-- ---- a field of a fixed width: k digits and nothing before them
+pub down-small : (k n : ℕ) → n < 10 ^ k → down k n ≡ 0
+unfolding down
+down-small zero n h = omega arith
+down-small (suc k) n h = down-small k (n / 10) (let e : n < 10 * 10 ^ k = rw (← pow-succ' 10 k) h in omega arith)
+
+pub width-trip : (k n : ℕ) → n < 10 ^ k → spelt 0 (digits k n) ≡ n
+width-trip k n h = rw (down-small k n h) at (spelt-digits k n)
+
+pub width-back : (l : List ℕ) → allDigits l ≡ true → digits (length l) (spelt 0 l) ≡ l
+unfolding digits
+width-back l p = rw zero-add at (digits-spelt l 0 0 p)
+
+pub width-below : (l : List ℕ) → allDigits l ≡ true → spelt 0 l < 10 ^ length l
+width-below l p = omega (arith, spelt-below l 0 p)

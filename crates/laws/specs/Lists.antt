@@ -3,6 +3,7 @@
 use Prim.Native.Nat.{ℕ, zero, suc, _+_}
 use mathlib.Core.Bool.{Bool, true, false, cond, _&&_, _||_}
 use mathlib.Core.List.{List, [], _∷_, _++_}
+use lib.Dec.{eqb}
 
 module _ {A : Type 0} where
   -- f 0, f 1, .., f (n - 1)
@@ -50,3 +51,10 @@ module _ {A : Type 0} where
   mapFirst f zero xs = xs
   mapFirst f (suc n) [] = []
   mapFirst f (suc n) (x ∷ xs) = f x ∷ mapFirst f n xs
+
+-- whether two lists of numbers are equal, place by place
+unfoldable pub same : List ℕ → List ℕ → Bool
+same [] [] = true
+same [] (y ∷ ys) = false
+same (x ∷ xs) [] = false
+same (x ∷ xs) (y ∷ ys) = eqb x y && same xs ys
