@@ -75,6 +75,11 @@ size-more (suc i) m h k =
     let e : i ≡ suc i - 1 = omega arith in
     rw (le-ltb m 10 k) (ap (λ (j : ℕ). suc (sizeOf j (m / 10))) e)
 
+pub size-first : (n most : ℕ) → sizeOf most n ≡ 0 + sizeOf (most - 0) n
+size-first n most =
+    let e : most ≡ most - 0 = omega arith in
+    ap (λ (k : ℕ). sizeOf k n) e ∙ omega arith
+
 -- a turn of `size`
 pub size-turn : (most k m : ℕ) → k < most → 10 ≤ m → k + sizeOf (most - k) m ≡ k + 1 + sizeOf (most - (k + 1)) (m / 10)
 size-turn most k m h b =
