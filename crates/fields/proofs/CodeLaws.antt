@@ -1,0 +1,83 @@
+-- The network code: which way `codeOf` goes, and that reading and writing undo each other. Assumes nothing.
+use Prim.Native.Nat.{ℕ, suc, _-_, _^_, _<_, _≤_}
+use native.Mathlib.Omega.{arith}
+use mathlib.Core.Path.{_≡_, refl, sym, ap, ap₂, _∙_}
+use mathlib.Core.Bool.{Bool, true, false, cond, _&&_}
+use mathlib.Core.List.{List, [], _∷_}
+use lib.Dec.{eqb}
+use lib.ListN.{length, getD, take, drop, length-drop}
+use lib.Seq.{take-all}
+use borrow.Author.Tests.{eq-eqb, ne-eqb, eqb-true, leb-true, le-leb}
+use Rattle.laws.specs.Digits.{digits, allDigits, spelt}
+use Rattle.laws.proofs.Tests.{and-left, and-right}
+use Rattle.laws.proofs.Digits.{length-digits, all-digits, width-trip, width-back, width-below}
+use Rattle.text.specs.declared.Spelt.{Spelt}
+use Rattle.text.specs.declared.Spelt.the-variants.{Value}
+use Rattle.text.specs.Spelt.{digitsOf}
+use Rattle.text.proofs.Spelling.{value-of, value-inv}
+use Rattle.fields.specs.declared.code.Code.{Code}
+use Rattle.fields.specs.declared.code.CodeRead.{CodeRead}
+use Rattle.fields.specs.Code.{codeFrom, codeOf, codeFits, codeText}
+
+module _ (f : List ℕ) where
+  pub code-length : (length f ≡ 4 → ⊥) → codeOf f ≡ CodeRead.Fault
+  unfolding codeOf
+  code-length n = rw (ne-eqb (length f) 4 n)
+
+  pub code-letter : length f ≡ 4 → (getD f 0 0 ≡ 68 → ⊥) → codeOf f ≡ CodeRead.Fault
+  unfolding codeOf
+  code-letter e n = rw (eq-eqb (length f) 4 e, ne-eqb (getD f 0 0) 68 n)
+
+  code-rest : length f ≡ 4 → getD f 0 0 ≡ 68 → codeOf f ≡ codeFrom (digitsOf false (drop 1 f))
+  unfolding codeOf
+  code-rest e d = rw (eq-eqb (length f) 4 e, eq-eqb (getD f 0 0) 68 d)
+
+-- `&f[k..]`
+rest : (k : ℕ) (f : List ℕ) → take (length f - k) (drop k f) ≡ drop k f
+rest k f = take-all (length f - k) (drop k f) (simp length-drop (omega arith))
+
+-- what `read` makes of the answer of `read_digits`
+pub code-read : (f : List ℕ) (r : Spelt) → length f ≡ 4 → getD f 0 0 ≡ 68 → r ≡ digitsOf false (take (length f - 1) (drop 1 f)) → codeOf f ≡ codeFrom r
+code-read f r e d p = code-rest f e d ∙ ap codeFrom (ap (digitsOf false) (sym (rest 1 f)) ∙ sym p)
+
+-- what k digits spell has no more than k digits
+pub spelt-small : (k : ℕ) (f : List ℕ) (v : ℕ) → length f ≡ k → digitsOf false f ≡ Value v → v < 10 ^ k
+spelt-small k f v e d =
+    let w = value-inv false f v d in
+    rw (w .1, e) at (width-below f (w .0))
+
+pub three-below : (f : List ℕ) (v : ℕ) → length f ≡ 4 → digitsOf false (take (length f - 1) (drop 1 f)) ≡ Value v → v < 1000
+three-below f v e d = spelt-small 3 (drop 1 f) v (simp length-drop (omega arith)) (rw rest at d)
+
+pub length-code : (c : Code) → length (codeText c) ≡ 4
+length-code c = rw (length-digits 3 (c .0))
+
+-- what was written is read back
+pub code-trip : (c : Code) → codeFits c ≡ true → codeOf (codeText c) ≡ CodeRead.Code c
+unfolding codeFrom
+code-trip c h =
+    let small : c .0 < 10 ^ 3 = omega (arith, leb-true (c .0) 999 h) in
+    let short : length (digits 3 (c .0)) ≤ 18 = rw length-digits (omega arith) in
+    code-rest (codeText c) (length-code c) refl
+    ∙ ap codeFrom (value-of false (digits 3 (c .0)) short (all-digits 3 (c .0)) ∙ ap Value (width-trip 3 (c .0) small))
+
+-- what was read is written again
+pub code-back : (f : List ℕ) (c : Code) → codeOf f ≡ CodeRead.Code c → (codeText c ≡ f) × (codeFits c ≡ true)
+unfolding codeOf codeFrom
+code-back f c h = go f (eqb (length f) 4) (eqb (getD f 0 0) 68) refl refl (digitsOf false (drop 1 f)) refl h
+  where
+    spelled : (f : List ℕ) (x : ℕ) → length f ≡ 4 → getD f 0 0 ≡ 68 → digitsOf false (drop 1 f) ≡ Value x → (68 ∷ digits 3 x ≡ f) × (x ≤ 999)
+    spelled [] x e d q = absurd (omega arith)
+    spelled (b ∷ g) x e d q =
+        let w = value-inv false g x q in
+        let l : length g ≡ 3 = omega arith in
+        (ap₂ _∷_ (sym d) (rw (← (w .1), ← l) (width-back g (w .0))), omega (arith, spelt-small 3 g x l q))
+
+    go : (f : List ℕ) (s t : Bool) → eqb (length f) 4 ≡ s → eqb (getD f 0 0) 68 ≡ t → (v : Spelt) → digitsOf false (drop 1 f) ≡ v → cond (s && t) (codeFrom v) CodeRead.Fault ≡ CodeRead.Code c → (codeText c ≡ f) × (codeFits c ≡ true)
+    go f true true p q (Value x) r e =
+        let whole : _≡_ {A = Code} (record { 0 = x }) c = cc in
+        let both = spelled f x (eqb-true (length f) 4 p) (eqb-true (getD f 0 0) 68 q) r in
+        (rw (← whole) (both .0), rw (← whole) (le-leb x 999 (both .1)))
+    go f true true p q Spelt.Fault r e = absurd (let z : _≡_ {A = ℕ} 0 1 = cc in omega arith)
+    go f true false p q v r e = absurd (let z : _≡_ {A = ℕ} 0 1 = cc in omega arith)
+    go f false t p q v r e = absurd (let z : _≡_ {A = ℕ} 0 1 = cc in omega arith)

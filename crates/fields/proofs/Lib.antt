@@ -1,0 +1,4 @@
+pub mod CodeLaws
+pub mod BlockLaws
+pub mod KindLaws
+pub mod NumberLaws
