@@ -15,7 +15,7 @@ use mathlib.Core.Logic.{⊎-elim}
 use Rattle.laws.proofs.Tests.{le-or-lt}
 use Rattle.laws.proofs.Lists.{same-refl, same-true}
 use Rattle.laws.proofs.Tables.{any-none, any-next, any-here, any-stops, stays-false}
-use Rattle.laws.proofs.Digits.{length-digits, digits-append, down-down, spelt-digits}
+use Rattle.laws.proofs.Digits.{length-digits, digits-append, down-down, down-next, spelt-digits}
 use Rattle.fields.specs.Block.{lastDigits, without, is, endsIn, lastDigit, nearly, decadeBy, someDecade}
 
 -- ---- the last n of k digits, and those before them
@@ -32,10 +32,6 @@ first-digits n k a h =
     ap (λ (j : ℕ). take (j - n) (digits k a)) (length-digits k a)
     ∙ ap (take (k - n)) (ap (λ (j : ℕ). digits j a) e ∙ digits-append (k - n) n a)
     ∙ take-at (digits (k - n) (down n a)) (digits n a) (k - n) (length-digits (k - n) (down n a))
-
-down-next : (n a : ℕ) → down (n + 1) a ≡ down n a / 10
-unfolding down
-down-next n a = let e : n + 1 ≡ 1 + n = omega arith in ap (λ (j : ℕ). down j a) e ∙ sym (down-down 1 n a)
 
 -- one more of the last digits
 all-next-digit : (d n a : ℕ) → all (is d) (digits (n + 1) a) ≡ (eqb (48 + down n a % 10) d && all (is d) (digits n a))

@@ -10,7 +10,9 @@ use borrow.Author.Tests.{eqb-true, ne-eqb}
 use Rattle.fields.specs.declared.kind.Kind.{Kind}
 use Rattle.fields.specs.declared.kind.Kind.the-variants.{P, L, Z}
 use Rattle.fields.specs.declared.kind.KindRead.{KindRead}
-use Rattle.fields.specs.Kind.{kindBy, kindOf, kindText}
+use Rattle.fields.specs.declared.kind.MaybeKind.{MaybeKind}
+use Rattle.fields.specs.declared.kind.MaybeKindRead.{MaybeKindRead}
+use Rattle.fields.specs.Kind.{kindBy, kindOf, kindText, maybeKindFrom, maybeKindOf, maybeKindText}
 
 pub length-kind : (k : Kind) → length (kindText k) ≡ 1
 length-kind P = refl
@@ -50,3 +52,22 @@ kind-back (b ∷ []) k e = go (eqb b 80) (eqb b 76) (eqb b 90) refl refl refl e
 kind-back (b ∷ b' ∷ f) k e =
     let w : KindRead.Fault ≡ KindRead.Kind k = rw (ne-eqb (length (b ∷ b' ∷ f)) 1 (λ h. omega arith)) at e in
     absurd (let z : _≡_ {A = ℕ} 0 1 = cc in omega arith)
+
+-- ---- a field that may be empty
+pub maybe-kind-trip : (k : MaybeKind) → maybeKindOf (maybeKindText k) ≡ MaybeKindRead.MaybeKind k
+unfolding maybeKindOf maybeKindFrom
+maybe-kind-trip (MaybeKind.Kind k) = rw (length-kind k) (ap maybeKindFrom (kind-trip k))
+maybe-kind-trip MaybeKind.Empty = refl
+
+pub maybe-kind-back : (f : List ℕ) (k : MaybeKind) → maybeKindOf f ≡ MaybeKindRead.MaybeKind k → maybeKindText k ≡ f
+unfolding maybeKindOf maybeKindFrom
+maybe-kind-back [] k h =
+    let e : MaybeKind.Empty ≡ k = cc in
+    rw (← e)
+maybe-kind-back (b ∷ f) k h = go (kindOf (b ∷ f)) refl (rw (ne-eqb (length (b ∷ f)) 0 (λ z. omega arith)) at h)
+  where
+    go : (r : KindRead) → kindOf (b ∷ f) ≡ r → maybeKindFrom r ≡ MaybeKindRead.MaybeKind k → maybeKindText k ≡ b ∷ f
+    go (KindRead.Kind x) q e =
+        let w : MaybeKind.Kind x ≡ k = cc in
+        rw (← w) (kind-back (b ∷ f) x q)
+    go KindRead.Fault q e = absurd (let z : _≡_ {A = ℕ} 0 1 = cc in omega arith)

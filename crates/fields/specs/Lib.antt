@@ -5,3 +5,4 @@ pub mod Date
 pub mod Block
 pub mod Number
 pub mod Gaining
+pub mod Bytes

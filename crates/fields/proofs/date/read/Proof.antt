@@ -3,7 +3,7 @@ use mathlib.Core.Path.{_≡_, refl, sym, ap, _∙_}
 use borrow.Author.Tests.{eq-eqb, ne-eqb, lt-leb, le-leb}
 use native.Mathlib.Omega.{arith}
 use Rattle.fields.specs.Date.{dateFieldOf, dateFrom, dateFound}
-use Rattle.fields.proofs.CodeLaws.{spelt-small}
+use Rattle.text.proofs.Spelling.{fixed-back}
 use borrow.Author.Needs.{needs}
 use Rattle.fields.proofs.date.read.Statement.{statement}
 use Rattle.fields.proofs.date.read.Tie as tie
@@ -36,7 +36,7 @@ cast-t12 c = search needs
 cast-t14 : tie.Need-cast-t14
 cast-t14 c =
     let d = c .before .before .before in
-    omega (arith, spelt-small 8 (d .before .before .before .args .f .now) (c .before .n .given .0 .0) (omega arith) (sym (d .read-digits .ensures) ∙ c .before .n .given .1))
+    omega (arith, fixed-back 8 (d .before .before .before .args .f .now) (c .before .n .given .0 .0) (omega arith) (sym (d .read-digits .ensures) ∙ c .before .n .given .1) .1)
 
 day-of-requires : tie.Need-day-of-requires
 day-of-requires c κs = search needs

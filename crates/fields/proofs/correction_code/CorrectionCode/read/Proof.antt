@@ -1,5 +1,5 @@
 -- `fields::correction_code::CorrectionCode::read` meets its contract. Assumes nothing.
-use Rattle.fields.proofs.CodeLaws.{spelt-small}
+use Rattle.text.proofs.Spelling.{fixed-back}
 use mathlib.Core.Path.{_≡_, refl, sym, ap, _∙_}
 use borrow.Author.Tests.{eq-eqb, ne-eqb, lt-leb, le-leb}
 use native.Mathlib.Omega.{arith}
@@ -30,7 +30,7 @@ returns-2 c =
 cast-t6 : tie.Need-cast-t6
 cast-t6 c =
     let d = c .before .before .before in
-    omega (arith, spelt-small 4 (d .before .before .before .args .f .now) (c .before .n .given .0 .0) (omega arith) (sym (d .read-digits .ensures) ∙ c .before .n .given .1))
+    omega (arith, fixed-back 4 (d .before .before .before .args .f .now) (c .before .n .given .0 .0) (omega arith) (sym (d .read-digits .ensures) ∙ c .before .n .given .1) .1)
 
 returns-3 : tie.Need-returns-3
 unfolding correctionCodeOf correctionCodeFrom
