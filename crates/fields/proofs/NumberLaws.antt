@@ -175,18 +175,17 @@ pub same-exactly : (f g f' g' : List ℕ) (a b : Number)
     → digitsFieldOf f' ≡ DigitsRead.Digits (b .first) → numberOf (b .first) g' ≡ NumberRead.Number b
     → (sameNumber a b ≡ true → (f ≡ f') × (g ≡ g')) × ((f ≡ f') × (g ≡ g') → sameNumber a b ≡ true)
 same-exactly f g f' g' a b p q p' q' = (
-      λ s.
-        let e = same-number a b s in
-        let x = digits-back f (a .first) p in
-        let x' = digits-back f' (b .first) p' in
-        (
-          sym (x .0) ∙ ap (λ (n : Number). digitsText (n .first)) e ∙ x' .0,
-          sym (number-back (a .first) g a (x .1) q .1) ∙ ap (λ (n : Number). digitsText (n .last)) e ∙ number-back (b .first) g' b (x' .1) q' .1,
-        ),
-      λ both.
-        let d : DigitsRead.Digits (a .first) ≡ DigitsRead.Digits (b .first) = sym p ∙ ap digitsFieldOf (both .0) ∙ p' in
-        let first : a .first ≡ b .first = cc in
-        let m : NumberRead.Number a ≡ NumberRead.Number b = sym q ∙ ap₂ numberOf first (both .1) ∙ q' in
-        let e : a ≡ b = cc in
-        ap (λ (n : Number). sameNumber a n) (sym e) ∙ same-itself a,
-    )
+  λ s.
+      let e = same-number a b s in
+      let x = digits-back f (a .first) p in
+      let x' = digits-back f' (b .first) p' in (
+        sym (x .0) ∙ ap (λ (n : Number). digitsText (n .first)) e ∙ x' .0,
+        sym (number-back (a .first) g a (x .1) q .1) ∙ ap (λ (n : Number). digitsText (n .last)) e ∙ number-back (b .first) g' b (x' .1) q' .1,
+      ),
+  λ both.
+      let d : DigitsRead.Digits (a .first) ≡ DigitsRead.Digits (b .first) = sym p ∙ ap digitsFieldOf (both .0) ∙ p' in
+      let first : a .first ≡ b .first = cc in
+      let m : NumberRead.Number a ≡ NumberRead.Number b = sym q ∙ ap₂ numberOf first (both .1) ∙ q' in
+      let e : a ≡ b = cc in
+      ap (λ (n : Number). sameNumber a n) (sym e) ∙ same-itself a,
+)
