@@ -1,8 +1,7 @@
 -- Fields are made of digits, D, P, L and Z: none has a separator in it. Assumes nothing.
 use Prim.Native.Nat.{ℕ}
 use mathlib.Core.Path.{_≡_, refl}
-use mathlib.Core.Bool.{Bool, true, false, _||_, true-or}
-use mathlib.Core.List.{List}
+use mathlib.Core.Bool.{true}
 use Rattle.laws.specs.Lists.{all}
 use Rattle.laws.specs.Digits.{isDigit, digits}
 use Rattle.laws.proofs.Digits.{all-digits}
@@ -16,7 +15,7 @@ use Rattle.fields.specs.declared.kind.MaybeKind.{MaybeKind}
 use Rattle.fields.specs.Bytes.{fieldByte}
 use Rattle.fields.specs.Code.{codeText, maybeCodeText}
 use Rattle.fields.specs.Date.{maybeDateText, spelling}
-use Rattle.fields.specs.Kind.{kindText, maybeKindText}
+use Rattle.fields.specs.Kind.{maybeKindText}
 use Rattle.calendar.specs.Answers.{dateOf}
 
 digit-byte : (b : ℕ) → isDigit b ≡ true → fieldByte b ≡ true

@@ -1,12 +1,12 @@
 -- The date: reading and writing undo each other. Assumes nothing.
 use Prim.Native.Nat.{ℕ, _+_, _-_, _*_, _/_, _%_, _^_, _<_, _≤_}
 use native.Mathlib.Omega.{arith}
-use mathlib.Core.Path.{_≡_, refl, sym, ap, _∙_}
-use mathlib.Core.Bool.{Bool, true, false, cond, _&&_}
+use mathlib.Core.Path.{_≡_, refl, ap, _∙_}
+use mathlib.Core.Bool.{Bool, true, false, cond}
 use mathlib.Core.List.{List, [], _∷_}
 use lib.Dec.{eqb, leb}
 use lib.ListN.{length}
-use borrow.Author.Tests.{eqb-true, ne-eqb, leb-true, le-leb}
+use borrow.Author.Tests.{eqb-true, ne-eqb, leb-true}
 use Rattle.laws.specs.Digits.{digits}
 use mathlib.Core.Logic.{⊎-elim}
 use Rattle.laws.proofs.Tests.{and-left, and-right, le-or-lt}

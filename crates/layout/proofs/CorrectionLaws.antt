@@ -1,10 +1,9 @@
 -- A correction: which way its readers go, what is left to write, and how long its text is. Assumes nothing.
 use Prim.Native.Nat.{ℕ, _+_, _-_, _<_, _≤_}
 use native.Mathlib.Omega.{arith}
-use mathlib.Core.Path.{_≡_, refl, sym, ap, _∙_}
-use mathlib.Core.Bool.{Bool, true, false, cond}
-use mathlib.Core.List.{List, [], _∷_, _++_}
-use lib.ListN.{length, getD, take, drop, length-append}
+use mathlib.Core.Path.{_≡_, refl}
+use mathlib.Core.List.{List, _∷_, _++_}
+use lib.ListN.{length, getD, take, length-append}
 use borrow.Author.Tests.{eq-eqb, ne-eqb, le-leb, lt-leb}
 use Rattle.laws.specs.Split.{split, pieceOf, between}
 use Rattle.laws.proofs.Digits.{length-digits}
@@ -15,7 +14,6 @@ use Rattle.fields.specs.CorrectionCode.{correctionCodeOf, correctionCodeOfWord,
 use Rattle.layout.specs.declared.part.Part.{Part}
 use Rattle.layout.specs.declared.part.PartRead.{PartRead}
 use Rattle.layout.specs.declared.correction.Correction.{Correction}
-use Rattle.layout.specs.declared.correction.CorrectionRead.{CorrectionRead}
 use Rattle.layout.specs.declared.correction.CorrectionRead.the-variants.{Fault}
 use Rattle.layout.specs.Part.{partOf, partOfWords, partText}
 use Rattle.layout.specs.Correction.{headOf, reportedOf, soundOf, threeOf, correctionOf, correctionOfWords, correctionText}

@@ -1,6 +1,5 @@
 -- A correction: what was written is read back, what was read is written again, and how long it can be. Assumes nothing.
 use Prim.Native.Nat.{ℕ, suc, _+_, _-_, _≤_}
-use native.Mathlib.Numerals.{add-one}
 use native.Mathlib.Omega.{arith}
 use mathlib.Core.Path.{_≡_, refl, sym, ap, ap₂, _∙_}
 use mathlib.Core.Bool.{Bool, true, false, cond, _&&_}
@@ -10,7 +9,7 @@ use lib.ListN.{length, getD, take, drop, length-append, take-append-drop, drop-o
 use lib.Seq.{drop-cons, take-at, getD-at, getD-append-add}
 use borrow.Author.Tests.{eqb-true, leb-true}
 use Rattle.laws.specs.Lists.{all}
-use Rattle.laws.specs.Split.{split, joined, lacks, between}
+use Rattle.laws.specs.Split.{split, joined, between}
 use Rattle.laws.proofs.Tests.{and-left, and-right, and-true}
 use Rattle.laws.proofs.Digits.{length-digits}
 use Rattle.laws.proofs.Split.{split-joined, joined-split}

@@ -1,13 +1,13 @@
 -- A part: which way its readers go, what is left to write, and how long its text is. Assumes nothing.
 use Prim.Native.Nat.{ℕ, _+_, _-_, _≤_}
 use native.Mathlib.Omega.{arith}
-use mathlib.Core.Path.{_≡_, refl, sym, ap, _∙_}
-use mathlib.Core.Bool.{Bool, true, false, cond, _&&_}
-use mathlib.Core.List.{List, [], _∷_, _++_}
+use mathlib.Core.Path.{_≡_, refl}
+use mathlib.Core.Bool.{true, false}
+use mathlib.Core.List.{List, _∷_, _++_}
 use lib.ListN.{length, getD, length-append}
 use borrow.Author.Tests.{eq-eqb, ne-eqb}
-use Rattle.laws.specs.Split.{split, pieceOf, joined}
-use Rattle.laws.proofs.Digits.{length-digits, size-le}
+use Rattle.laws.specs.Split.{split, pieceOf}
+use Rattle.laws.proofs.Digits.{size-le}
 use Rattle.laws.proofs.Overlay.{Room}
 use Rattle.fields.specs.declared.code.MaybeCode.{MaybeCode}
 use Rattle.fields.specs.declared.code.MaybeCodeRead.{MaybeCodeRead}

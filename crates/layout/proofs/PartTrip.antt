@@ -1,17 +1,16 @@
 -- A part: what was written is read back, what was read is written again, and how long it can be. Assumes nothing.
-use Prim.Native.Nat.{ℕ, _+_, _≤_}
+use Prim.Native.Nat.{ℕ, _≤_}
 use native.Mathlib.Omega.{arith}
 use mathlib.Core.Path.{_≡_, refl, sym, ap, _∙_}
 use mathlib.Core.Bool.{Bool, true, false, cond, _&&_}
-use mathlib.Core.List.{List, [], _∷_, _++_}
+use mathlib.Core.List.{List, [], _∷_}
 use lib.Dec.{eqb}
 use lib.ListN.{length, getD}
 use borrow.Author.Tests.{eqb-true}
 use Rattle.laws.specs.Lists.{all}
 use Rattle.laws.specs.Digits.{isDigit}
-use Rattle.laws.specs.Split.{split, pieceOf, joined, lacks}
+use Rattle.laws.specs.Split.{split, joined, lacks}
 use Rattle.laws.proofs.Tests.{and-left, and-right, and-true}
-use Rattle.laws.proofs.Digits.{size-none}
 use Rattle.laws.proofs.Split.{split-joined, joined-split, lacks-by}
 use Rattle.fields.specs.declared.code.MaybeCode.{MaybeCode}
 use Rattle.fields.specs.declared.code.MaybeCodeRead.{MaybeCodeRead}
@@ -27,7 +26,7 @@ use Rattle.fields.specs.Bytes.{fieldByte}
 use Rattle.fields.specs.Code.{maybeCodeOf, maybeCodeOfWord, maybeCodeFits, maybeCodeText}
 use Rattle.fields.specs.Date.{maybeDateOf, maybeDateOfWord, maybeDateFits, maybeDateText}
 use Rattle.fields.specs.Kind.{maybeKindOf, maybeKindOfWord, maybeKindText}
-use Rattle.fields.specs.Number.{digitsFieldOf, digitsFits, digitsSize, digitsText, isEmpty, numberOf, numberFits}
+use Rattle.fields.specs.Number.{digitsFieldOf, digitsSize, digitsText, numberOf, numberFits}
 use Rattle.fields.proofs.ByteLaws.{bytes-digits, bytes-maybe-code, bytes-maybe-date, bytes-maybe-kind}
 use Rattle.fields.proofs.CodeLaws.{maybe-code-trip, maybe-code-back}
 use Rattle.fields.proofs.DateLaws.{maybe-date-trip, maybe-date-back}

@@ -1,13 +1,13 @@
 -- The bytes of which records are made: nothing outside 4.4.1, no line end, and no colon in a part. Assumes nothing.
 use Prim.Native.Nat.{ℕ}
-use mathlib.Core.Path.{_≡_, refl, ap, _∙_}
-use mathlib.Core.Bool.{Bool, true, false, _||_, _&&_, or-true}
+use mathlib.Core.Path.{_≡_, refl, _∙_}
+use mathlib.Core.Bool.{Bool, true, false, _||_}
 use mathlib.Core.List.{List, [], _∷_, _++_}
 use lib.Dec.{eqb}
 use Rattle.laws.specs.Lists.{all}
 use Rattle.laws.specs.Digits.{isDigit}
-use Rattle.laws.specs.Split.{joined, lacks, isNot}
-use Rattle.laws.proofs.Tests.{and-left, and-right, and-true}
+use Rattle.laws.specs.Split.{lacks, isNot}
+use Rattle.laws.proofs.Tests.{and-true}
 use Rattle.laws.proofs.Tables.{all-append, all-weaker}
 use Rattle.laws.proofs.Split.{lacks-by, all-joined}
 use Rattle.fields.specs.declared.correction_code.CorrectionCode.{CorrectionCode}

@@ -1,9 +1,9 @@
 -- What holds of every record that reads: its bytes are those of 4.4.1, and a report or a correction begins with a digit. Assumes nothing.
-use Prim.Native.Nat.{ℕ, _≤_, _<_}
+use Prim.Native.Nat.{ℕ, _<_}
 use native.Mathlib.Omega.{arith}
-use mathlib.Core.Path.{_≡_, refl, sym, ap, _∙_}
-use mathlib.Core.Bool.{Bool, true, false, not, _&&_}
-use mathlib.Core.List.{List, [], _∷_, _++_}
+use mathlib.Core.Path.{_≡_, ap, _∙_}
+use mathlib.Core.Bool.{true, not}
+use mathlib.Core.List.{List, _++_}
 use lib.ListN.{length, getD, List·getD-append}
 use borrow.Author.Tests.{not-true}
 use Rattle.laws.specs.Lists.{all}
@@ -22,7 +22,7 @@ use Rattle.layout.specs.declared.report.ReportRead.{ReportRead}
 use Rattle.layout.specs.declared.request.Request.{Request}
 use Rattle.layout.specs.declared.request.RequestRead.{RequestRead}
 use Rattle.layout.specs.Part.{partFits}
-use Rattle.layout.specs.Report.{isNamed, reportOf, reportPart, reportFits, reportText}
+use Rattle.layout.specs.Report.{reportOf, reportPart, reportFits, reportText}
 use Rattle.layout.specs.Correction.{correctionOf, correctionText}
 use Rattle.layout.specs.Request.{requestOf}
 use Rattle.layout.proofs.PartLaws.{whole, left2}

@@ -2,11 +2,10 @@
 use Prim.Native.Nat.{ℕ, _+_, _-_, _≤_}
 use native.Mathlib.Omega.{arith}
 use mathlib.Core.Path.{_≡_, refl}
-use mathlib.Core.Bool.{Bool, true, false, cond}
 use mathlib.Core.List.{List, [], _∷_, _++_}
 use lib.ListN.{length, getD, length-append}
 use borrow.Author.Tests.{eq-eqb, ne-eqb}
-use Rattle.laws.specs.Split.{split, pieceOf, joined}
+use Rattle.laws.specs.Split.{split, pieceOf}
 use Rattle.laws.proofs.Overlay.{Room}
 use Rattle.fields.specs.declared.code.Code.{Code}
 use Rattle.fields.specs.declared.code.CodeRead.{CodeRead}

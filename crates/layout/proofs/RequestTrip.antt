@@ -1,8 +1,8 @@
 -- A request: what was written is read back, what was read is written again, and how long it can be. Assumes nothing.
-use Prim.Native.Nat.{ℕ, _+_, _≤_}
+use Prim.Native.Nat.{ℕ, _≤_}
 use native.Mathlib.Omega.{arith}
 use mathlib.Core.Path.{_≡_, refl, sym, ap, _∙_}
-use mathlib.Core.Bool.{Bool, true, false, cond, _&&_}
+use mathlib.Core.Bool.{Bool, true, false, cond}
 use mathlib.Core.List.{List, [], _∷_}
 use lib.Dec.{eqb}
 use lib.ListN.{length, getD}
@@ -18,7 +18,7 @@ use Rattle.fields.specs.declared.date.MaybeDate.{MaybeDate}
 use Rattle.fields.specs.declared.date.MaybeDateRead.{MaybeDateRead}
 use Rattle.fields.specs.Bytes.{fieldByte}
 use Rattle.fields.specs.Code.{codeOf, codeOfWord, codeFits, codeText}
-use Rattle.fields.specs.Date.{maybeDateOf, maybeDateOfWord, maybeDateFits, maybeDateText}
+use Rattle.fields.specs.Date.{maybeDateOf, maybeDateOfWord, maybeDateText}
 use Rattle.fields.proofs.ByteLaws.{bytes-code, bytes-maybe-date}
 use Rattle.fields.proofs.CodeLaws.{code-trip, code-back}
 use Rattle.fields.proofs.DateLaws.{maybe-date-trip, maybe-date-back}

@@ -1,7 +1,7 @@
 -- What a correction is read as, which corrections it can hold, and how they are written. Assumes nothing: these are definitions.
 use Prim.Native.Nat.{ℕ, _-_, _+_}
 use mathlib.Core.Bool.{Bool, true, false, cond, not, _&&_, _||_}
-use mathlib.Core.List.{List, [], _∷_, _++_}
+use mathlib.Core.List.{List, _∷_, _++_}
 use lib.Dec.{eqb, leb}
 use lib.ListN.{length, getD, take}
 use Rattle.laws.specs.Split.{split, pieceOf, between}

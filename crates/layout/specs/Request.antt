@@ -7,7 +7,6 @@ use lib.ListN.{length, getD}
 use Rattle.laws.specs.Split.{split, pieceOf, joined}
 use Rattle.fields.specs.declared.code.Code.{Code}
 use Rattle.fields.specs.declared.code.CodeRead.{CodeRead}
-use Rattle.fields.specs.declared.date.MaybeDate.{MaybeDate}
 use Rattle.fields.specs.Code.{codeOf, codeOfWord, codeFits, codeText}
 use Rattle.fields.specs.Date.{maybeDateOf, maybeDateOfWord, maybeDateFits, maybeDateText}
 use Rattle.layout.specs.declared.request.Request.{Request}

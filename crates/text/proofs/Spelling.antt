@@ -6,10 +6,9 @@ use mathlib.Core.List.{List}
 use native.Mathlib.Omega.{arith}
 use lib.Dec.{leb}
 use lib.ListN.{length}
-use borrow.Author.Tests.{le-leb, leb-true}
+use borrow.Author.Tests.{le-leb}
 use Rattle.laws.specs.Digits.{allDigits, spelt, digits}
 use Rattle.laws.proofs.Digits.{length-digits, all-digits, width-trip, width-back, width-below}
-use Rattle.text.specs.declared.Spelt.{Spelt}
 use Rattle.text.specs.declared.Spelt.the-variants.{Value, Fault}
 use Rattle.text.specs.Spelt.{spells, digitsOf}
 

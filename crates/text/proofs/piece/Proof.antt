@@ -1,10 +1,10 @@
 -- `text::piece` meets its contract: the piece `left` of what starts at `at` is the piece k of the whole. Assumes nothing.
 use Prim.Native.Nat.{_-_, _≤_}
-use mathlib.Core.Path.{_≡_, refl, sym, ap, _∙_}
+use mathlib.Core.Path.{_≡_, refl, sym, _∙_}
 use native.Mathlib.Omega.{arith}
-use lib.ListN.{length, drop, take}
+use lib.ListN.{length, drop}
 use borrow.Author.Needs.{needs}
-use Rattle.laws.specs.Split.{pieceOf, between, endOf}
+use Rattle.laws.specs.Split.{pieceOf}
 use Rattle.laws.proofs.Split.{ends-at, piece-on, piece-none, piece-here}
 use Rattle.text.proofs.piece.Statement.{statement}
 use Rattle.text.proofs.piece.Tie as tie

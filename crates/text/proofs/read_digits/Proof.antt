@@ -1,5 +1,4 @@
 -- `text::read_digits` meets its contract. Assumes nothing.
-use mathlib.Core.Path.{_≡_, sym, _∙_}
 use borrow.Author.Tests.{lt-leb, le-leb}
 use Rattle.text.specs.Spelt.{digitsOf}
 use borrow.Author.Needs.{needs}

@@ -1,5 +1,5 @@
 -- `fields::date::of_word` meets its contract. Assumes nothing.
-use borrow.Author.Tests.{eq-eqb, ne-eqb, lt-leb, le-leb}
+use borrow.Author.Tests.{lt-leb, le-leb}
 use Rattle.fields.specs.Date.{dateOfWord}
 use borrow.Author.Needs.{needs}
 use Rattle.fields.proofs.date.of_word.Statement.{statement}

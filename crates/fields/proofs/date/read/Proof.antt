@@ -1,6 +1,6 @@
 -- `fields::date::read` meets its contract: the tests and what the calls answer say which way `dateFieldOf` goes. Assumes nothing.
-use mathlib.Core.Path.{_≡_, refl, sym, ap, _∙_}
-use borrow.Author.Tests.{eq-eqb, ne-eqb, lt-leb, le-leb}
+use mathlib.Core.Path.{sym, _∙_}
+use borrow.Author.Tests.{eq-eqb, ne-eqb}
 use native.Mathlib.Omega.{arith}
 use Rattle.fields.specs.Date.{dateFieldOf, dateFrom, dateFound}
 use Rattle.text.proofs.Spelling.{fixed-back}

@@ -1,5 +1,5 @@
 -- `fields::date::spell` meets its contract. Assumes nothing.
-use mathlib.Core.Path.{_≡_, refl, sym, ap, _∙_}
+use mathlib.Core.Path.{sym, ap, _∙_}
 use Rattle.fields.specs.Date.{spelling}
 use borrow.Author.Needs.{needs}
 use Rattle.fields.proofs.date.spell.Statement.{statement}

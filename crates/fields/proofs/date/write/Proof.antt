@@ -1,5 +1,5 @@
 -- `fields::date::write` meets its contract. Assumes nothing.
-use mathlib.Core.Path.{_≡_, refl, sym, ap, _∙_}
+use mathlib.Core.Path.{sym}
 use Rattle.fields.specs.Date.{spelling}
 use Rattle.calendar.specs.Answers.{dateOf}
 use native.Mathlib.Omega.{arith}

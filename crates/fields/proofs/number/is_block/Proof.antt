@@ -1,8 +1,7 @@
 -- `fields::number::is_block` meets its contract. Assumes nothing.
 use Rattle.fields.proofs.NumberLaws.{fits-leads, block-first, block-last, block-sizes, block-decades}
-use mathlib.Core.Path.{_≡_, refl, sym, ap, _∙_}
-use borrow.Author.Tests.{eq-eqb, ne-eqb, not-true, not-false}
-use native.Mathlib.Omega.{arith}
+use mathlib.Core.Path.{sym, _∙_}
+use borrow.Author.Tests.{not-true, not-false}
 use borrow.Author.Needs.{needs}
 use Rattle.fields.proofs.number.is_block.Statement.{statement}
 use Rattle.fields.proofs.number.is_block.Tie as tie

@@ -1,5 +1,5 @@
 -- `fields::number::nearly` meets its contract. Assumes nothing.
-use borrow.Author.Tests.{eq-eqb, ne-eqb, lt-leb, le-leb}
+use borrow.Author.Tests.{eq-eqb, ne-eqb}
 use Rattle.fields.proofs.number.nearly.Statement.{statement}
 use Rattle.fields.proofs.number.nearly.Tie as tie
 

@@ -1,6 +1,6 @@
 -- `layout::correction::is_sound` meets its contract. Assumes nothing.
-use mathlib.Core.Path.{_≡_, refl, sym, ap, _∙_}
-use borrow.Author.Tests.{eq-eqb, ne-eqb, not-true, not-false}
+use mathlib.Core.Path.{sym, _∙_}
+use borrow.Author.Tests.{not-true, not-false}
 use Rattle.layout.specs.Correction.{isSound}
 use borrow.Author.Needs.{needs}
 use Rattle.layout.proofs.correction.is_sound.Statement.{statement}

@@ -1,6 +1,5 @@
 -- `layout::correction::read_head` meets its contract. Assumes nothing.
-use mathlib.Core.Path.{_≡_, refl, sym, ap, _∙_}
-use native.Mathlib.Omega.{arith}
+use mathlib.Core.Path.{sym, _∙_}
 use Rattle.layout.proofs.CorrectionLaws.{head-length, head-letter, head-code}
 use borrow.Author.Needs.{needs}
 use Rattle.layout.proofs.correction.read_head.Statement.{statement}

@@ -2,7 +2,7 @@
 use Prim.Native.Nat.{ℕ, _-_}
 use lib.ListN.{length, take}
 use Rattle.layout.specs.Part.{partOf}
-use mathlib.Core.Path.{_≡_, refl, sym, ap, _∙_}
+use mathlib.Core.Path.{_≡_, sym, ap, _∙_}
 use native.Mathlib.Omega.{arith}
 use Rattle.layout.proofs.CorrectionLaws.{reported-short, reported-comma, reported-letter, reported-part}
 use borrow.Author.Needs.{needs}

@@ -1,5 +1,5 @@
 -- `fields::code::Code::read` meets its contract: the tests and what `read_digits` answers say which way `codeOf` goes. Assumes nothing.
-use mathlib.Core.Path.{_≡_, refl, sym, ap, _∙_}
+use mathlib.Core.Path.{sym, ap, _∙_}
 use native.Mathlib.Omega.{arith}
 use Rattle.fields.specs.Code.{codeFrom}
 use Rattle.fields.proofs.CodeLaws.{code-length, code-letter, code-read, three-below}

@@ -1,7 +1,7 @@
 -- `fields::code::MaybeCode::read` meets its contract. Assumes nothing.
-use mathlib.Core.Path.{_≡_, refl, sym, ap, _∙_}
-use borrow.Author.Tests.{eq-eqb, ne-eqb, lt-leb, le-leb}
-use Rattle.fields.specs.Code.{maybeCodeOf, maybeCodeOfWord, maybeCodeFrom}
+use mathlib.Core.Path.{sym, _∙_}
+use borrow.Author.Tests.{eq-eqb, ne-eqb}
+use Rattle.fields.specs.Code.{maybeCodeOf, maybeCodeFrom}
 use borrow.Author.Needs.{needs}
 use Rattle.fields.proofs.code.MaybeCode.read.Statement.{statement}
 use Rattle.fields.proofs.code.MaybeCode.read.Tie as tie

@@ -1,5 +1,5 @@
 -- `fields::correction_code::CorrectionCode::of_word` meets its contract. Assumes nothing.
-use borrow.Author.Tests.{eq-eqb, ne-eqb, lt-leb, le-leb}
+use borrow.Author.Tests.{lt-leb, le-leb}
 use Rattle.fields.specs.CorrectionCode.{correctionCodeOfWord}
 use borrow.Author.Needs.{needs}
 use Rattle.fields.proofs.correction_code.CorrectionCode.of_word.Statement.{statement}

@@ -1,7 +1,7 @@
 -- `fields::correction_code::CorrectionCode::read` meets its contract. Assumes nothing.
 use Rattle.text.proofs.Spelling.{fixed-back}
-use mathlib.Core.Path.{_≡_, refl, sym, ap, _∙_}
-use borrow.Author.Tests.{eq-eqb, ne-eqb, lt-leb, le-leb}
+use mathlib.Core.Path.{sym, _∙_}
+use borrow.Author.Tests.{eq-eqb, ne-eqb}
 use native.Mathlib.Omega.{arith}
 use Rattle.fields.specs.CorrectionCode.{correctionCodeOf, correctionCodeFrom}
 use borrow.Author.Needs.{needs}

@@ -1,5 +1,4 @@
 -- `fields::date::MaybeDate::len` meets its contract. Assumes nothing.
-use mathlib.Core.Path.{_≡_, refl, sym, ap, _∙_}
 use Rattle.laws.proofs.Digits.{length-digits}
 use borrow.Author.Needs.{needs}
 use Rattle.fields.proofs.date.MaybeDate.len.Statement.{statement}

@@ -1,5 +1,5 @@
 -- `fields::kind::Kind::of_word` meets its contract. Assumes nothing.
-use borrow.Author.Tests.{eq-eqb, ne-eqb, lt-leb, le-leb}
+use borrow.Author.Tests.{ne-eqb}
 use Rattle.fields.specs.Kind.{kindBy}
 use Rattle.fields.proofs.kind.Kind.of_word.Statement.{statement}
 use Rattle.fields.proofs.kind.Kind.of_word.Tie as tie

@@ -1,5 +1,5 @@
 -- `fields::kind::Kind::read` meets its contract. Assumes nothing.
-use borrow.Author.Tests.{eq-eqb, ne-eqb, lt-leb, le-leb}
+use borrow.Author.Tests.{eq-eqb, ne-eqb}
 use Rattle.fields.specs.Kind.{kindOf, kindBy}
 use borrow.Author.Needs.{needs}
 use Rattle.fields.proofs.kind.Kind.read.Statement.{statement}

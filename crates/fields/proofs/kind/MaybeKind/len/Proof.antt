@@ -1,7 +1,6 @@
 -- `fields::kind::MaybeKind::len` meets its contract. Assumes nothing.
 use Rattle.fields.proofs.KindLaws.{length-kind}
-use mathlib.Core.Path.{_≡_, refl, sym, ap, _∙_}
-use Rattle.laws.proofs.Digits.{length-digits}
+use mathlib.Core.Path.{sym}
 use borrow.Author.Needs.{needs}
 use Rattle.fields.proofs.kind.MaybeKind.len.Statement.{statement}
 use Rattle.fields.proofs.kind.MaybeKind.len.Tie as tie

@@ -1,7 +1,7 @@
 -- `fields::kind::MaybeKind::of_word` meets its contract. Assumes nothing.
-use mathlib.Core.Path.{_≡_, refl, sym, ap, _∙_}
-use borrow.Author.Tests.{eq-eqb, ne-eqb, lt-leb, le-leb}
-use Rattle.fields.specs.Kind.{maybeKindOf, maybeKindOfWord, maybeKindFrom}
+use mathlib.Core.Path.{sym, _∙_}
+use borrow.Author.Tests.{eq-eqb, ne-eqb}
+use Rattle.fields.specs.Kind.{maybeKindOfWord, maybeKindFrom}
 use borrow.Author.Needs.{needs}
 use Rattle.fields.proofs.kind.MaybeKind.of_word.Statement.{statement}
 use Rattle.fields.proofs.kind.MaybeKind.of_word.Tie as tie

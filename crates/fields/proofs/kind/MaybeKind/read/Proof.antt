@@ -1,7 +1,7 @@
 -- `fields::kind::MaybeKind::read` meets its contract. Assumes nothing.
-use mathlib.Core.Path.{_≡_, refl, sym, ap, _∙_}
-use borrow.Author.Tests.{eq-eqb, ne-eqb, lt-leb, le-leb}
-use Rattle.fields.specs.Kind.{maybeKindOf, maybeKindOfWord, maybeKindFrom}
+use mathlib.Core.Path.{sym, _∙_}
+use borrow.Author.Tests.{eq-eqb, ne-eqb}
+use Rattle.fields.specs.Kind.{maybeKindOf, maybeKindFrom}
 use borrow.Author.Needs.{needs}
 use Rattle.fields.proofs.kind.MaybeKind.read.Statement.{statement}
 use Rattle.fields.proofs.kind.MaybeKind.read.Tie as tie

@@ -1,6 +1,6 @@
 -- `fields::kind::MaybeKind::write` meets its contract. Assumes nothing.
 use Rattle.laws.specs.Overlay.{overlay}
-use mathlib.Core.Path.{_≡_, refl, sym, ap, _∙_}
+use mathlib.Core.Path.{refl}
 use native.Mathlib.Omega.{arith}
 use borrow.Author.Needs.{needs}
 use Rattle.fields.proofs.kind.MaybeKind.write.Statement.{statement}

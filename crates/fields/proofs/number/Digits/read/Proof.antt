@@ -1,6 +1,6 @@
 -- `fields::number::Digits::read` meets its contract. Assumes nothing.
-use mathlib.Core.Path.{_≡_, refl, sym, ap, _∙_}
-use borrow.Author.Tests.{eq-eqb, ne-eqb, lt-leb, le-leb}
+use mathlib.Core.Path.{sym, _∙_}
+use borrow.Author.Tests.{lt-leb, le-leb}
 use Rattle.fields.specs.Number.{digitsFieldOf, digitsFrom}
 use borrow.Author.Needs.{needs}
 use Rattle.fields.proofs.number.Digits.read.Statement.{statement}

@@ -1,5 +1,5 @@
 -- `fields::number::Digits::write` meets its contract. Assumes nothing.
-use mathlib.Core.Path.{_≡_, refl, sym, ap, _∙_}
+use mathlib.Core.Path.{sym}
 use native.Mathlib.Omega.{arith}
 use Rattle.laws.proofs.Digits.{length-digits}
 use borrow.Author.Needs.{needs}

@@ -1,5 +1,5 @@
 -- `fields::number::Number::fits` meets its contract. Assumes nothing.
-use mathlib.Core.Path.{_≡_, refl, sym, ap, _∙_}
+use mathlib.Core.Path.{sym, _∙_}
 use Rattle.fields.specs.Number.{numberFits}
 use borrow.Author.Needs.{needs}
 use Rattle.fields.proofs.number.Number.fits.Statement.{statement}

@@ -1,5 +1,5 @@
 -- `fields::number::Number::read` meets its contract: the tests and what the calls answer say which way `numberOf` goes. Assumes nothing.
-use mathlib.Core.Path.{_≡_, refl, sym, ap, _∙_}
+use mathlib.Core.Path.{sym, _∙_}
 use borrow.Author.Tests.{eq-eqb, ne-eqb, not-true, not-false}
 use Rattle.fields.specs.Number.{numberOf, numberFrom}
 use borrow.Author.Needs.{needs}

@@ -1,5 +1,5 @@
 -- `fields::number::Number::same` meets its contract. Assumes nothing.
-use borrow.Author.Tests.{eq-eqb, ne-eqb, lt-leb, le-leb}
+use borrow.Author.Tests.{eq-eqb, ne-eqb}
 use Rattle.fields.specs.Number.{sameNumber}
 use Rattle.fields.proofs.number.Number.same.Statement.{statement}
 use Rattle.fields.proofs.number.Number.same.Tie as tie

@@ -1,5 +1,5 @@
 -- `layout::correction::Correction::named_number` meets its contract. Assumes nothing.
-use mathlib.Core.Path.{_≡_, refl, sym, ap, _∙_}
+use mathlib.Core.Path.{sym, _∙_}
 use Rattle.layout.specs.Correction.{namedNumber}
 use borrow.Author.Needs.{needs}
 use Rattle.layout.proofs.correction.Correction.named_number.Statement.{statement}

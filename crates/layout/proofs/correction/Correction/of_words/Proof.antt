@@ -1,5 +1,5 @@
 -- `layout::correction::Correction::of_words` meets its contract. Assumes nothing.
-use mathlib.Core.Path.{_≡_, refl, sym, ap, _∙_}
+use mathlib.Core.Path.{sym, _∙_}
 use Rattle.layout.proofs.CorrectionLaws.{words-1, words-2, words-3, words-4, words-5}
 use borrow.Author.Needs.{needs}
 use Rattle.layout.proofs.correction.Correction.of_words.Statement.{statement}

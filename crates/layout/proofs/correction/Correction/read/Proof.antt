@@ -1,5 +1,5 @@
 -- `layout::correction::Correction::read` meets its contract: the count of the colons and the readers of its three pieces say which way `correctionOf` goes. Assumes nothing.
-use mathlib.Core.Path.{_≡_, refl, sym, ap, _∙_}
+use mathlib.Core.Path.{sym, ap, _∙_}
 use Rattle.layout.specs.Part.{partOf}
 use Rattle.layout.specs.Correction.{headOf, reportedOf}
 use Rattle.layout.proofs.CorrectionLaws.{correction-count, correction-three, three-1, three-2, three-3, three-4}

@@ -1,10 +1,8 @@
 -- `layout::correction::Correction::write` meets its contract: there is room for what is left, and what the calls lay, one behind the other, is the text. Assumes nothing.
-use mathlib.Core.Path.{_≡_, refl, sym, ap, _∙_}
-use Rattle.laws.proofs.Overlay.{Room, room-first, room-byte, room-next, laid-then, laid-length}
+use Rattle.laws.proofs.Overlay.{room-first, room-byte, room-next, laid-then, laid-length}
 use Rattle.fields.specs.CorrectionCode.{correctionCodeText}
 use Rattle.layout.specs.Part.{partText}
 use Rattle.layout.proofs.CorrectionLaws.{whole, room-correction, left2, left3, left4, left5, left6, left7, left8}
-use borrow.Author.Needs.{needs}
 use Rattle.layout.proofs.correction.Correction.write.Statement.{statement}
 use Rattle.layout.proofs.correction.Correction.write.Tie as tie
 

@@ -1,6 +1,6 @@
 -- `layout::part::Part::of_words` meets its contract: the count, the number and each word say which way `partOfWords` goes. Assumes nothing.
-use mathlib.Core.Path.{_≡_, refl, sym, ap, _∙_}
-use borrow.Author.Tests.{eq-eqb, ne-eqb, not-true, not-false}
+use mathlib.Core.Path.{sym, _∙_}
+use borrow.Author.Tests.{not-true, not-false}
 use Rattle.layout.proofs.PartLaws.{words-count, words-number, words-rest, rest-1, rest-2, rest-3, rest-4, rest-5}
 use borrow.Author.Needs.{needs}
 use Rattle.layout.proofs.part.Part.of_words.Statement.{statement}

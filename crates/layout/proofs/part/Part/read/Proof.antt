@@ -1,5 +1,5 @@
 -- `layout::part::Part::read` meets its contract: the count of the commas and each field's reader say which way `partOf` goes. Assumes nothing.
-use mathlib.Core.Path.{_≡_, refl, sym, ap, _∙_}
+use mathlib.Core.Path.{sym, ap, _∙_}
 use Rattle.fields.specs.Code.{maybeCodeOf}
 use Rattle.fields.specs.Date.{maybeDateOf}
 use Rattle.fields.specs.Kind.{maybeKindOf}

@@ -1,10 +1,8 @@
 -- `layout::part::Part::write` meets its contract: there is room for what is left, and what the calls lay, one behind the other, is the text. Assumes nothing.
 use Rattle.layout.proofs.PartLaws.{whole, room-part, left2, left3, left4, left5, left6, left7, left8, left9, left10, left11}
-use mathlib.Core.Path.{_≡_, refl, sym, ap, _∙_}
-use Rattle.laws.proofs.Overlay.{Room, room-first, room-byte, room-next, laid-then, laid-length}
+use Rattle.laws.proofs.Overlay.{room-first, room-byte, room-next, laid-then, laid-length}
 use Rattle.fields.specs.Code.{maybeCodeText}
 use Rattle.fields.specs.Date.{maybeDateText}
-use Rattle.fields.specs.Kind.{maybeKindText}
 use Rattle.fields.specs.Number.{digitsText}
 use Rattle.layout.proofs.PartLaws.{whole, left2, left3, left4, left5, left6, left7, left8, left9, left10, left11}
 use Rattle.layout.proofs.part.Part.write.Statement.{statement}

@@ -1,5 +1,5 @@
 -- `layout::report::Report::len` meets its contract. Assumes nothing.
-use mathlib.Core.Path.{_≡_, refl, sym, ap, _∙_}
+use mathlib.Core.Path.{ap, _∙_}
 use lib.ListN.{length}
 use Rattle.layout.specs.Part.{partText}
 use borrow.Author.Needs.{needs}

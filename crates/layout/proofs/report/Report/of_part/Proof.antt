@@ -1,7 +1,7 @@
 -- `layout::report::Report::of_part` meets its contract: what each field holds says which way `wholeOf` goes. Assumes nothing.
 use Rattle.layout.proofs.ReportLaws.{whole-report}
-use mathlib.Core.Path.{_≡_, refl, sym, ap, _∙_}
-use borrow.Author.Tests.{eq-eqb, ne-eqb, not-true, not-false}
+use mathlib.Core.Path.{sym, _∙_}
+use borrow.Author.Tests.{not-true, not-false}
 use Rattle.layout.specs.Report.{wholeOf}
 use borrow.Author.Needs.{needs}
 use Rattle.layout.proofs.report.Report.of_part.Statement.{statement}

@@ -1,6 +1,6 @@
 -- `layout::report::Report::read` meets its contract. Assumes nothing.
-use mathlib.Core.Path.{_≡_, refl, sym, ap, _∙_}
-use Rattle.layout.specs.Report.{reportOf, reportOfWords, reportFrom}
+use mathlib.Core.Path.{sym, _∙_}
+use Rattle.layout.specs.Report.{reportOf, reportFrom}
 use borrow.Author.Needs.{needs}
 use Rattle.layout.proofs.report.Report.read.Statement.{statement}
 use Rattle.layout.proofs.report.Report.read.Tie as tie

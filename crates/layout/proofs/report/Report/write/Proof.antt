@@ -1,5 +1,5 @@
 -- `layout::report::Report::write` meets its contract. Assumes nothing.
-use mathlib.Core.Path.{_≡_, refl, sym, ap, _∙_}
+use mathlib.Core.Path.{sym}
 use borrow.Author.Needs.{needs}
 use Rattle.layout.proofs.report.Report.write.Statement.{statement}
 use Rattle.layout.proofs.report.Report.write.Tie as tie

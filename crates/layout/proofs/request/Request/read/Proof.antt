@@ -1,5 +1,5 @@
 -- `layout::request::Request::read` meets its contract: the count of the commas and each field's reader say which way `requestOf` goes. Assumes nothing.
-use mathlib.Core.Path.{_≡_, refl, sym, ap, _∙_}
+use mathlib.Core.Path.{sym, ap, _∙_}
 use lib.ListN.{length}
 use Rattle.fields.specs.Code.{codeOf}
 use Rattle.fields.specs.Date.{maybeDateOf}

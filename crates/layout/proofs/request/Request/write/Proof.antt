@@ -1,10 +1,8 @@
 -- `layout::request::Request::write` meets its contract: there is room for what is left, and what the calls lay, one behind the other, is the text. Assumes nothing.
-use mathlib.Core.Path.{_≡_, refl, sym, ap, _∙_}
-use Rattle.laws.proofs.Overlay.{Room, room-first, room-byte, room-next, laid-then, laid-length}
+use Rattle.laws.proofs.Overlay.{room-first, room-byte, room-next, laid-then, laid-length}
 use Rattle.fields.specs.Code.{codeText}
 use Rattle.fields.specs.Date.{maybeDateText}
 use Rattle.layout.proofs.RequestLaws.{whole, room-request, left2, left3, left4}
-use borrow.Author.Needs.{needs}
 use Rattle.layout.proofs.request.Request.write.Statement.{statement}
 use Rattle.layout.proofs.request.Request.write.Tie as tie
 
