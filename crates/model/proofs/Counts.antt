@@ -1,4 +1,7 @@
--- The count of answer 0 is that of the records which working out goes through: the histories of the numbers that the file names.
+-- The count of answer 0 is that of the records which working out goes through: the histories of the numbers that the file names. What is assumed of the
+-- rules stands in each law.
+--     count-histories    over the numbers of the file, each once
+--     count-listed       over whichever list of them is gone through
 use mathlib.Core.Path.{_≡_, refl, sym, ap, _∙_}
 use mathlib.Core.Bool.{Bool, true, false, cond, _||_}
 use mathlib.Core.List.{List, [], _∷_, map}

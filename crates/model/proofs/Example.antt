@@ -1,6 +1,6 @@
--- Two days, and a file of the first day that comes late. Assumes nothing.
+-- The rules can be met, and the definitions compute: two days, and a file of the first day that comes late. Assumes nothing.
 use mathlib.Core.Path.{_≡_, refl}
-use mathlib.Core.List.{List, [], _∷_, flatMap, zipWith, List·Permᴰ·swap, List·Permᴰ·cons}
+use mathlib.Core.List.{[], _∷_, flatMap, zipWith, List·Permᴰ·swap, List·Permᴰ·cons}
 use Prim.Native.Nat.{ℕ, _+_, _*_}
 use borrow.Author.Tests.{eqb-true, eq-eqb}
 use lib.Dec.{eqb}
@@ -8,9 +8,10 @@ use lib.ListN.{getD}
 use Rattle.laws.specs.Lists.{table, keep, any}
 use Rattle.laws.specs.Order.{inOrder, put, notAfter}
 use Rattle.model.specs.Rules.{Rules, Line, Lawful}
-use Rattle.model.specs.Model.{Filed, Store, Reached, start, file, started, filed, events, journal, alike, about, named, history, entryOver}
+use Rattle.model.specs.Model.{Filed, Store, Reached, start, file, started, filed, eventAt, events, journal, alike, about, named, history, entryOver, countOf, lineOf, before, verdictOver, judged, verdictOf, entriesBefore}
 use Rattle.model.proofs.Stores.{Agree, any-order}
 
+-- a record names its first byte and puts its second behind the entry's digits; its verdict is the entry that it finds
 abbrev toy : Rules
 toy = record {
   Number = ℕ;
@@ -46,14 +47,34 @@ abbrev there : Store toy
 there = filed toy (filed toy (filed toy (started toy (line ∷ [])) monday) late) tuesday
 
 -- what it takes to compute, named once: to unfold `shown` is to unfold all of these
-shown : Store toy → List ℕ
-unfolding started filed zipWith named entryOver history journal flatMap events table any about keep inOrder put notAfter
-shown s = s .entries
+shown : {A : Type 0} → A → A
+unfolding started filed zipWith named entryOver history journal flatMap events table any about keep inOrder put notAfter countOf verdictOf judged lineOf verdictOver before entriesBefore
+shown x = x
 
 -- the late file's record comes first, and the record that names another number is passed over
-worked-late : shown here ≡ 18234 ∷ []
+worked-late : shown (here .entries) ≡ 18234 ∷ []
 unfolding shown
 worked-late = refl
+
+-- before it came
+before-late : shown (entriesBefore toy here 2) ≡ 1234 ∷ []
+unfolding shown
+before-late = refl
+
+-- a verdict at its own point of the history, not on the newest entry
+verdict-between : shown (verdictOf toy here (eventAt monday 2)) ≡ 182
+unfolding shown
+verdict-between = refl
+
+-- a number that is not in the table
+verdict-unknown : shown (verdictOf toy here (eventAt monday 1)) ≡ 12
+unfolding shown
+verdict-unknown = refl
+
+-- the count of answer 0 for the late file
+count-late : shown (countOf toy (here .files) late) ≡ 4
+unfolding shown
+count-late = refl
 
 reached-here : Reached toy here
 unfolding started filed any alike

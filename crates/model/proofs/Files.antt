@@ -1,4 +1,12 @@
 -- Files, their records and the history of a number. What is assumed of the rules stands in each law.
+--     event-of, journal-file           a record of the journal is the one at its place of a file
+--     once-more, once-tested           no file twice (`Once`): after one more file, and from the computed test
+--     journal-own, journal-other       the records of a file join their journal behind the others, and the other journal is as it was
+--     both-journals                    the two journals hold the records of all files
+--     journal-decided                  no two records have the same place in the processing order
+--     history-other, renewed-worked    a file that doesn't name a number leaves its history; a renewed entry is the one worked out afresh
+--     history-perm, history-at         these records in any order lead to the same history; a record stands at its point of it
+--     history-depends, entry-depends   what the entry of a number depends on
 use mathlib.Core.Path.{_≡_, refl, sym, ap, _∙_}
 use mathlib.Core.Logic.{⊎-elim, ∥∥₁-elim, ∥∥₁-map}
 use mathlib.Core.Bool.{Bool, true, false, cond, not, _&&_, _||_, true≢false}
@@ -14,7 +22,7 @@ use Rattle.laws.specs.Order.{inOrder, Decided}
 use Rattle.model.specs.Rules.{Line, Event, Event-set, Rules, Lawful}
 use Rattle.model.specs.Model.{Filed, eventAt, events, journal, journalOf, about, named, key, notLater, history, entryOver, verdictOver, worked, before, alike, noFileTwice, renewed, entryOf, lineOf}
 use Rattle.laws.proofs.Tests.{eqb-comm}
-use Rattle.laws.proofs.Lists.{keep-append, keep-end-yes, keep-end-no, keep-none, keep-perm, keep-same, parts-perm, mem-keep, keep-mem, any-no, mem-table, mem-flat, flat-append, flat-perm, keep-flat}
+use Rattle.laws.proofs.Lists.{keep-append, keep-end-yes, keep-end-no, keep-none, keep-perm, keep-same, parts-perm, mem-keep, keep-mem, any-no, mem-table, mem-flat, flat-append, flat-perm}
 use Rattle.laws.proofs.Tables.{any-more}
 use Rattle.laws.proofs.Order.{perm-inOrder, at-point}
 use Rattle.laws.proofs.ByKey.{after-both, by-key}
@@ -92,11 +100,6 @@ module _ (files : List Filed) (f : Filed) (kind : ℕ) where
   pub journal-other : (f .kind ≡ kind → ⊥) → journalOf kind (files ++ (f ∷ [])) ≡ journalOf kind files
   unfolding journalOf
   journal-other h = ap journal (keep-end-no _ files f (ne-eqb (f .kind) kind h))
-
--- the records of some days are those of the files of these days
-pub journal-days : (p : ℕ → Bool) (files : List Filed) → keep (λ (e : Event). p (e .day)) (journal files) ≡ journal (keep (λ (f : Filed). p (f .day)) files)
-unfolding journal
-journal-days p files = keep-flat events _ (λ (f : Filed). p (f .day)) (λ f e m. ap (λ (d : Event). p (d .day)) (event-of f m)) files
 
 -- the two journals hold the records of all files, where each file is of one of two kinds
 pub both-journals : (k m : ℕ) (files : List Filed) → ((f : Filed) → List·Memᴰ f files → eqb (f .kind) m ≡ not (eqb (f .kind) k)) → Perm (journalOf k files ++ journalOf m files) (journal files)

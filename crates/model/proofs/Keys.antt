@@ -1,4 +1,5 @@
 -- Code that sorts numbers instead of records: the sorted numbers stand for the history. What is assumed of the rules stands in each law.
+--     history-of-keys, entry-of-keys, verdict-of-keys
 use mathlib.Core.Path.{_≡_, sym, ap, _∙_}
 use mathlib.Core.Bool.{not}
 use mathlib.Core.List.{List, map, foldl, Perm, List·Memᴰ}

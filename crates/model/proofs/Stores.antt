@@ -1,4 +1,10 @@
 -- The theorems on stores. What is assumed of the rules stands in each.
+--     entries-worked, entry-worked    demand 3: in every store that is reached, each entry is the one worked out afresh from the files
+--     entry-untouched                 filing leaves the entry of a number that the file doesn't name as it was, in any store
+--     number-depends                  the entry of a number depends on its line and the records that name it
+--     entries-before, was             what the first n files lead to is what the entries were when only these had arrived
+--     reached-once                    no file twice
+--     any-order                       the order of arrival plays no part
 use mathlib.Core.Path.{_≡_, refl, sym, ap, _∙_}
 use mathlib.Core.Logic.{⊎-elim}
 use mathlib.Core.Option.{Option, some, none, Option·map}
@@ -11,10 +17,10 @@ use lib.Seq.{take-at}
 use Rattle.laws.specs.Lists.{keep}
 use Rattle.laws.specs.Order.{inOrder}
 use Rattle.model.specs.Rules.{Line, Event, Rules, Lawful}
-use Rattle.model.specs.Model.{Filed, Store, Reached, start, file, journal, named, history, entryOver, started, renewed, filed, numberOf, entryOf, lineOf, judged, verdictOf, entriesBefore, Later, now, then}
+use Rattle.model.specs.Model.{Filed, Store, Reached, start, file, journal, about, named, history, entryOver, started, renewed, filed, numberOf, entryOf, lineOf, judged, verdictOf, entriesBefore, Later, now, then}
 use Rattle.laws.proofs.Tests.{le-or-lt}
 use Rattle.laws.proofs.Lists.{zip-map}
-use Rattle.model.proofs.Files.{Once, once-more, renewed-worked, entry-of, history-any-order, entry-any-order, verdict-any-order}
+use Rattle.model.proofs.Files.{Once, once-more, renewed-worked, entry-of, entry-depends, history-any-order, entry-any-order, verdict-any-order}
 
 module _ (R : Rules) where
   -- without a file, the first entry
@@ -22,7 +28,7 @@ module _ (R : Rules) where
   unfolding entryOver history journal flatMap keep inOrder
   entry-none line = refl
 
-  -- DEMAND 3: each entry is worked out over its history
+  -- each entry is worked out over its history
   pub entries-worked : {s : Store R} → Reached R s → s .entries ≡ map (entryOver R (s .files)) (s .lines)
   unfolding started filed
   entries-worked (start lines) = λ k. map (λ (line : Line R). entry-none line k) lines
@@ -84,7 +90,28 @@ module _ (R : Rules) where
   reached-once (start lines) = λ f g j k p d q. absurd (List·Memᴰ·not-nil j)
   reached-once (file {s = s} r h new) = once-more (s .files) h (reached-once r) new
 
--- ---- K12: two stores with the same table and the same files, whatever the order in which they came
+-- ---- what the entry of a number depends on: its line and the records that name it, in two stores that may differ in all else
+module _ (R : Rules) (L : Lawful R) where
+  -- the line of a number has this number
+  line-number : (lines : List (Line R)) (n : R .Number) (line : Line R) → lineOf R lines n ≡ some line → line .number ≡ n
+  unfolding lineOf
+  line-number [] n line e = let z : _≡_ {A = ℕ} 0 1 = cc in absurd (omega arith)
+  line-number (l ∷ ls) n line e = go (R .same (l .number) n) refl e (line-number ls n line)
+    where
+      go : (t : Bool) → R .same (l .number) n ≡ t → cond t (some l) (lineOf R ls n) ≡ some line → (lineOf R ls n ≡ some line → line .number ≡ n) → line .number ≡ n
+      go true q h ih = let here : l ≡ line = cc in ap (λ (m : Line R). m .number) (sym here) ∙ L .same-true (l .number) n q
+      go false q h ih = ih h
+
+  pub number-depends : {s t : Store R} → Reached R s → Reached R t → (n : R .Number) → lineOf R (s .lines) n ≡ lineOf R (t .lines) n → Perm (keep (about R n) (journal (s .files))) (keep (about R n) (journal (t .files))) → entryOf R (s .lines) (s .entries) n ≡ entryOf R (t .lines) (t .entries) n
+  number-depends {s} {t} r q n lines p = entry-worked R r n ∙ rw lines (go (lineOf R (t .lines) n) refl) ∙ sym (entry-worked R q n)
+    where
+      go : (l : Option (Line R)) → lineOf R (t .lines) n ≡ l → Option·map (entryOver R (s .files)) l ≡ Option·map (entryOver R (t .files)) l
+      go none e = refl
+      go (some line) e =
+          let own : n ≡ line .number = sym (line-number (t .lines) n line e) in
+          ap some (entry-depends R L (s .files) (reached-once R r) (t .files) line (rw own at p))
+
+-- ---- two stores with the same table and the same files, whatever the order in which they came
 pub record Agree {R : Rules} (s t : Store R) : Type 0 where
   pub entries : s .entries ≡ t .entries
   pub histories : (n : R .Number) → history R (s .files) n ≡ history R (t .files) n
