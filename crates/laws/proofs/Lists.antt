@@ -1,7 +1,7 @@
 -- Lists of anything: what passes a test, members, permutations, lists side by side. Assumes nothing.
 use mathlib.Core.Path.{_≡_, refl, sym, ap, _∙_}
 use mathlib.Core.Logic.{⊎-elim}
-use mathlib.Core.Bool.{Bool, true, false, cond, not, _&&_, and-comm, _||_, true≢false}
+use mathlib.Core.Bool.{Bool, true, false, cond, not, _&&_, _||_, true≢false}
 use mathlib.Core.List.{List, [], _∷_, _++_, append-nil, append-assoc, map, flatMap, zipWith, List·Memᴰ, List·Memᴰ·head, List·Memᴰ·tail, List·Memᴰ·not-nil, List·Memᴰ·cases-cons, List·Memᴰ·append-cases, List·Memᴰ·eq-of-singleton, List·Permᴰ, List·Permᴰ·nil, List·Permᴰ·cons, List·Permᴰ·swap, List·Permᴰ·trans, Permᴰ·refl, Permᴰ·symm, Permᴰ·append-left, Permᴰ·middle}
 use Prim.Native.Nat.{ℕ, zero, suc, _+_, _<_}
 use native.Mathlib.Omega.{arith}
@@ -73,10 +73,6 @@ module _ {A : Type 0} where
       go true false e ih = ih
       go false true e ih = rw e ih
       go false false e ih = ih
-
-  -- which of two tests comes first does not matter
-  pub keep-keep : (p q : A → Bool) (l : List A) → keep p (keep q l) ≡ keep q (keep p l)
-  keep-keep p q l = keep-both p q l ∙ (λ k. keep (λ (x : A). and-comm (p x) (q x) k) l) ∙ sym (keep-both q p l)
 
   -- ---- members
   pub mem-table : {a : A} (n : ℕ) (f : ℕ → A) → List·Memᴰ a (table n f) → (i : ℕ) × (a ≡ f i)
@@ -173,16 +169,6 @@ module _ {A B : Type 0} where
   unfolding flatMap
   flat-append f [] m = refl
   flat-append f (x ∷ l) m = ap (λ (r : List B). f x ++ r) (flat-append f l m) ∙ sym (append-assoc (f x) (flatMap f l) (flatMap f m))
-
-  -- a test that holds of all or of none of what comes of an element
-  pub keep-flat : (f : A → List B) (p : B → Bool) (q : A → Bool) → ((a : A) (b : B) → List·Memᴰ b (f a) → p b ≡ q a) → (l : List A) → keep p (flatMap f l) ≡ flatMap f (keep q l)
-  unfolding flatMap
-  keep-flat f p q h [] = unfold keep in refl
-  keep-flat f p q h (x ∷ l) = keep-append p (f x) (flatMap f l) ∙ go (q x) refl (keep-flat f p q h l)
-    where
-      go : (t : Bool) → q x ≡ t → keep p (flatMap f l) ≡ flatMap f (keep q l) → keep p (f x) ++ keep p (flatMap f l) ≡ flatMap f (keep q (x ∷ l))
-      go true e ih = rw (keep-yes q x l e, keep-all p (f x) (λ b m. h x b m ∙ e)) (ap (λ (r : List B). f x ++ r) ih)
-      go false e ih = rw (keep-no q x l e, keep-none p (f x) (λ b m. h x b m ∙ e)) ih
 
   pub keep-map : (f : A → B) (p : B → Bool) (q : A → Bool) (l : List A) → ((x : A) → List·Memᴰ x l → q x ≡ p (f x)) → map f (keep q l) ≡ keep p (map f l)
   unfolding keep
