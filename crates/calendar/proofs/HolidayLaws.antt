@@ -6,9 +6,10 @@ use mathlib.Core.List.{[], _∷_, flatMap}
 use lib.ListN.{length}
 use Rattle.laws.specs.Sums.{sumTo}
 use Rattle.laws.specs.Lists.{table}
+use Rattle.laws.specs.Order.{neverFalls}
 use Rattle.calendar.specs.Dates.{leap, yearDays, monthDays, yearStart, monthStart, dayNumber}
 use Rattle.calendar.specs.Holidays.{easter, holidaysOf, years, holidays}
-use Rattle.calendar.specs.Meaning.{neverFalls, equalPairs}
+use Rattle.calendar.specs.Meaning.{equalPairs}
 
 pub holidays-length : length holidays ≡ 468
 unfolding sumTo table flatMap leap yearDays monthDays yearStart monthStart dayNumber easter holidaysOf years holidays
