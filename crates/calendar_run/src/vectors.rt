@@ -11,6 +11,9 @@ use calendar::working_days::DayKind;
 use calendar::working_days::Later;
 use calendar::working_days::WorkingDays;
 
+// Written for a fault, and where the calendar ends.
+pub const NONE: u64 = 65535;
+
 fn folded(h: u64, x: u64) -> u64 {
     (h % 1000003 * 31 + x % 1000003) % 1000003
 }
@@ -51,20 +54,22 @@ fn works(n: u16) -> u64 {
     }
 }
 
-fn after(n: u16, k: u8) -> u64 {
+// The k-th working day after a day.
+pub fn after(n: u16, k: u8) -> u64 {
     let Later::On(day) = working_days::working_day_after(CalendarDays(n), WorkingDays(k)) else {
-        return 65535;
+        return NONE;
     };
     day.0 as u64
 }
 
-fn found(year: u16, month: u8, day: u8) -> u64 {
+// The day of a date.
+pub fn found(year: u16, month: u8, day: u8) -> u64 {
     let Found::Day(n) = dates::day_of(Date {
         year: year,
         month: month,
         day: day,
     }) else {
-        return 65535;
+        return NONE;
     };
     n.0 as u64
 }
