@@ -9,7 +9,7 @@ use Rattle.laws.specs.Lists.{table}
 use Rattle.laws.specs.Order.{neverFalls}
 use Rattle.calendar.specs.Dates.{leap, yearDays, monthDays, yearStart, monthStart, dayNumber}
 use Rattle.calendar.specs.Holidays.{easter, holidaysOf, years, holidays}
-use Rattle.calendar.specs.Meaning.{equalPairs}
+use Rattle.calendar.specs.Paper.{equalPairs, HolidayList}
 
 pub holidays-length : length holidays ≡ 468
 unfolding sumTo table flatMap leap yearDays monthDays yearStart monthStart dayNumber easter holidaysOf years holidays
@@ -23,3 +23,6 @@ never-falls = refl
 pub one-pair : equalPairs holidays ≡ dayNumber 2008 5 1 ∷ []
 unfolding sumTo table flatMap leap yearDays monthDays yearStart monthStart dayNumber easter holidaysOf years holidays equalPairs
 one-pair = refl
+
+pub holiday-list : HolidayList
+holiday-list = (holidays-length, never-falls, one-pair)

@@ -1,6 +1,5 @@
 -- `calendar_run::print::digits` ends, and its sums fit. The measure is how many digits are left.
 -- Assumes nothing.
-use Prim.Native.Nat.{_-_}
 use borrow.Author.Needs.{needs}
 use Rattle.calendar_run.proofs.print.digits.Statement.{statement}
 use Rattle.calendar_run.proofs.print.digits.Tie as tie
