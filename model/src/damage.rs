@@ -26,6 +26,8 @@ pub const DAMAGES: &[Damage] = &[
     ("line left out", line_left_out),
     ("field changed", field_changed),
     ("field empty", field_empty),
+    ("number changed", number_changed),
+    ("number changed", number_changed),
     ("fields changed places", fields_changed_places),
     ("comma more", |c, b| in_a_line(c, b, |c, l| put_in(c, l, b","))),
     ("comma fewer", |c, b| in_a_line(c, b, comma_fewer)),
@@ -196,6 +198,36 @@ fn field_changed(chance: &mut Chance, bytes: &[u8]) -> Vec<u8> {
 
 fn field_empty(chance: &mut Chance, bytes: &[u8]) -> Vec<u8> {
     in_a_line(chance, bytes, |chance, line| in_a_field(line, chance.below(field_count(line)), b""))
+}
+
+/// Number fields around the decade rule (4.4.2, rule 5); some of them are good.
+fn number_changed(chance: &mut Chance, bytes: &[u8]) -> Vec<u8> {
+    in_a_line(chance, bytes, |chance, line| {
+        let part = 6 * chance.below((field_count(line) / 6).max(1));
+        let (num1, num2) = chance.pick(&[
+            ("68975678000", "68975678999"),
+            ("68975678030", "68975678059"),
+            ("68975678070", "68975678129"),
+            ("3919900500", "3919900649"),
+            ("23629674150", "23629674649"),
+            ("3055550", "3055519"),
+            ("3055900", "3055199"),
+            ("3055501", "3055509"),
+            ("3055500", "3055508"),
+            ("3055500", "3055500"),
+            ("3055500", "305559"),
+            ("305550", "3055599"),
+            ("00000000000", "99999999999"),
+            ("000000000000", "999999999999"),
+            ("1000", "9999"),
+            ("100", "9990"),
+            ("10", "19"),
+            ("", "3055509"),
+            ("", ""),
+        ]);
+        let line = in_a_field(line, part, num1.as_bytes());
+        in_a_field(&line, part + 1, num2.as_bytes())
+    })
 }
 
 fn fields_changed_places(chance: &mut Chance, bytes: &[u8]) -> Vec<u8> {

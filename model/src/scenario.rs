@@ -403,7 +403,7 @@ fn full_table(scenario: &mut Scenario, world: &mut World) -> Vec<Offer> {
     (0..4).map(|i| many_records(world, 'D', day + i, 60)).collect()
 }
 
-/// 1,024 files and one more of each kind.
+/// 1,024 files and one more of each kind, with a record and without.
 fn many_files(world: &mut World) -> Vec<Offer> {
     let mut offers = Vec::new();
     for i in 0..1024u32 {
@@ -412,9 +412,9 @@ fn many_files(world: &mut World) -> Vec<Offer> {
         let path = format!("{}/{}", publisher, file_name(letter, day));
         offers.push(Offer { publisher, path, bytes: file_text(&[]) });
     }
-    for letter in ['D', 'K'] {
-        let day = world.base + 8;
-        offers.push(many_records(world, letter, day, 1));
+    for (letter, records) in [('D', 1), ('K', 1), ('D', 0), ('K', 0)] {
+        let day = world.base + 8 + records as Day;
+        offers.push(many_records(world, letter, day, records));
     }
     offers
 }

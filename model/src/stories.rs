@@ -1,6 +1,6 @@
 //! Stories that networks tell about a few numbers in a few days, so that they collide often.
 
-use crate::calendar::{day_of, easter, working_day_after, Day, LAST_DAY};
+use crate::calendar::{holidays, weekday, working_day_after, Day, FIRST_YEAR, LAST_DAY, LAST_YEAR};
 use crate::chance::Chance;
 use crate::told::{Num, Rep, Told};
 
@@ -133,7 +133,7 @@ impl World {
                 &["return", "return", "return", "port", "object"]
             }
             Flavour::LastDays => &["return", "return", "port"],
-            Flavour::Crowd => &["crowd", "crowd", "port", "objected pair"],
+            Flavour::Crowd => &["crowd", "refill", "refill", "port", "objected pair"],
             Flavour::Objections => {
                 &["objected pair", "objected pair", "object", "port", "return", "other code"]
             }
@@ -161,6 +161,7 @@ impl World {
             "again" => self.again(),
             "breach" => self.breach(),
             "crowd" => self.crowd(),
+            "refill" => self.refill(),
             _ => self.one_day(),
         }
     }
@@ -180,7 +181,11 @@ impl World {
     }
 
     fn day(&mut self) -> Day {
-        self.base + self.chance.below(12) as Day
+        let days = match self.flavour {
+            Flavour::Holidays | Flavour::Returns => 6,
+            _ => 12,
+        };
+        self.base + self.chance.below(days) as Day
     }
 
     /// A report of a move from one network to another.
@@ -391,34 +396,35 @@ impl World {
         self.told.push(told);
     }
 
-    /// A report that breaks one of the rules that give 12 to 19.
+    /// A report that breaks one or two of the rules that give 12 to 19.
     fn breach(&mut self) {
         let status = self.chance.pick(&['P', 'L', 'Z']);
         let mut report = if status == 'Z' { self.returned() } else { self.report(status) };
         let mut day = self.soon(report.date);
-        match self.chance.below(8) {
-            0 => report.number = self.chance.pick(&self.unknown), // 12
-            1 => {
-                let publisher = self.code();
-                return self.publish_by(publisher, report, day); // 13
-            }
-            2 => report.losing = report.number.owner.clone(), // 14 for a Z
-            3 => day = report.date.saturating_sub(self.chance.below(3) as Day), // 15
-            4 => report.date = report.number.set_up.saturating_sub(1), // 16
-            5 => report.date = self.base,                     // 17 or 18
-            6 => {
-                report.status = 'Z'; // 19
-                report.gaining = self.code();
-            }
-            _ => {
-                report.status = 'P'; // 14
-                report.gaining = report.losing.clone();
+        let mut publisher = None;
+        for _ in 0..self.chance.pick(&[1, 1, 2]) {
+            match self.chance.below(8) {
+                0 => report.number = self.chance.pick(&self.unknown), // 12
+                1 => publisher = Some(self.code()),                   // 13
+                2 => report.losing = report.number.owner.clone(),     // 14 for a Z
+                3 => day = report.date.saturating_sub(self.chance.below(3) as Day), // 15
+                4 => report.date = report.number.set_up.saturating_sub(1), // 16
+                5 => report.date = self.base,                         // 17 or 18
+                6 => {
+                    report.status = 'Z'; // 19
+                    report.gaining = self.code();
+                }
+                _ => {
+                    report.status = 'P'; // 14
+                    report.gaining = report.losing.clone();
+                }
             }
         }
         if report.gaining.is_empty() && report.status != 'Z' {
             report.gaining = report.number.owner.clone();
         }
-        self.publish(report, day);
+        let publisher = publisher.unwrap_or_else(|| report.publisher());
+        self.publish_by(publisher, report, day);
     }
 
     /// More open reports than places, then a confirmation that keeps the newer ones, then more.
@@ -444,6 +450,36 @@ impl World {
         }
     }
 
+    /// A confirmation frees all places; then one report a day until they are full, with the P of a
+    /// Z among them, an objection to one of them, and reports for the place that it freed. One such
+    /// story follows the other.
+    fn refill(&mut self) {
+        let refills = self.notes.iter().filter(|note| **note == "refill").count() as Day;
+        let start = self.base + 22 * refills;
+        let l = Rep { date: start, ..self.report('L') };
+        self.publish(l.clone(), start + 1);
+        self.publish(Rep { status: 'P', ..l.clone() }, start + 2);
+        let reports = self.chance.between(8, 9) as Day;
+        let z = Rep { date: start + 4, number: l.number.clone(), ..self.returned() };
+        let with_z = self.chance.one_in(2);
+        for i in 1..=reports {
+            let report = Rep { date: start + i, ..l.clone() };
+            self.publish(if i == 4 && with_z { z.clone() } else { report }, start + 2 + i);
+        }
+        if with_z {
+            let gaining = z.number.owner.clone();
+            let day = start + 11 + self.chance.below(4) as Day;
+            self.publish(Rep { status: 'P', gaining, ..z }, day);
+        }
+        let objected = start + self.chance.pick(&[1, 1, 2, 5, 8]);
+        let named = Rep { date: objected.min(LAST_DAY), ..l.clone() };
+        let objector = self.other(&l.losing);
+        self.correct(objector, start + 14, format!("2500U:{},K:,,,,,", named.text()));
+        for i in 0..2 {
+            self.publish(Rep { date: start + 12 + i, ..l.clone() }, start + 15 + i);
+        }
+    }
+
     /// Many records of one number, published on one day by everyone.
     fn one_day(&mut self) {
         let day = self.base + 8;
@@ -461,18 +497,17 @@ impl World {
     }
 }
 
-/// Where the stories happen: any year, the ends of the calendar, or next to holidays.
+/// Where the stories happen: any year, the ends of the calendar, or around a holiday that falls
+/// on a day from Monday to Friday.
 fn base_day(chance: &mut Chance, flavour: Flavour) -> Day {
     match flavour {
         Flavour::FirstDays => chance.below(4) as Day,
         Flavour::LastDays => LAST_DAY - chance.between(12, 20) as Day,
-        Flavour::Holidays => {
-            let year = chance.between(1998, 2049) as u32;
-            let may_2008 = day_of(2008, 4, 22).unwrap_or(0);
-            let christmas = day_of(year, 12, 17).unwrap_or(0).min(LAST_DAY - 20);
-            let easter = easter(year) - 10;
-            let whitsun = easter + 40;
-            chance.pick(&[easter, easter, whitsun, christmas, christmas, may_2008])
+        Flavour::Holidays | Flavour::Returns => {
+            let which = chance.below(9);
+            let on_work_days = |year: &u32| weekday(holidays(*year)[which]) < 5;
+            let years: Vec<u32> = (FIRST_YEAR + 1..=LAST_YEAR).filter(on_work_days).collect();
+            holidays(chance.pick(&years))[which] - 6
         }
         _ => chance.between(100, LAST_DAY as usize - 100) as Day,
     }
