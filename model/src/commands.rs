@@ -32,6 +32,7 @@ pub fn run(args: &[&[u8]], out: &mut Vec<u8>) -> Result<Status, Stopped> {
     match *args {
         [b"start", folder, table] => start(path(folder), path(table), out),
         [b"file", folder, b"--list", list] => file_list(path(folder), path(list), out),
+        [b"file", _, b"--list", ..] => Err(USAGE.to_string()),
         [b"file", folder, publisher, ref files @ ..] if !files.is_empty() => {
             let offers = files.iter().map(|file| (publisher, *file)).collect();
             file_all(path(folder), offers, out)
@@ -40,6 +41,7 @@ pub fn run(args: &[&[u8]], out: &mut Vec<u8>) -> Result<Status, Stopped> {
         [b"show", folder, b"--before", n, ref numbers @ ..] => {
             show_before(&load(folder)?, n, numbers, out)
         }
+        [b"show", _, b"--before"] => Err(USAGE.to_string()),
         [b"show", folder, ref numbers @ ..] => show(&load(folder)?, numbers, out),
         [b"why", folder, ref numbers @ ..] if !numbers.is_empty() => {
             why(&load(folder)?, numbers, out)

@@ -5,6 +5,7 @@ use crate::calendar::{
     day_of, easter, holidays, read_ddmmyyyy, weekday, working_day_after, written, FIRST_YEAR,
     LAST_DAY, LAST_YEAR,
 };
+use crate::dialogue::dialogue;
 use crate::files::{closing_record, read_file, read_name, FileKind};
 use crate::layout::{Code, Number};
 use crate::store::{read_table, shown, Answer, Store};
@@ -47,6 +48,7 @@ pub fn selftest(out: &mut Vec<u8>) -> Result<u8, String> {
     places(&mut tally);
     limits(&mut tally);
     most_files(&mut tally);
+    dialogue(&mut |what, holds| tally.check(what, holds));
     let last = format!("{} passed, {} failed", tally.passed, tally.failed);
     tally.say(&last);
     Ok(if tally.failed == 0 { 0 } else { 1 })

@@ -2,6 +2,7 @@
 
 mod calendar;
 mod commands;
+mod dialogue;
 mod examples;
 mod files;
 mod layout;
