@@ -28,6 +28,7 @@ pub const DAMAGES: &[Damage] = &[
     ("field empty", field_empty),
     ("number changed", number_changed),
     ("number changed", number_changed),
+    ("num2 alone", |c, b| in_a_line(c, b, |_, l| num2_alone(l))),
     ("fields changed places", fields_changed_places),
     ("comma more", |c, b| in_a_line(c, b, |c, l| put_in(c, l, b","))),
     ("comma fewer", |c, b| in_a_line(c, b, comma_fewer)),
@@ -228,6 +229,12 @@ fn number_changed(chance: &mut Chance, bytes: &[u8]) -> Vec<u8> {
         let line = in_a_field(line, part, num1.as_bytes());
         in_a_field(&line, part + 1, num2.as_bytes())
     })
+}
+
+/// A num2 without its num1: in a correction the K part's, where a field may be empty.
+fn num2_alone(line: &[u8]) -> Vec<u8> {
+    let part = if field_count(line) == 12 { 6 } else { 0 };
+    in_a_field(&in_a_field(line, part, b""), part + 1, b"3055509")
 }
 
 fn fields_changed_places(chance: &mut Chance, bytes: &[u8]) -> Vec<u8> {
