@@ -3,6 +3,7 @@ pub mod Lists
 pub mod Folds
 pub mod Tables
 pub mod Loops
+pub mod Halving
 pub mod Sums
 pub mod Overlay
 pub mod Slots

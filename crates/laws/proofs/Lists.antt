@@ -5,7 +5,7 @@ use mathlib.Core.Bool.{Bool, true, false, cond, not, _&&_, and-comm, _||_, true�
 use mathlib.Core.List.{List, [], _∷_, _++_, append-nil, append-assoc, map, flatMap, zipWith, List·Memᴰ, List·Memᴰ·head, List·Memᴰ·tail, List·Memᴰ·not-nil, List·Memᴰ·cases-cons, List·Memᴰ·append-cases, List·Memᴰ·eq-of-singleton, List·Permᴰ, List·Permᴰ·nil, List·Permᴰ·cons, List·Permᴰ·swap, List·Permᴰ·trans, Permᴰ·refl, Permᴰ·symm, Permᴰ·append-left, Permᴰ·middle}
 use Prim.Native.Nat.{ℕ, zero, suc, _+_, _<_}
 use native.Mathlib.Omega.{arith}
-use lib.ListN.{length, getD}
+use lib.ListN.{length, getD, length-append}
 use Rattle.laws.specs.Lists.{table, keep, any}
 
 module _ {A : Type 0} where
@@ -34,6 +34,14 @@ module _ {A : Type 0} where
   pub keep-end-no : (p : A → Bool) (l : List A) (x : A) → p x ≡ false → keep p (l ++ (x ∷ [])) ≡ keep p l
   unfolding keep
   keep-end-no p l x e = keep-append p l (x ∷ []) ∙ rw e (append-nil (keep p l))
+
+  -- how many are kept: one more, or no more
+  pub length-keep-end : (p : A → Bool) (l : List A) (x : A) → length (keep p (l ++ (x ∷ []))) ≡ length (keep p l) + cond (p x) 1 0
+  length-keep-end p l x = go (p x) refl
+    where
+      go : (t : Bool) → p x ≡ t → length (keep p (l ++ (x ∷ []))) ≡ length (keep p l) + cond t 1 0
+      go true e = ap length (keep-end-yes p l x e) ∙ length-append (keep p l) (x ∷ [])
+      go false e = ap length (keep-end-no p l x e) ∙ omega arith
 
   -- nothing is kept of a list of which no element passes
   pub keep-none : (p : A → Bool) (l : List A) → ((y : A) → List·Memᴰ y l → p y ≡ false) → keep p l ≡ []

@@ -1,0 +1,180 @@
+-- Laws of years and months: how many days they have, where they start, and in which one a day lies.
+-- Assumes nothing.
+use mathlib.Core.Path.{_≡_, refl, _∙_}
+use mathlib.Core.Bool.{Bool, true, false, cond}
+use mathlib.Core.Logic.{⊎-elim}
+use Prim.Native.Nat.{ℕ, zero, suc, _+_, _-_, _≤_, _<_, zero-le}
+use native.Mathlib.Numerals.{add-one}
+use native.Mathlib.Omega.{arith}
+use lib.Dec.{leb, lit≤}
+use lib.ListN.{getD, List·getD-eq-default}
+use borrow.Author.Tests.{leb-true, leb-false}
+use Rattle.laws.specs.Sums.{sumTo}
+use Rattle.laws.proofs.Sums.{sumTo-suc, sumTo-mono}
+use Rattle.laws.specs.Lists.{all}
+use Rattle.laws.proofs.Tables.{all-at}
+use Rattle.laws.proofs.Tests.{cond-le, le-or-lt}
+use Rattle.calendar.specs.Dates.{lastDay, leap, yearDays, months, monthDays, yearStart, monthStart, lastFrom, yearOf, monthOf}
+
+-- ---- how many days
+pub yearDays-le : (y : ℕ) → yearDays y ≤ 366
+unfolding yearDays
+yearDays-le y = cond-le (leap y) 366 365 366 (lit≤ tt) (lit≤ tt)
+
+-- outside February the table of an ordinary year has the days
+pub monthDays-plain : (y m : ℕ) → (m ≡ 2 → ⊥) → monthDays y m ≡ getD (months false) m 0
+unfolding monthDays
+monthDays-plain y zero h = refl
+monthDays-plain y (suc zero) h = refl
+monthDays-plain y (suc (suc zero)) h = absurd (h refl)
+monthDays-plain y (suc (suc (suc m))) h = refl
+
+pub monthDays-february : (y : ℕ) → monthDays y 2 ≡ cond (leap y) 29 28
+unfolding monthDays
+monthDays-february y = refl
+
+pub monthDays-none : (y m : ℕ) → 12 < m → monthDays y m ≡ 0
+unfolding monthDays
+monthDays-none y m h = List·getD-eq-default (months (leap y)) 0 h
+
+-- no month is longer than 31 days: a test at each entry of the table, in both kinds of year
+months-le : (b : Bool) (m : ℕ) → m < 13 → getD (months b) m 0 ≤ 31
+unfolding all
+months-le true m h = leb-true _ _ (all-at (λ (x : ℕ). leb x 31) (months true) m 0 refl h)
+months-le false m h = leb-true _ _ (all-at (λ (x : ℕ). leb x 31) (months false) m 0 refl h)
+
+pub monthDays-le : (y m : ℕ) → monthDays y m ≤ 31
+unfolding monthDays
+monthDays-le y m = ⊎-elim (λ (h : 13 ≤ m). omega (arith, monthDays-none y m h)) (λ (h : m < 13). months-le (leap y) m h) (le-or-lt 13 m)
+
+-- ---- where they start
+pub yearStart-next : (y : ℕ) → 1998 ≤ y → yearStart (y + 1) ≡ yearStart y + yearDays y
+unfolding yearStart
+yearStart-next y h =
+    let e : y + 1 - 1998 ≡ suc (y - 1998) = omega arith in
+    let f : 1998 + (y - 1998) ≡ y = omega arith in
+    rw e (sumTo-suc (λ (i : ℕ). yearDays (1998 + i)) (y - 1998) ∙ rw f)
+
+pub yearStart-mono : (y z : ℕ) → y ≤ z → yearStart y ≤ yearStart z
+unfolding yearStart
+yearStart-mono y z h = sumTo-mono (λ (i : ℕ). yearDays (1998 + i)) (y - 1998) (z - 1998) (omega arith)
+
+pub monthStart-next : (y m : ℕ) → monthStart y (m + 1) ≡ monthStart y m + monthDays y m
+unfolding monthStart
+monthStart-next y m = rw add-one (sumTo-suc (monthDays y) m)
+
+pub monthStart-mono : (y m n : ℕ) → m ≤ n → monthStart y m ≤ monthStart y n
+unfolding monthStart
+monthStart-mono y m n h = sumTo-mono (monthDays y) m n h
+
+-- the 52 years make the calendar
+pub yearStart-end : yearStart 2050 ≡ suc lastDay
+unfolding yearStart sumTo yearDays leap
+yearStart-end = refl
+
+-- the twelve months make the year
+months-sum : (b : Bool) → sumTo (λ m. getD (months b) m 0) 13 ≡ cond b 366 365
+unfolding sumTo
+months-sum true = refl
+months-sum false = refl
+
+pub monthStart-end : (y : ℕ) → monthStart y 13 ≡ yearDays y
+unfolding monthStart monthDays yearDays
+monthStart-end y = months-sum (leap y)
+
+-- ---- in which one a number lies: the last of k that starts not after it
+module _ (start : ℕ → ℕ) (mono : (i j : ℕ) → i ≤ j → start i ≤ start j) (n : ℕ) where
+  pub lastFrom-is : (k i : ℕ) → i < k → start i ≤ n → n < start (i + 1) → lastFrom start k n ≡ i
+  unfolding lastFrom
+  lastFrom-is zero i h p q = absurd (omega arith)
+  lastFrom-is (suc k) i h p q = go (leb (start k) n) refl (λ (l : i < k). lastFrom-is k i l p q)
+    where
+      go : (t : Bool) → leb (start k) n ≡ t → (i < k → lastFrom start k n ≡ i) → cond t k (lastFrom start k n) ≡ i
+      go true e ih = ⊎-elim (λ (l : k ≤ i). omega arith) (λ (l : i < k). absurd (omega (arith, leb-true (start k) n e, mono (i + 1) k (omega arith)))) (le-or-lt k i)
+      go false e ih = ⊎-elim (λ (l : k ≤ i). absurd (omega (arith, leb-false (start k) n e, mono k i l))) ih (le-or-lt k i)
+
+  pub lastFrom-from : (k : ℕ) → start 0 ≤ n → start (lastFrom start k n) ≤ n
+  unfolding lastFrom
+  lastFrom-from zero h = h
+  lastFrom-from (suc k) h = go (leb (start k) n) refl (lastFrom-from k h)
+    where
+      go : (t : Bool) → leb (start k) n ≡ t → start (lastFrom start k n) ≤ n → start (cond t k (lastFrom start k n)) ≤ n
+      go true e ih = leb-true (start k) n e
+      go false e ih = ih
+
+  pub lastFrom-to : (k : ℕ) → start 0 ≤ n → n < start k → (lastFrom start k n < k) × (n < start (lastFrom start k n + 1))
+  unfolding lastFrom
+  lastFrom-to zero h p = absurd (omega arith)
+  lastFrom-to (suc k) h p = go (leb (start k) n) refl (λ (l : n < start k). lastFrom-to k h l)
+    where
+      go : (t : Bool) → leb (start k) n ≡ t → (n < start k → (lastFrom start k n < k) × (n < start (lastFrom start k n + 1)))
+          → (cond t k (lastFrom start k n) < suc k) × (n < start (cond t k (lastFrom start k n) + 1))
+      go true e ih = (omega arith, rw add-one p)
+      go false e ih = let q = ih (leb-false (start k) n e) in (omega arith, q .1)
+
+-- the day n lies in the year y
+pub record YearAt (n y : ℕ) : Type 0 where
+  pub first : 1998 ≤ y
+  pub last : y ≤ 2049
+  pub from : yearStart y ≤ n
+  pub to : n < yearStart y + yearDays y
+
+-- the day n of the year y, from 0, lies in month m
+pub record MonthAt (y n m : ℕ) : Type 0 where
+  pub first : 1 ≤ m
+  pub last : m ≤ 12
+  pub from : monthStart y m ≤ n
+  pub to : n < monthStart y m + monthDays y m
+
+yearFrom-mono : (i j : ℕ) → i ≤ j → yearStart (1998 + i) ≤ yearStart (1998 + j)
+yearFrom-mono i j h = yearStart-mono (1998 + i) (1998 + j) (omega arith)
+
+pub year-is : (n y : ℕ) → YearAt n y → yearOf n ≡ y
+unfolding yearOf
+year-is n y h =
+    let e : 1998 + (y - 1998) ≡ y = omega arith in
+    let f : 1998 + (y - 1998 + 1) ≡ y + 1 = omega arith in
+    let q = lastFrom-is (λ (i : ℕ). yearStart (1998 + i)) yearFrom-mono n 52 (y - 1998) (omega arith) (rw e (h .from)) (rw f (omega (arith, yearStart-next y (h .first)))) in
+    omega arith
+
+pub month-is : (y n m : ℕ) → MonthAt y n m → monthOf y n ≡ m
+unfolding monthOf
+month-is y n m h =
+    lastFrom-is (monthStart y) (monthStart-mono y) n 13 m (omega arith) (h .from) (omega (arith, monthStart-next y m))
+
+year-zero : (n : ℕ) → yearStart 1998 ≤ n
+unfolding yearStart sumTo
+year-zero n = zero-le
+
+month-zero : (y n m : ℕ) → m < 2 → monthStart y m ≤ n
+unfolding monthStart sumTo monthDays
+month-zero y n zero h = zero-le
+month-zero y n (suc zero) h = zero-le
+month-zero y n (suc (suc m)) h = absurd (omega arith)
+
+-- each day of the calendar lies in its year, each day of a year in its month
+pub year-at : (n : ℕ) → n ≤ lastDay → YearAt n (yearOf n)
+unfolding yearOf
+year-at n h =
+    let start : ℕ → ℕ = λ (i : ℕ). yearStart (1998 + i) in
+    let i : ℕ = lastFrom start 52 n in
+    let low : start 0 ≤ n = year-zero n in
+    let to = lastFrom-to start yearFrom-mono n 52 low (omega (arith, yearStart-end)) in
+    let f : 1998 + (i + 1) ≡ 1998 + i + 1 = omega arith in
+    record { first = omega arith; last = omega arith; from = lastFrom-from start yearFrom-mono n 52 low; to = omega (arith, rw f at (to .1), yearStart-next (1998 + i) (omega arith)) }
+
+pub month-at : (y n : ℕ) → n < yearDays y → MonthAt y n (monthOf y n)
+unfolding monthOf
+month-at y n h =
+    let m : ℕ = lastFrom (monthStart y) 13 n in
+    let low : monthStart y 0 ≤ n = month-zero y n 0 (omega arith) in
+    let to = lastFrom-to (monthStart y) (monthStart-mono y) n 13 low (omega (arith, monthStart-end y)) in
+    let one : 1 ≤ m = ⊎-elim (λ (l : 1 ≤ m). l) (λ (l : m < 1). absurd (omega (arith, to .1, month-zero y n (m + 1) (omega arith)))) (le-or-lt 1 m) in
+    record { first = one; last = omega arith; from = lastFrom-from (monthStart y) (monthStart-mono y) n 13 low; to = omega (arith, to .1, monthStart-next y m) }
+
+-- the same of a year and a month that were found
+pub year-found : (n y : ℕ) → n ≤ lastDay → y ≡ yearOf n → YearAt n y
+year-found n y h e = rw e (year-at n h)
+
+pub month-found : (y n m : ℕ) → n < yearDays y → m ≡ monthOf y n → MonthAt y n m
+month-found y n m h e = rw e (month-at y n h)

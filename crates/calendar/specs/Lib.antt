@@ -1,0 +1,6 @@
+pub mod Dates
+pub mod Holidays
+pub mod WorkingDays
+pub mod Answers
+pub mod Meaning
+pub mod Paper

@@ -1,0 +1,38 @@
+// The holiday list.
+use crate::table::COUNT;
+use crate::table::HOLIDAYS;
+ghost use mathlib.Core.Path.{_≡_};
+ghost use Prim.Native.Nat.{_<_};
+ghost use lib.Dec.{eqb};
+ghost use lib.ListN.{length, getD};
+ghost use Rattle.laws.specs.Lists.{any};
+ghost use Rattle.calendar.specs.Holidays.{holidays};
+
+// An entry of the list.
+fn holiday_at(i: usize) -> u16
+    requires { ⌜ i < length holidays ⌝ }
+    ensures { λ r. ⌜ r ≡ getD holidays i 0 ⌝ }
+{
+    HOLIDAYS[i]
+}
+
+// Whether a day is in the list, which never falls: looked for by halves.
+pub fn is_holiday(day: u16) -> bool
+    ensures { λ r. ⌜ r ≡ any (eqb day) holidays ⌝ }
+{
+    let mut lo: usize = 0;
+    let mut hi: usize = COUNT;
+    while lo < hi {
+        let middle = (lo + hi) / 2;
+        let there = holiday_at(middle);
+        if there == day {
+            return true;
+        }
+        if there < day {
+            lo = middle + 1;
+        } else {
+            hi = middle;
+        }
+    }
+    false
+}
