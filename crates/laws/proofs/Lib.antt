@@ -1,5 +1,8 @@
 pub mod Tests
 pub mod Lists
+pub mod Firsts
+pub mod Lines
+pub mod Same
 pub mod Folds
 pub mod Tables
 pub mod Loops

@@ -3,7 +3,7 @@ use mathlib.Core.Path.{_≡_, refl, sym, ap, _∙_}
 use mathlib.Core.Logic.{⊎-elim}
 use mathlib.Core.Bool.{Bool, true, false, cond, not, _&&_, _||_, true≢false}
 use mathlib.Core.List.{List, [], _∷_, _++_, append-nil, append-assoc, map, flatMap, zipWith, List·Memᴰ, List·Memᴰ·head, List·Memᴰ·tail, List·Memᴰ·not-nil, List·Memᴰ·cases-cons, List·Memᴰ·append-cases, List·Memᴰ·eq-of-singleton, List·Permᴰ, List·Permᴰ·nil, List·Permᴰ·cons, List·Permᴰ·swap, List·Permᴰ·trans, Permᴰ·refl, Permᴰ·symm, Permᴰ·append-left, Permᴰ·middle}
-use Prim.Native.Nat.{ℕ, zero, suc, _+_, _<_}
+use Prim.Native.Nat.{ℕ, zero, suc, _+_, _≤_, _<_}
 use native.Mathlib.Omega.{arith}
 use lib.ListN.{length, getD, length-append}
 use Rattle.laws.specs.Lists.{table, keep, any}
@@ -58,6 +58,16 @@ module _ {A : Type 0} where
   unfolding keep
   keep-same p q [] h = refl
   keep-same p q (x ∷ l) h = λ k. cond (h x (List·Memᴰ·head refl) k) (x ∷ keep-same p q l (λ y m. h y (List·Memᴰ·tail m)) k) (keep-same p q l (λ y m. h y (List·Memᴰ·tail m)) k)
+
+  -- no more pass than there are
+  pub keep-at-most : (p : A → Bool) (l : List A) → length (keep p l) ≤ length l
+  unfolding keep
+  keep-at-most p [] = omega arith
+  keep-at-most p (x ∷ l) = go (p x) (keep-at-most p l)
+    where
+      go : (t : Bool) → length (keep p l) ≤ length l → length (cond t (x ∷ keep p l) (keep p l)) ≤ suc (length l)
+      go true ih = omega arith
+      go false ih = omega arith
 
   -- what passes one of two tests that no element passes both of
   pub length-either : (p q : A → Bool) → ((x : A) → p x ≡ true → q x ≡ false) → (l : List A) → length (keep (λ (x : A). p x || q x) l) ≡ length (keep p l) + length (keep q l)

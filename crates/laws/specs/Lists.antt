@@ -50,3 +50,10 @@ module _ {A : Type 0} where
   mapFirst f zero xs = xs
   mapFirst f (suc n) [] = []
   mapFirst f (suc n) (x ∷ xs) = f x ∷ mapFirst f n xs
+
+  -- whether two lists are as long and the same at each place, by a test of two elements
+  unfoldable pub sameLists : (A → A → Bool) → List A → List A → Bool
+  sameLists same [] [] = true
+  sameLists same [] (y ∷ ys) = false
+  sameLists same (x ∷ xs) [] = false
+  sameLists same (x ∷ xs) (y ∷ ys) = same x y && sameLists same xs ys
