@@ -1,6 +1,6 @@
 -- Laws of years and months: how many days they have, where they start, and in which one a day lies.
 -- Assumes nothing.
-use mathlib.Core.Path.{_≡_, refl, sym, _∙_, ap}
+use mathlib.Core.Path.{_≡_, refl, _∙_}
 use mathlib.Core.Bool.{Bool, true, false, cond}
 use mathlib.Core.Logic.{⊎-elim}
 use Prim.Native.Nat.{ℕ, zero, suc, _+_, _-_, _≤_, _<_, zero-le}
@@ -8,9 +8,9 @@ use native.Mathlib.Numerals.{add-one}
 use native.Mathlib.Omega.{arith}
 use lib.Dec.{leb, lit≤}
 use lib.ListN.{getD, List·getD-eq-default}
-use borrow.Author.Tests.{leb-true, leb-false, le-leb, lt-leb}
+use borrow.Author.Tests.{leb-true, leb-false}
 use Rattle.laws.specs.Sums.{sumTo}
-use Rattle.laws.proofs.Sums.{sumTo-suc, sumTo-mono, sumTo-place}
+use Rattle.laws.proofs.Sums.{sumTo-suc, sumTo-mono}
 use Rattle.laws.specs.Lists.{all}
 use Rattle.laws.proofs.Tables.{all-at}
 use Rattle.laws.proofs.Tests.{cond-le, le-or-lt}

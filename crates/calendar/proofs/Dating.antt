@@ -1,13 +1,12 @@
 -- The date of a day is the one whose day it is: each day of the calendar has that one date, and no other day has any.
 -- Assumes nothing.
 use mathlib.Core.Path.{_≡_, refl, sym, _∙_, ap, subst}
-use mathlib.Core.Bool.{Bool, true, false, cond, _&&_}
+use mathlib.Core.Bool.{Bool, true, false, cond}
 use mathlib.Core.Logic.{⊎-elim}
-use Prim.Native.Nat.{ℕ, zero, suc, _+_, _-_, _≤_, _<_}
+use Prim.Native.Nat.{ℕ, _+_, _-_, _≤_, _<_}
 use native.Mathlib.Omega.{arith}
 use lib.Dec.{leb}
 use borrow.Author.Tests.{leb-true, leb-false, le-leb}
-use Rattle.laws.specs.Sums.{sumTo}
 use Rattle.laws.proofs.Sums.{sumTo-place}
 use Rattle.laws.proofs.Tests.{and-left, and-right, le-or-lt}
 use Rattle.calendar.specs.Dates.{lastDay, yearDays, monthDays, yearStart, monthStart, dayNumber, valid, yearOf, monthOf}
@@ -18,7 +17,7 @@ use Rattle.calendar.specs.declared.dates.Date.{Date}
 use Rattle.calendar.specs.declared.dates.Dated.{Dated}
 use Rattle.calendar.specs.declared.dates.Dated.the-variants.{At, Beyond}
 use Rattle.calendar.specs.declared.dates.Found.the-variants.{Day, Fault}
-use Rattle.calendar.proofs.DateLaws.{monthDays-none, yearStart-next, yearStart-mono, yearStart-end, monthStart-next, monthStart-mono, monthStart-end, YearAt, MonthAt, year-at, month-at}
+use Rattle.calendar.proofs.DateLaws.{monthDays-none, yearStart-next, yearStart-mono, yearStart-end, monthStart-next, monthStart-mono, monthStart-end, year-at, month-at}
 
 -- ---- what makes a date
 pub record Valid (y m d : ℕ) : Type 0 where
@@ -130,3 +129,9 @@ date-back x n e = dated-one n (dateOf n) (At x) (dated n) e
 
 pub day-back : (n : ℕ) (x : Date) → dateOf n ≡ At x → dayOf x ≡ Day (record { 0 = n })
 day-back n x e = subst (IsDated n) e (dated n)
+
+-- a day that was found lies in the calendar
+pub found-inside : (x : Date) (n : ℕ) → dayOf x ≡ Day (record { 0 = n }) → n ≤ lastDay
+found-inside x n e =
+    let v = dated-parts x n e in
+    omega (arith, dayNumber-inside (x .year) (x .month) (x .day) (v .0))

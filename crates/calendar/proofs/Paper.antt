@@ -1,7 +1,6 @@
--- The paper's worked days hold of the definitions: antt computes each line, and `kth` says which day a count leads to.
+-- What the paper says of single days holds of the definitions: antt computes each line, and `kth` says which day a count leads to.
 -- Assumes nothing.
-use mathlib.Core.Path.{_≡_, refl}
-use mathlib.Core.Bool.{true}
+use mathlib.Core.Path.{refl}
 use mathlib.Core.List.{flatMap}
 use lib.Dec.{lit≤}
 use Rattle.laws.specs.Sums.{sumTo}
@@ -10,8 +9,12 @@ use Rattle.calendar.specs.Dates.{leap, yearDays, monthDays, yearStart, m
 use Rattle.calendar.specs.Holidays.{easter, holidaysOf, years, holidays, working}
 use Rattle.calendar.specs.WorkingDays.{daysAfter, workingAfter, smallest, workingDayAfter}
 use Rattle.calendar.specs.Answers.{dayOf, weekdayOf}
-use Rattle.calendar.specs.Paper.{lastOf, WorkedDays}
+use Rattle.calendar.specs.Paper.{lastOf, FirstAndLast, WorkedDays}
 use Rattle.calendar.proofs.WorkingLaws.{kth}
+
+pub first-and-last : FirstAndLast
+unfolding sumTo leap yearDays monthDays yearStart monthStart dayNumber valid weekday dayOf weekdayOf
+first-and-last = (refl, refl, refl)
 
 pub worked-days : WorkedDays
 unfolding sumTo table any keep flatMap leap yearDays monthDays yearStart monthStart dayNumber valid weekday easter holidaysOf years holidays working daysAfter workingAfter smallest workingDayAfter dayOf weekdayOf lastOf

@@ -1,14 +1,12 @@
 -- Counting working days. The k-th working day after a day is what the paper says, and nothing else is.
 -- Assumes nothing.
-use mathlib.Core.Path.{_≡_, refl, sym, _∙_, ap}
+use mathlib.Core.Path.{_≡_, refl, sym, _∙_, ap, subst}
 use mathlib.Core.Bool.{Bool, true, false, cond}
 use mathlib.Core.Logic.{⊎-elim}
-use mathlib.Core.List.{List, [], _∷_, _++_}
 use Prim.Native.Nat.{ℕ, zero, suc, _+_, _-_, _≤_, _<_}
 use native.Mathlib.Omega.{arith}
 use lib.Dec.{eqb}
-use lib.ListN.{length}
-use borrow.Author.Tests.{eq-eqb, eqb-true, eqb-false}
+use borrow.Author.Tests.{eqb-true, eqb-false}
 use Rattle.laws.specs.Lists.{table, keep}
 use Rattle.laws.proofs.Lists.{length-keep-end}
 use Rattle.laws.proofs.Tests.{le-or-lt}
@@ -81,6 +79,18 @@ after-one d k Ends Ends p q = refl
 pub after-is : (d k : ℕ) (a : Later) → After d k a → a ≡ workingDayAfter d k
 after-is d k a h = after-one d k a (workingDayAfter d k) h (after d k)
 
+-- for k = 0 it is d
+pub after-none : (d : ℕ) → d ≤ lastDay → On (record { 0 = d }) ≡ workingDayAfter d 0
+after-none d h = after-is d 0 (On (record { 0 = d })) (record { not-before = omega arith; inside = h; counted = count-none d; smallest = λ i p q s. omega arith })
+
+-- a day outside the calendar has no day after it
+pub after-outside : (d k : ℕ) → lastDay < d → Ends ≡ workingDayAfter d k
+after-outside d k h = after-is d k Ends (λ e p q s. omega arith)
+
+-- where there is an answer, it is a day of the calendar and not before d
+pub after-found : (d k e : ℕ) → workingDayAfter d k ≡ On (record { 0 = e }) → KthAfter d k e
+after-found d k e q = subst (After d k) q (after d k)
+
 -- ---- a loop that counts day by day: at the day d `left` of k are left, and at each earlier day fewer than k were counted
 pub record Counting (first k d left : ℕ) : Type 0 where
   pub from : first ≤ d
@@ -106,10 +116,6 @@ module _ (first k d left : ℕ) (c : Counting first k d left) where
 
   pub counting-ends : 0 < left → d ≡ lastDay → Ends ≡ workingDayAfter first k
   counting-ends h l = after-is first k Ends (λ e p q s. omega (arith, fewer-on h e p (omega arith)))
-
--- a day outside the calendar has no day after it
-pub after-outside : (d k : ℕ) → lastDay < d → Ends ≡ workingDayAfter d k
-after-outside d k h = after-is d k Ends (λ e p q s. omega arith)
 
 -- ---- a working day at which k working days are counted is the k-th
 count-grows : (d e n : ℕ) → d ≤ e → workingAfter d e ≤ workingAfter d (e + n)

@@ -1,10 +1,7 @@
 -- What the answers mean, in the paper's words. `proofs/` shows that each definition has this meaning, and that one answer alone has it.
 -- Assumes nothing: these are definitions.
 use mathlib.Core.Path.{_≡_}
-use mathlib.Core.Bool.{Bool, true, cond, _&&_}
-use mathlib.Core.List.{List, [], _∷_}
 use Prim.Native.Nat.{ℕ, _≤_, _<_}
-use lib.Dec.{leb, eqb}
 use Rattle.calendar.specs.Dates.{lastDay}
 use Rattle.calendar.specs.WorkingDays.{workingAfter}
 use Rattle.calendar.specs.Answers.{dayOf}
@@ -30,15 +27,3 @@ pub record KthAfter (d k e : ℕ) : Type 0 where
 abbrev pub After : ℕ → ℕ → Later → Type 0
 After d k (On e) = KthAfter d k (e .0)
 After d k Ends = (e : ℕ) → d ≤ e → e ≤ lastDay → workingAfter d e ≡ k → ⊥
-
--- no entry is less than the one before it
-unfoldable pub neverFalls : List ℕ → Bool
-neverFalls [] = true
-neverFalls (x ∷ []) = true
-neverFalls (x ∷ (y ∷ ys)) = leb x y && neverFalls (y ∷ ys)
-
--- the entries that equal the next one
-unfoldable pub equalPairs : List ℕ → List ℕ
-equalPairs [] = []
-equalPairs (x ∷ []) = []
-equalPairs (x ∷ (y ∷ ys)) = cond (eqb x y) (x ∷ equalPairs (y ∷ ys)) (equalPairs (y ∷ ys))

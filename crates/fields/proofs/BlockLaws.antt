@@ -8,11 +8,11 @@ use lib.Dec.{leb, eqb}
 use lib.ListN.{length, getD, take, drop}
 use lib.Seq.{take-at, drop-at, getD-at}
 use borrow.Author.Tests.{eq-eqb, ne-eqb, eqb-true, eqb-false, le-leb, lt-leb}
-use Rattle.laws.specs.Lists.{all, any, table, same}
+use Rattle.laws.specs.Lists.{all, any, table, sameLists}
 use Rattle.laws.specs.Digits.{digits, down, spelt}
 use mathlib.Core.Logic.{⊎-elim}
-use Rattle.laws.proofs.Tests.{le-or-lt}
-use Rattle.laws.proofs.Lists.{same-refl, same-true}
+use Rattle.laws.proofs.Tests.{le-or-lt, eqb-refl}
+use Rattle.laws.proofs.Same.{same-equal, same-refl}
 use Rattle.laws.proofs.Tables.{any-none, any-next, any-here, any-stops, stays-false}
 use Rattle.laws.proofs.Digits.{length-digits, digits-append, down-down, down-next, spelt-digits}
 use Rattle.fields.specs.Block.{lastDigits, without, is, endsIn, lastDigit, nearly, decadeBy, someDecade}
@@ -38,16 +38,16 @@ unfolding all is digits
 all-next-digit d n a = let e : n + 1 ≡ 1 + n = omega arith in ap (λ (j : ℕ). all (is d) (digits j a)) e ∙ ap (all (is d)) (digits-append 1 n a)
 
 -- ---- `nearly` on numbers
-same-digits : (i x y : ℕ) → down i x ≡ down i y → same (digits i x) (digits i y) ≡ eqb x y
-same-digits i x y h = go (same (digits i x) (digits i y)) (eqb x y) refl refl
+same-digits : (i x y : ℕ) → down i x ≡ down i y → sameLists eqb (digits i x) (digits i y) ≡ eqb x y
+same-digits i x y h = go (sameLists eqb (digits i x) (digits i y)) (eqb x y) refl refl
   where
-    go : (s t : Bool) → same (digits i x) (digits i y) ≡ s → eqb x y ≡ t → s ≡ t
+    go : (s t : Bool) → sameLists eqb (digits i x) (digits i y) ≡ s → eqb x y ≡ t → s ≡ t
     go true true p q = refl
     go false false p q = refl
-    go true false p q = absurd (eqb-false x y q (sym (spelt-digits i x) ∙ ap₂ spelt h (same-true (digits i x) (digits i y) p) ∙ spelt-digits i y))
+    go true false p q = absurd (eqb-false x y q (sym (spelt-digits i x) ∙ ap₂ spelt h (same-equal eqb eqb-true (digits i x) (digits i y) p) ∙ spelt-digits i y))
     go false true p q =
         let e : x ≡ y = eqb-true x y q in
-        sym p ∙ ap (λ (z : ℕ). same (digits i x) (digits i z)) (sym e) ∙ same-refl (digits i x)
+        sym p ∙ ap (λ (z : ℕ). sameLists eqb (digits i x) (digits i z)) (sym e) ∙ same-refl eqb eqb-refl (digits i x)
 
 last-of : (i x : ℕ) → lastDigit (digits (suc i) x) ≡ 48 + x % 10
 unfolding digits
@@ -69,11 +69,11 @@ last-test x y = go (eqb (x / 10) (y / 10)) refl
         (le-or-lt x y)
 
 nearly-digits : (j x y : ℕ) → down j x ≡ down j y → nearly (digits j x) (digits j y) ≡ (eqb (x / 10) (y / 10) && leb x y)
-unfolding nearly digits down same
+unfolding nearly digits down sameLists
 nearly-digits zero x y h = rw (h, eq-eqb (y / 10) (y / 10) refl, le-leb y y (omega arith))
 nearly-digits (suc i) x y h =
     ap₂ _&&_
-    (ap₂ same (front x) (front y) ∙ same-digits i (x / 10) (y / 10) h)
+    (ap₂ (sameLists eqb) (front x) (front y) ∙ same-digits i (x / 10) (y / 10) h)
     (ap₂ leb (last-of i x) (last-of i y))
     ∙ last-test x y
   where

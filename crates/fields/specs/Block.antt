@@ -5,7 +5,7 @@ use mathlib.Core.Bool.{Bool, _&&_}
 use mathlib.Core.List.{List}
 use lib.Dec.{leb, eqb}
 use lib.ListN.{length, getD, take, drop}
-use Rattle.laws.specs.Lists.{all, any, table, same}
+use Rattle.laws.specs.Lists.{all, any, table, sameLists}
 
 -- the last n digits of f, and f without them
 abbrev pub lastDigits : ℕ → List ℕ → List ℕ
@@ -27,7 +27,7 @@ lastDigit f = getD f (length f - 1) 48
 
 -- a and b differ at most in the last digit, that of a being the smaller or equal one
 unfoldable pub nearly : List ℕ → List ℕ → Bool
-nearly a b = same (without 1 a) (without 1 b) && leb (lastDigit a) (lastDigit b)
+nearly a b = sameLists eqb (without 1 a) (without 1 b) && leb (lastDigit a) (lastDigit b)
 
 -- a ends in n zeros and b in n nines, and without these n digits they differ at most in the last digit, that of a being the smaller or equal one
 unfoldable pub decadeBy : List ℕ → List ℕ → ℕ → Bool

@@ -2,16 +2,15 @@
 --     fold-none, fold-more, fold-done    a loop that folds a list from the front: its state is the fold over the elements that it has passed
 --     fold-keep                          elements that the step does not look at are left out
 --     fold-agree                         two steps that agree on the elements
---     fold-map, fold-zip                 a fold over what a function makes of the elements; a fold that steps each of several states by itself
+--     fold-map                           a fold over what a function makes of the elements
 use mathlib.Core.Path.{_≡_, refl, ap, _∙_}
 use mathlib.Core.Bool.{Bool, true, false, cond}
-use mathlib.Core.List.{List, [], _∷_, map, zipWith, foldl, foldl-append, List·Memᴰ, List·Memᴰ·head, List·Memᴰ·tail}
+use mathlib.Core.List.{List, [], _∷_, map, foldl, foldl-append, List·Memᴰ, List·Memᴰ·head, List·Memᴰ·tail}
 use Prim.Native.Nat.{ℕ, _+_, _≤_, _<_}
 use native.Mathlib.Numerals.{add-one}
 use lib.ListN.{length, take, getD}
 use lib.Seq.{take-suc, take-all}
 use Rattle.laws.specs.Lists.{keep}
-use Rattle.laws.proofs.Lists.{zip-map}
 
 module _ {A B : Type 0} (f : B → A → B) (b : B) (d : A) where
   pub fold-none : (l : List A) → b ≡ foldl f b (take 0 l)
@@ -33,13 +32,6 @@ module _ {A B : Type 0} where
       go : (s : Bool) → ((t : B) → foldl (λ (t : B) (x : A). cond (p x) (f t x) t) t l ≡ foldl f t (keep p l)) → foldl (λ (t : B) (x : A). cond (p x) (f t x) t) (cond s (f b x) b) l ≡ foldl f b (cond s (x ∷ keep p l) (keep p l))
       go true ih = ih (f b x)
       go false ih = ih b
-
--- a fold that steps each of several states by itself
-pub fold-zip : {A B S : Type 0} (f : B → A → S → S) (g : A → S) (l : List A) (es : List B) → foldl (λ (t : List S) (e : B). zipWith (f e) l t) (map g l) es ≡ map (λ (a : A). foldl (λ (s : S) (e : B). f e a s) (g a) es) l
-fold-zip f g l [] = refl
-fold-zip {A} {B} {S} f g l (e ∷ es) =
-    ap (λ (t : List S). foldl (λ (t : List S) (e : B). zipWith (f e) l t) t es) (zip-map (f e) g (λ (a : A). f e a (g a)) (λ a. refl) l)
-    ∙ fold-zip f (λ (a : A). f e a (g a)) l es
 
 pub fold-map : {A B S : Type 0} (g : S → B → S) (f : A → B) (s : S) (l : List A) → foldl g s (map f l) ≡ foldl (λ (t : S) (x : A). g t (f x)) s l
 fold-map g f s [] = refl

@@ -3,7 +3,7 @@
 use mathlib.Core.Path.{_≡_, refl, sym, ap, _∙_}
 use mathlib.Core.Logic.{⊎-elim}
 use mathlib.Core.Bool.{Bool, true, false, cond}
-use mathlib.Core.List.{List, [], _∷_, _++_, map, List·Memᴰ, List·Memᴰ·head, List·Memᴰ·tail, List·Memᴰ·not-nil, List·Memᴰ·eq-of-singleton, List·Memᴰ·append-cases}
+use mathlib.Core.List.{List, [], _∷_, _++_, map, List·Memᴰ, List·Memᴰ·head, List·Memᴰ·tail, List·Memᴰ·eq-of-singleton, List·Memᴰ·append-cases}
 use Prim.Native.Nat.{ℕ, _+_, _*_, _≤_, _<_}
 use native.Mathlib.Nat.{mul-le-mul-right, suc-mul, eq-or-lt-of-le}
 use native.Mathlib.Omega.{arith}
@@ -119,34 +119,17 @@ packed-order (b ∷ bs) (x ∷ xs) (y ∷ ys) h k =
     above : y < x → leb (x * room bs + r) (y * room bs + s) ≡ notAfter (x ∷ xs) (y ∷ ys)
     above p = lt-leb (x * room bs + r) (y * room bs + s) (omega (arith, digit y x s (room bs) p s<)) ∙ sym (after-above x y xs ys p)
 
--- a last digit that says which element it is (its index, for code that has to find it again) changes nothing
-pub tagged-order : (xs ys : List ℕ) (i j : ℕ) → length xs ≡ length ys → (xs ≡ ys → i ≡ j) → notAfter (xs ++ (i ∷ [])) (ys ++ (j ∷ [])) ≡ notAfter xs ys
-tagged-order [] [] i j l h = unfold notAfter in after-level i j [] [] (h refl)
-tagged-order [] (y ∷ ys) i j l h = absurd (omega arith)
-tagged-order (x ∷ xs) [] i j l h = absurd (omega arith)
-tagged-order (x ∷ xs) (y ∷ ys) i j l h =
-    ⊎-elim (λ (p : x ≤ y). ⊎-elim (λ (e : x ≡ y). level e (tagged-order xs ys i j (omega arith) (λ q. h (λ k. e k ∷ q k)))) below (eq-or-lt-of-le p)) above (le-or-lt x y)
-  where
-    level : x ≡ y → notAfter (xs ++ (i ∷ [])) (ys ++ (j ∷ [])) ≡ notAfter xs ys → notAfter (x ∷ (xs ++ (i ∷ []))) (y ∷ (ys ++ (j ∷ []))) ≡ notAfter (x ∷ xs) (y ∷ ys)
-    level e ih = after-level x y _ _ e ∙ ih ∙ sym (after-level x y xs ys e)
-
-    below : x < y → notAfter (x ∷ (xs ++ (i ∷ []))) (y ∷ (ys ++ (j ∷ []))) ≡ notAfter (x ∷ xs) (y ∷ ys)
-    below p = after-below x y _ _ p ∙ sym (after-below x y xs ys p)
-
-    above : y < x → notAfter (x ∷ (xs ++ (i ∷ []))) (y ∷ (ys ++ (j ∷ []))) ≡ notAfter (x ∷ xs) (y ∷ ys)
-    above p = after-above x y _ _ p ∙ sym (after-above x y xs ys p)
-
 none-left : notAfter [] [] ≡ true
 unfolding notAfter
 none-left = refl
 
--- a last digit that does not fall changes nothing
-pub tagged-onward : (xs ys : List ℕ) (i j : ℕ) → length xs ≡ length ys → i ≤ j → notAfter (xs ++ (i ∷ [])) (ys ++ (j ∷ [])) ≡ notAfter xs ys
-tagged-onward [] [] i j l h = ⊎-elim (after-level i j [] []) (λ p. after-below i j [] [] p ∙ sym none-left) (eq-or-lt-of-le h)
-tagged-onward [] (y ∷ ys) i j l h = absurd (omega arith)
-tagged-onward (x ∷ xs) [] i j l h = absurd (omega arith)
-tagged-onward (x ∷ xs) (y ∷ ys) i j l h =
-    ⊎-elim (λ (p : x ≤ y). ⊎-elim (λ (e : x ≡ y). level e (tagged-onward xs ys i j (omega arith) h)) below (eq-or-lt-of-le p)) above (le-or-lt x y)
+-- a last digit that does not fall between equal lists changes nothing: so it may say which element it is, for code that has to find it again
+pub tagged-order : (xs ys : List ℕ) (i j : ℕ) → length xs ≡ length ys → (xs ≡ ys → i ≤ j) → notAfter (xs ++ (i ∷ [])) (ys ++ (j ∷ [])) ≡ notAfter xs ys
+tagged-order [] [] i j l h = ⊎-elim (after-level i j [] []) (λ p. after-below i j [] [] p ∙ sym none-left) (eq-or-lt-of-le (h refl))
+tagged-order [] (y ∷ ys) i j l h = absurd (omega arith)
+tagged-order (x ∷ xs) [] i j l h = absurd (omega arith)
+tagged-order (x ∷ xs) (y ∷ ys) i j l h =
+    ⊎-elim (λ (p : x ≤ y). ⊎-elim (λ (e : x ≡ y). level e (tagged-order xs ys i j (omega arith) (λ q. h (λ k. e k ∷ q k)))) below (eq-or-lt-of-le p)) above (le-or-lt x y)
   where
     level : x ≡ y → notAfter (xs ++ (i ∷ [])) (ys ++ (j ∷ [])) ≡ notAfter xs ys → notAfter (x ∷ (xs ++ (i ∷ []))) (y ∷ (ys ++ (j ∷ []))) ≡ notAfter (x ∷ xs) (y ∷ ys)
     level e ih = after-level x y _ _ e ∙ ih ∙ sym (after-level x y xs ys e)

@@ -1,8 +1,12 @@
 pub mod Tests
 pub mod Lists
+pub mod Firsts
+pub mod Lines
+pub mod Same
 pub mod Folds
 pub mod Tables
 pub mod Loops
+pub mod Halving
 pub mod Sums
 pub mod Overlay
 pub mod Slots

@@ -1,15 +1,12 @@
 -- Lists of anything: what passes a test, members, permutations, lists side by side. Assumes nothing.
-use mathlib.Core.Path.{_≡_, refl, sym, ap, ap₂, _∙_}
+use mathlib.Core.Path.{_≡_, refl, sym, ap, _∙_}
 use mathlib.Core.Logic.{⊎-elim}
-use mathlib.Core.Bool.{Bool, true, false, cond, not, _&&_, and-comm, _||_, true≢false}
+use mathlib.Core.Bool.{Bool, true, false, cond, not, _&&_, _||_, true≢false}
 use mathlib.Core.List.{List, [], _∷_, _++_, append-nil, append-assoc, map, flatMap, zipWith, List·Memᴰ, List·Memᴰ·head, List·Memᴰ·tail, List·Memᴰ·not-nil, List·Memᴰ·cases-cons, List·Memᴰ·append-cases, List·Memᴰ·eq-of-singleton, List·Permᴰ, List·Permᴰ·nil, List·Permᴰ·cons, List·Permᴰ·swap, List·Permᴰ·trans, Permᴰ·refl, Permᴰ·symm, Permᴰ·append-left, Permᴰ·middle}
-use Prim.Native.Nat.{ℕ, zero, suc, _+_, _<_}
+use Prim.Native.Nat.{ℕ, zero, suc, _+_, _≤_, _<_}
 use native.Mathlib.Omega.{arith}
-use lib.Dec.{eqb}
 use lib.ListN.{length, getD, length-append}
-use borrow.Author.Tests.{eqb-true}
-use Rattle.laws.specs.Lists.{table, keep, any, same}
-use Rattle.laws.proofs.Tests.{and-left, and-right, eqb-refl}
+use Rattle.laws.specs.Lists.{table, keep, any}
 
 module _ {A : Type 0} where
   pub keep-yes : (p : A → Bool) (x : A) (xs : List A) → p x ≡ true → keep p (x ∷ xs) ≡ x ∷ keep p xs
@@ -62,6 +59,16 @@ module _ {A : Type 0} where
   keep-same p q [] h = refl
   keep-same p q (x ∷ l) h = λ k. cond (h x (List·Memᴰ·head refl) k) (x ∷ keep-same p q l (λ y m. h y (List·Memᴰ·tail m)) k) (keep-same p q l (λ y m. h y (List·Memᴰ·tail m)) k)
 
+  -- no more pass than there are
+  pub keep-at-most : (p : A → Bool) (l : List A) → length (keep p l) ≤ length l
+  unfolding keep
+  keep-at-most p [] = omega arith
+  keep-at-most p (x ∷ l) = go (p x) (keep-at-most p l)
+    where
+      go : (t : Bool) → length (keep p l) ≤ length l → length (cond t (x ∷ keep p l) (keep p l)) ≤ suc (length l)
+      go true ih = omega arith
+      go false ih = omega arith
+
   -- what passes one of two tests that no element passes both of
   pub length-either : (p q : A → Bool) → ((x : A) → p x ≡ true → q x ≡ false) → (l : List A) → length (keep (λ (x : A). p x || q x) l) ≡ length (keep p l) + length (keep q l)
   unfolding keep
@@ -84,10 +91,6 @@ module _ {A : Type 0} where
       go true false e ih = ih
       go false true e ih = rw e ih
       go false false e ih = ih
-
-  -- which of two tests comes first does not matter
-  pub keep-keep : (p q : A → Bool) (l : List A) → keep p (keep q l) ≡ keep q (keep p l)
-  keep-keep p q l = keep-both p q l ∙ (λ k. keep (λ (x : A). and-comm (p x) (q x) k) l) ∙ sym (keep-both q p l)
 
   -- ---- members
   pub mem-table : {a : A} (n : ℕ) (f : ℕ → A) → List·Memᴰ a (table n f) → (i : ℕ) × (a ≡ f i)
@@ -185,16 +188,6 @@ module _ {A B : Type 0} where
   flat-append f [] m = refl
   flat-append f (x ∷ l) m = ap (λ (r : List B). f x ++ r) (flat-append f l m) ∙ sym (append-assoc (f x) (flatMap f l) (flatMap f m))
 
-  -- a test that holds of all or of none of what comes of an element
-  pub keep-flat : (f : A → List B) (p : B → Bool) (q : A → Bool) → ((a : A) (b : B) → List·Memᴰ b (f a) → p b ≡ q a) → (l : List A) → keep p (flatMap f l) ≡ flatMap f (keep q l)
-  unfolding flatMap
-  keep-flat f p q h [] = unfold keep in refl
-  keep-flat f p q h (x ∷ l) = keep-append p (f x) (flatMap f l) ∙ go (q x) refl (keep-flat f p q h l)
-    where
-      go : (t : Bool) → q x ≡ t → keep p (flatMap f l) ≡ flatMap f (keep q l) → keep p (f x) ++ keep p (flatMap f l) ≡ flatMap f (keep q (x ∷ l))
-      go true e ih = rw (keep-yes q x l e, keep-all p (f x) (λ b m. h x b m ∙ e)) (ap (λ (r : List B). f x ++ r) ih)
-      go false e ih = rw (keep-no q x l e, keep-none p (f x) (λ b m. h x b m ∙ e)) ih
-
   pub keep-map : (f : A → B) (p : B → Bool) (q : A → Bool) (l : List A) → ((x : A) → List·Memᴰ x l → q x ≡ p (f x)) → map f (keep q l) ≡ keep p (map f l)
   unfolding keep
   keep-map f p q [] h = refl
@@ -228,16 +221,3 @@ module _ {A B : Type 0} where
   zip-at f (x ∷ l) [] i a b c h k = absurd (omega arith)
   zip-at f (x ∷ l) (y ∷ m) zero a b c h k = refl
   zip-at f (x ∷ l) (y ∷ m) (suc i) a b c h k = zip-at f l m i a b c (omega arith) (omega arith)
-
--- ---- lists of numbers
-pub same-refl : (xs : List ℕ) → same xs xs ≡ true
-unfolding same
-same-refl [] = refl
-same-refl (x ∷ xs) = rw (eqb-refl x) (same-refl xs)
-
-pub same-true : (xs ys : List ℕ) → same xs ys ≡ true → xs ≡ ys
-unfolding same
-same-true [] [] e = refl
-same-true [] (y ∷ ys) e = cc
-same-true (x ∷ xs) [] e = cc
-same-true (x ∷ xs) (y ∷ ys) e = ap₂ _∷_ (eqb-true x y (and-left (eqb x y) (same xs ys) e)) (same-true xs ys (and-right (eqb x y) (same xs ys) e))

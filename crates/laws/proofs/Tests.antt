@@ -33,6 +33,17 @@ pub or-right : (a b : Bool) → (a || b) ≡ false → b ≡ false
 or-right true b p = cc
 or-right false b p = p
 
+-- a test and another are the same
+pub both-true : (a b : Bool) → ((a && b) || (not a && not b)) ≡ true → a ≡ b
+both-true true true p = refl
+both-true true false p = cc
+both-true false true p = cc
+both-true false false p = refl
+
+pub both-refl : (a : Bool) → ((a && a) || (not a && not a)) ≡ true
+both-refl true = refl
+both-refl false = refl
+
 -- ---- numbers
 pub le-or-lt : (a b : ℕ) → (a ≤ b) ⊎ (b < a)
 le-or-lt a b = go (leb a b) refl
@@ -52,6 +63,9 @@ eqb-comm x y = go (eqb x y) (eqb y x) refl refl
 
 pub eqb-refl : (x : ℕ) → eqb x x ≡ true
 eqb-refl x = eq-eqb x x refl
+
+pub ltb-suc : (a b : ℕ) → ltb (suc a) (suc b) ≡ ltb a b
+ltb-suc a b = ⊎-elim (λ (h : b ≤ a). rw (le-ltb a b h, le-ltb (suc a) (suc b) (omega arith))) (λ (h : a < b). rw (lt-ltb a b h, lt-ltb (suc a) (suc b) (omega arith))) (le-or-lt b a)
 
 -- below n and below n + 1; not below n, but below n + 1
 pub low-test : (r n : ℕ) → (ltb r n && ltb r (suc n)) ≡ ltb r n

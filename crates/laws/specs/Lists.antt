@@ -3,7 +3,6 @@
 use Prim.Native.Nat.{ℕ, zero, suc, _+_}
 use mathlib.Core.Bool.{Bool, true, false, cond, _&&_, _||_}
 use mathlib.Core.List.{List, [], _∷_, _++_}
-use lib.Dec.{eqb}
 
 module _ {A : Type 0} where
   -- f 0, f 1, .., f (n - 1)
@@ -52,9 +51,9 @@ module _ {A : Type 0} where
   mapFirst f (suc n) [] = []
   mapFirst f (suc n) (x ∷ xs) = f x ∷ mapFirst f n xs
 
--- whether two lists of numbers are equal, place by place
-unfoldable pub same : List ℕ → List ℕ → Bool
-same [] [] = true
-same [] (y ∷ ys) = false
-same (x ∷ xs) [] = false
-same (x ∷ xs) (y ∷ ys) = eqb x y && same xs ys
+  -- whether two lists are as long and the same at each place, by a test of two elements
+  unfoldable pub sameLists : (A → A → Bool) → List A → List A → Bool
+  sameLists same [] [] = true
+  sameLists same [] (y ∷ ys) = false
+  sameLists same (x ∷ xs) [] = false
+  sameLists same (x ∷ xs) (y ∷ ys) = same x y && sameLists same xs ys

@@ -2,7 +2,7 @@
 -- Assumes nothing.
 use borrow.Author.Needs.{needs}
 use borrow.Author.Tests.{le-leb, lt-leb}
-use Rattle.calendar.specs.Dates.{monthDays, valid, dayNumber}
+use Rattle.calendar.specs.Dates.{valid, dayNumber}
 use Rattle.calendar.specs.Answers.{dayOf}
 use Rattle.calendar.proofs.dates.day_of.Statement.{statement}
 use Rattle.calendar.proofs.dates.day_of.Tie as tie

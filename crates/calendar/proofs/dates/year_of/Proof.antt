@@ -5,7 +5,7 @@ use Prim.Native.Nat.{_+_, _-_, _≤_}
 use native.Mathlib.Omega.{arith}
 use borrow.Author.Needs.{needs}
 use Rattle.laws.specs.Sums.{sumTo}
-use Rattle.calendar.specs.Dates.{lastDay, yearDays, yearStart}
+use Rattle.calendar.specs.Dates.{yearDays, yearStart}
 use Rattle.calendar.proofs.DateLaws.{YearAt, yearStart-next, yearStart-mono, yearStart-end, yearDays-le, year-is}
 use Rattle.calendar.proofs.dates.year_of.Statement.{statement}
 use Rattle.calendar.proofs.dates.year_of.Tie as tie

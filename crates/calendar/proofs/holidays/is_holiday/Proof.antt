@@ -1,53 +1,69 @@
--- `calendar::holidays::is_holiday` meets its contract. The loop's invariant: whether the day is in the list is whether it is in what is left of it.
--- The measure is the length of what is left. Assumes nothing.
-use mathlib.Core.Path.{_≡_, refl, _∙_, sym}
-use Prim.Native.Nat.{_-_, _≤_}
+-- `calendar::holidays::is_holiday` meets its contract. The loop's invariant: the day stands nowhere but from `lo` on and before `hi`.
+-- The measure is how many places are left. Assumes nothing.
+use mathlib.Core.Path.{sym, _∙_}
+use Prim.Native.Nat.{_-_}
 use native.Mathlib.Omega.{arith}
-use lib.Dec.{eqb}
-use lib.ListN.{length, drop}
-use borrow.Author.Tests.{eq-eqb, ne-eqb}
-use Rattle.laws.specs.Lists.{any}
-use Rattle.laws.proofs.Loops.{any-on, any-found, any-passed}
+use Rattle.laws.proofs.Halving.{Within, within-start, within-up, within-down, within-here, within-none}
 use Rattle.calendar.specs.Holidays.{holidays}
-use Rattle.calendar.proofs.HolidayLaws.{holidays-length}
+use Rattle.calendar.proofs.HolidayLaws.{holidays-length, never-falls}
 use Rattle.calendar.proofs.holidays.is_holiday.Statement.{statement}
 use Rattle.calendar.proofs.holidays.is_holiday.Tie as tie
 
 abbrev Inv-loop : tie.InvT-loop
-Inv-loop day i₀ i = (i ≤ length holidays) × (any (eqb day) (drop i holidays) ≡ any (eqb day) holidays)
+Inv-loop day lo₀ hi₀ lo hi = Within day holidays lo hi
 
 abbrev μ-loop : tie.MeasureT-loop
-μ-loop day i₀ i = length holidays - i
+μ-loop day lo₀ hi₀ lo hi = hi - lo
 
 loop-holds : tie.Need-loop-holds Inv-loop μ-loop
-loop-holds c = (omega arith, refl)
+loop-holds c = within-start _ holidays _ (sym holidays-length)
+
+add-middle : tie.Need-add-middle Inv-loop μ-loop
+add-middle c = omega (arith, holidays-length)
 
 holiday-at-requires : tie.Need-holiday-at-requires Inv-loop μ-loop
-holiday-at-requires c κs = omega (arith, holidays-length)
+holiday-at-requires c κs = omega arith
 
 returns : tie.Need-returns Inv-loop μ-loop
-returns c =
-    let start = c .before .before .before .before in
-    let head = c .before .before .before in
-    any-found (eqb (start .args .day)) 0 holidays (head .loop .i) (omega (arith, holidays-length)) (eq-eqb _ _ (c .if1 .taken ∙ c .before .holiday-at .ensures)) (head .loop .inv .1)
+returns c = within-here _ _ _ _ (c .before .before .before .loop .inv) _ (omega arith) (sym (c .before .holiday-at .ensures) ∙ c .if1 .taken)
 
-add-i : tie.Need-add-i Inv-loop μ-loop
-add-i c = omega arith
+add-lo : tie.Need-add-lo Inv-loop μ-loop
+add-lo c = omega (arith, holidays-length)
 
 loop-less : tie.Need-loop-less Inv-loop μ-loop
-loop-less c = omega (arith, holidays-length)
+loop-less c = omega arith
 
 loop-again : tie.Need-loop-again Inv-loop μ-loop
 loop-again c =
-    let start = c .before .before .before .before in
-    let head = c .before .before .before in
-    (omega (arith, holidays-length), any-on (eqb (start .args .day)) 0 holidays (head .loop .i) (omega (arith, holidays-length)) (ne-eqb _ _ (λ e. c .if1 .left (e ∙ sym (c .before .holiday-at .ensures)))) (head .loop .inv .1))
+    let there = c .before .before in
+    let head = there .before .before in
+    within-up _ holidays never-falls _ _ _ (head .loop .inv) (omega arith) (omega (arith, there .holiday-at .ensures))
+
+loop-less-2 : tie.Need-loop-less-2 Inv-loop μ-loop
+loop-less-2 c = omega arith
+
+loop-again-2 : tie.Need-loop-again-2 Inv-loop μ-loop
+loop-again-2 c =
+    let there = c .before .before in
+    let head = there .before .before in
+    within-down _ holidays never-falls _ _ _ (head .loop .inv) (omega arith) (omega (arith, there .holiday-at .ensures))
 
 returns-2 : tie.Need-returns-2 Inv-loop μ-loop
-returns-2 c =
-    any-passed (eqb (c .before .before .args .day)) 0 holidays (c .before .loop .i) (omega (arith, holidays-length)) (c .before .loop .inv .1)
+returns-2 c = within-none _ _ _ _ (c .before .loop .inv) (c .loop-test .left)
 
 pub is-holiday-spec : {M : Type 1} → statement M
 is-holiday-spec =
     tie.close
-    (tie.spec Inv-loop μ-loop loop-holds holiday-at-requires returns add-i loop-less loop-again returns-2)
+    (tie.spec
+    Inv-loop
+    μ-loop
+    loop-holds
+    add-middle
+    holiday-at-requires
+    returns
+    add-lo
+    loop-less
+    loop-again
+    loop-less-2
+    loop-again-2
+    returns-2)

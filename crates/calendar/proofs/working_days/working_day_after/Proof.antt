@@ -21,7 +21,7 @@ loop-holds : tie.Need-loop-holds Inv-loop μ-loop
 loop-holds c = counting-starts _ _ (c .if1 .left)
 
 returns-2 : tie.Need-returns-2 Inv-loop μ-loop
-returns-2 c = counting-ends _ _ _ _ (c .before .before .loop .inv) (c .before .loop-test .taken) (c .if2 .taken)
+returns-2 c = counting-ends _ _ _ _ (c .before .before .loop .inv) (omega arith) (c .if2 .taken)
 
 add-next : tie.Need-add-next Inv-loop μ-loop
 add-next c = omega arith
@@ -38,7 +38,7 @@ loop-less c = omega arith
 loop-again : tie.Need-loop-again Inv-loop μ-loop
 loop-again c =
     let head = c .before .before .before .before in
-    counting-on _ _ _ _ (head .loop .inv) (omega arith) (c .before .before .before .loop-test .taken) (sym (c .before .works .ensures) ∙ c .if3 .taken)
+    counting-on _ _ _ _ (head .loop .inv) (omega arith) (omega arith) (sym (c .before .works .ensures) ∙ c .if3 .taken)
 
 loop-less-2 : tie.Need-loop-less-2 Inv-loop μ-loop
 loop-less-2 c = omega arith
@@ -46,10 +46,10 @@ loop-less-2 c = omega arith
 loop-again-2 : tie.Need-loop-again-2 Inv-loop μ-loop
 loop-again-2 c =
     let head = c .before .before .before .before in
-    counting-past _ _ _ _ (head .loop .inv) (omega arith) (c .before .before .before .loop-test .taken) (sym (c .before .works .ensures) ∙ c .if3 .left)
+    counting-past _ _ _ _ (head .loop .inv) (omega arith) (omega arith) (sym (c .before .works .ensures) ∙ c .if3 .left)
 
 returns-3 : tie.Need-returns-3 Inv-loop μ-loop
-returns-3 c = counting-there _ _ _ _ (c .before .loop .inv) (c .loop-test .left)
+returns-3 c = counting-there _ _ _ _ (c .before .loop .inv) (omega arith)
 
 pub working-day-after-spec : {M : Type 1} → statement M
 working-day-after-spec =

@@ -1,0 +1,4 @@
+pub mod Report
+pub mod Entry
+pub mod Places
+pub mod Same

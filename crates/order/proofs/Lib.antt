@@ -1,0 +1,2 @@
+-- `Steps`: what a turn of each loop does, on plain lists.
+pub mod Steps

@@ -1,0 +1,4 @@
+pub mod PairLaws
+pub mod StepLaws
+pub mod Laws
+pub mod Paper

@@ -1,0 +1,6 @@
+pub mod Numbers
+pub mod Reports
+pub mod Corrections
+pub mod Step
+pub mod Sound
+pub mod Paper

@@ -1,0 +1,420 @@
+//! A scenario: a table, files in order of arrival, and command lines to run.
+
+use crate::calendar::{Day, LAST_DAY};
+use crate::chance::Chance;
+use crate::damage::DAMAGES;
+use crate::store::{read_table, Answer, Store};
+use crate::stories::{Flavour, World};
+use crate::told::{ddmmyyyy, file_name, file_text, Num, Told};
+use std::collections::BTreeMap;
+
+/// A file that is offered for filing.
+#[derive(Clone)]
+struct Offer {
+    publisher: String,
+    path: String,
+    bytes: Vec<u8>,
+}
+
+pub struct Scenario {
+    /// Files to write: a path in the scenario's folder, and bytes.
+    pub files: Vec<(String, Vec<u8>)>,
+    /// Command lines to run in that folder, program name left out.
+    pub commands: Vec<Vec<String>>,
+    /// What stories and damages are in it, for the coverage report.
+    pub notes: Vec<String>,
+}
+
+/// A file of one publisher, day and kind.
+struct Published {
+    publisher: String,
+    day: Day,
+    letter: char,
+    records: Vec<String>,
+}
+
+impl Published {
+    fn path(&self, folder: &str) -> String {
+        format!("{}{}/{}", folder, self.publisher, file_name(self.letter, self.day))
+    }
+}
+
+pub fn scenario(seed: u64) -> Scenario {
+    match seed % 40 {
+        39 => limit_scenario(seed),
+        _ => story_scenario(seed),
+    }
+}
+
+fn story_scenario(seed: u64) -> Scenario {
+    let mut world = World::new(seed);
+    world.tell();
+    let files = published(&mut world);
+    let mut notes: Vec<String> = world.notes.iter().map(|n| format!("story\t{}", n)).collect();
+    let folder = if world.chance.one_in(8) { "süd west/" } else { "" };
+    let offers = offers(&mut world, files, folder, &mut notes);
+    let table: String = world.numbers.iter().map(Num::table_line).collect();
+    let mut scenario = Scenario { files: Vec::new(), commands: Vec::new(), notes };
+    scenario.files.push(("table.txt".into(), table.into_bytes()));
+    commands(&mut scenario, &mut world, offers);
+    scenario
+}
+
+/// The records in files, by publisher, day and kind; a few files have no records.
+fn published(world: &mut World) -> Vec<Published> {
+    let mut files: BTreeMap<(Day, String, char), Vec<String>> = BTreeMap::new();
+    for Told { publisher, day, letter, record, .. } in world.told.clone() {
+        files.entry((day, publisher, letter)).or_default().push(record);
+    }
+    for _ in 0..world.chance.below(3) {
+        let day = (world.base + world.chance.below(14) as Day).min(LAST_DAY);
+        let key = (day, world.chance.pick(&world.codes), world.chance.pick(&['D', 'K']));
+        files.entry(key).or_default();
+    }
+    let mut all = Vec::new();
+    for ((day, publisher, letter), mut records) in files {
+        world.chance.shuffle(&mut records);
+        all.push(Published { publisher, day, letter, records });
+    }
+    reorder(world, &mut all);
+    all
+}
+
+/// Order of arrival: by day, with late files, or any order at all.
+fn reorder(world: &mut World, files: &mut Vec<Published>) {
+    let late = world.flavour == Flavour::Late || world.chance.one_in(3);
+    if late && world.chance.one_in(2) {
+        world.chance.shuffle(files);
+    } else if late {
+        for _ in 0..files.len() / 4 {
+            let file = files.remove(world.chance.below(files.len()));
+            let at = world.chance.below(files.len() + 1);
+            files.insert(at, file);
+        }
+    }
+}
+
+/// What is offered: every file, and around some of them damaged ones, others again, wrong names
+/// and wrong publishers.
+fn offers(
+    world: &mut World,
+    files: Vec<Published>,
+    folder: &str,
+    notes: &mut Vec<String>,
+) -> Vec<Offer> {
+    let often = if world.flavour == Flavour::Damage { 2 } else { 9 };
+    let mut offers = Vec::new();
+    for (i, file) in files.iter().enumerate() {
+        let good = file_text(&file.records);
+        let extra = |sort: &str| file.path(&format!("{}{}{}/", folder, sort, i));
+        let offer =
+            |path: String, bytes: Vec<u8>| Offer { publisher: file.publisher.clone(), path, bytes };
+        if world.chance.one_in(often) {
+            let bytes = damaged(&mut world.chance, &good, notes);
+            offers.push(offer(extra("damaged"), bytes));
+        }
+        if world.chance.one_in(12) {
+            offers.push(misnamed(&mut world.chance, file, folder, i, &good));
+        }
+        if world.chance.one_in(12) {
+            let wrong = ["D00A", "d001", "D01", "D0001", "X001", "D 01", "001", "D-01"];
+            let publisher = world.chance.pick(&wrong).to_string();
+            let mut wrong = offer(extra("publisher"), good.clone());
+            if world.chance.one_in(3) {
+                wrong.path = format!("{}publisher{}/{}", folder, i, "1D24.txt");
+            }
+            offers.push(Offer { publisher, ..wrong });
+        }
+        offers.push(offer(file.path(folder), good.clone()));
+        if world.chance.one_in(8) {
+            offers.push(offer(extra("again"), good.clone()));
+        }
+        if world.chance.one_in(12) {
+            let other = world.chance.pick(&files.iter().map(|f| &f.records).collect::<Vec<_>>());
+            offers.push(offer(extra("other"), file_text(other)));
+        }
+        if world.chance.one_in(often + 6) {
+            let bytes = damaged(&mut world.chance, &good, notes);
+            offers.push(offer(extra("late-damaged"), bytes));
+        }
+    }
+    offers
+}
+
+fn damaged(chance: &mut Chance, good: &[u8], notes: &mut Vec<String>) -> Vec<u8> {
+    let (name, damage) = chance.pick(DAMAGES);
+    notes.push(format!("damage\t{}", name));
+    damage(chance, good)
+}
+
+/// A name that filing refuses: no name of a file, no date, or a request or response file.
+fn misnamed(chance: &mut Chance, file: &Published, folder: &str, i: usize, good: &[u8]) -> Offer {
+    let name = file_name(file.letter, file.day);
+    let date = &name[2..8];
+    let wrong = match chance.below(12) {
+        0 => format!("1R{}.txt", date),
+        1 => format!("1Q{}.txt", date),
+        2 => format!("1d{}.txt", date),
+        3 => format!("1D{}.TXT", date),
+        4 => format!("7K{}.txt", date),
+        5 => format!("1D{}.gz", date),
+        6 => format!("1D20{}.txt", date),
+        7 => format!("1D{}.txt", &date[1..]),
+        8 => "1D500101.txt".to_string(),
+        9 => "1K970101.txt".to_string(),
+        10 => "1D010229.txt".to_string(),
+        _ => format!("x1D{}.txt", date),
+    };
+    let path = format!("{}name{}/{}/{}", folder, i, file.publisher, wrong);
+    let request = format!("{},{},\r", file.publisher, ddmmyyyy(file.day)).into_bytes();
+    let bytes = if wrong.starts_with("1Q") { request } else { good.to_vec() };
+    Offer { publisher: file.publisher.clone(), path, bytes }
+}
+
+fn words(words: &[&str]) -> Vec<String> {
+    words.iter().map(|word| word.to_string()).collect()
+}
+
+/// The command lines: start, file, ask; file what was held back, and ask again.
+fn commands(scenario: &mut Scenario, world: &mut World, mut offers: Vec<Offer>) {
+    bad_start(scenario, world);
+    scenario.commands.push(words(&["start", "store", "table.txt"]));
+    if world.chance.one_in(6) {
+        ask(scenario, world, 0);
+    }
+    let held_back = offers.split_off(offers.len() - world.chance.below(3).min(offers.len()));
+    let mut accepted = accepted(world, &offers);
+    scenario.commands.push(words(&["file", "store", "--list", "LIST"]));
+    scenario.files.push(("LIST".into(), list(world, &offers)));
+    ask(scenario, world, accepted.files.len());
+    read_some(scenario, world, &offers);
+    for offer in &held_back {
+        scenario.commands.push(words(&["file", "store", &offer.publisher, &offer.path]));
+        accept(&mut accepted, offer);
+    }
+    stop_at_a_missing_file(scenario, world);
+    if !held_back.is_empty() || world.chance.one_in(4) {
+        ask(scenario, world, accepted.files.len());
+    }
+    if world.chance.one_in(10) {
+        scenario.commands.push(words(&["start", "store", "table.txt"]));
+    }
+    scenario.commands.push(words(&["show", "store"]));
+    for offer in offers.iter().chain(&held_back) {
+        scenario.files.push((offer.path.clone(), offer.bytes.clone()));
+    }
+}
+
+/// A table that 6 refuses, before the good one: nothing is written.
+fn bad_start(scenario: &mut Scenario, world: &mut World) {
+    if !world.chance.one_in(3) {
+        return;
+    }
+    let good: String = world.numbers.iter().map(Num::table_line).collect();
+    let first = world.numbers[0].table_line();
+    let bad = match world.chance.below(13) {
+        0 => good.clone() + &first,
+        1 => good.trim_end().to_string(),
+        2 => good.replace('\n', "\r\n"),
+        3 => good.clone() + "\n",
+        4 => good.clone() + "3055,,D00A,02012024\n",
+        5 => good.clone() + "3055,,D001,02012050\n",
+        6 => good.clone() + "3055,,D001,31121997\n",
+        7 => good.clone() + "3055,3056,D001,02012024\n",
+        8 => good.clone() + ",,D001,02012024\n",
+        9 => good.clone() + "3055,,D001,02012024,\n",
+        10 => good.clone() + "3055,D001,02012024\n",
+        11 => good.clone() + "123456789012,,D001,02012024\n",
+        _ => good.replacen(',', ", ", 1),
+    };
+    scenario.files.push(("bad-table.txt".into(), bad.into_bytes()));
+    scenario.commands.push(words(&["start", "store", "bad-table.txt"]));
+}
+
+fn list(world: &mut World, offers: &[Offer]) -> Vec<u8> {
+    let mut text = String::new();
+    for offer in offers {
+        text += &format!("{}\t{}\n", offer.publisher, offer.path);
+        if world.chance.one_in(30) {
+            text += "\n";
+        }
+    }
+    text.into_bytes()
+}
+
+/// The model's own store after these offers: `show --before N` needs to know how many files there
+/// are.
+fn accepted(world: &World, offers: &[Offer]) -> Store {
+    let table: String = world.numbers.iter().map(Num::table_line).collect();
+    let mut store = Store::new(read_table(table.as_bytes()).unwrap_or_default());
+    for offer in offers {
+        accept(&mut store, offer);
+    }
+    store
+}
+
+fn accept(store: &mut Store, offer: &Offer) {
+    let heading = Store::check_heading(offer.publisher.as_bytes(), offer.path.as_bytes());
+    let _: Result<Answer, Answer> = heading.map(|heading| store.file(heading, &offer.bytes));
+}
+
+/// All that can be asked about a store with this many files.
+fn ask(scenario: &mut Scenario, world: &mut World, files: usize) {
+    let named: Vec<String> = world.numbers.iter().map(Num::named).collect();
+    let mut why = words(&["why", "store"]);
+    why.extend(named.iter().cloned());
+    if world.chance.one_in(3) {
+        why.insert(2, world.chance.pick(&world.unknown).named());
+    }
+    for command in ["files", "show", "verdicts", "figure"] {
+        scenario.commands.push(words(&[command, "store"]));
+    }
+    scenario.commands.push(why);
+    for _ in 0..2.min(files) {
+        let n = world.chance.between(1, files).to_string();
+        let mut before = words(&["show", "store", "--before", &n]);
+        if world.chance.one_in(3) {
+            before.push(world.chance.pick(&named));
+        }
+        scenario.commands.push(before);
+    }
+    if world.chance.one_in(3) {
+        let strange = ["abc", "3055500-", "30555-30555", "123456789012", "3055501,", "D001", "-"];
+        let strange = world.chance.pick(&strange);
+        let unknown = world.chance.pick(&world.unknown).named();
+        let known = world.chance.pick(&named);
+        scenario.commands.push(words(&["show", "store", &known, &unknown, strange, &known]));
+    }
+}
+
+/// `read` of some offered files, and of request and response files.
+fn read_some(scenario: &mut Scenario, world: &mut World, offers: &[Offer]) {
+    for _ in 0..2.min(offers.len()) {
+        let offer = world.chance.pick(offers);
+        scenario.commands.push(words(&["read", &offer.path]));
+    }
+    let chance = &mut world.chance;
+    let day = (world.base + chance.below(9) as Day).min(LAST_DAY);
+    let (letter, mut bytes) = if chance.one_in(2) && !offers.is_empty() {
+        ('R', chance.pick(offers).bytes)
+    } else {
+        let date = chance.pick(&[String::new(), ddmmyyyy(day)]);
+        ('Q', format!("{},{},\r", chance.pick(&world.codes), date).into_bytes())
+    };
+    if chance.one_in(3) {
+        bytes = damaged(chance, &bytes, &mut scenario.notes);
+    }
+    let path = format!("read/{}", file_name(letter, day));
+    scenario.commands.push(words(&["read", &path]));
+    scenario.files.push((path, bytes));
+}
+
+/// A file that can't be read stops filing: status 2, and the file behind it is not filed.
+fn stop_at_a_missing_file(scenario: &mut Scenario, world: &mut World) {
+    if !world.chance.one_in(10) {
+        return;
+    }
+    let day = (world.base + 60).min(LAST_DAY);
+    let publisher = world.chance.pick(&world.codes);
+    let missing = format!("missing/{}", file_name('D', day));
+    let behind = format!("behind/{}", file_name('K', day));
+    scenario.files.push((behind.clone(), file_text(&[])));
+    scenario.commands.push(words(&["file", "store", &publisher, &missing, &behind]));
+}
+
+/// Rarely: a scenario that reaches a limit.
+fn limit_scenario(seed: u64) -> Scenario {
+    let mut world = World::new(seed);
+    world.numbers.truncate(2);
+    let mut scenario = Scenario { files: Vec::new(), commands: Vec::new(), notes: Vec::new() };
+    let offers = match seed / 40 % 4 {
+        0 => full_journal(&mut world, 'D', 8192),
+        1 => full_journal(&mut world, 'K', 2048),
+        2 => full_table(&mut scenario, &mut world),
+        _ => many_files(&mut world),
+    };
+    scenario.notes.push(format!("limit\t{}", seed / 40 % 4));
+    let table: String = world.numbers.iter().map(Num::table_line).collect();
+    scenario.files.push(("table.txt".into(), table.into_bytes()));
+    scenario.files.push(("LIST".into(), list(&mut world, &offers)));
+    for command in ["start store table.txt", "file store --list LIST", "files store"] {
+        scenario.commands.push(command.split(' ').map(str::to_string).collect());
+    }
+    for command in ["show", "verdicts", "figure"] {
+        scenario.commands.push(words(&[command, "store"]));
+    }
+    scenario.commands.push(words(&["why", "store", &world.numbers[0].named()]));
+    scenario.files.extend(offers.into_iter().map(|offer| (offer.path, offer.bytes)));
+    scenario
+}
+
+/// Records up to the limit of a journal and one more; an empty file still has room, and the other
+/// journal too.
+fn full_journal(world: &mut World, letter: char, most: usize) -> Vec<Offer> {
+    let mut left = most;
+    let mut offers = Vec::new();
+    let mut day = world.base + 15;
+    while left > 0 {
+        let records = left.min(world.chance.between(most / 8, most / 4));
+        offers.push(many_records(world, letter, day, records));
+        left -= records;
+        day += 1;
+        if left > 0 && left < most / 8 {
+            offers.push(many_records(world, letter, day, left + 1)); // one too many
+        }
+    }
+    let other = if letter == 'D' { 'K' } else { 'D' };
+    for (letter, records) in [(letter, 1), (letter, 0), (other, 3), (letter, 2)] {
+        day += 1;
+        offers.push(many_records(world, letter, day, records));
+    }
+    offers
+}
+
+/// A file of records of one publisher, picked from a pool, so that many are told again.
+fn many_records(world: &mut World, letter: char, day: Day, records: usize) -> Offer {
+    let publisher = world.chance.pick(&world.codes);
+    world.told.clear();
+    for _ in 0..40 {
+        world.tell();
+    }
+    let own = |told: &&Told| told.letter == letter && told.publisher == publisher;
+    let pool: Vec<String> = world.told.iter().filter(own).map(|t| t.record.clone()).collect();
+    let texts: Vec<String> = (0..records).map(|_| world.chance.pick(&pool)).collect();
+    let path = format!("{}/{}", publisher, file_name(letter, day.min(LAST_DAY)));
+    Offer { publisher, path, bytes: file_text(&texts) }
+}
+
+/// A table of 1,024 numbers, and before it one of 1,025.
+fn full_table(scenario: &mut Scenario, world: &mut World) -> Vec<Offer> {
+    let last = world.numbers[0].clone();
+    for i in 0..1024 - world.numbers.len() {
+        world.numbers.push(Num {
+            num1: (40000 + i).to_string(),
+            num2: String::new(),
+            ..last.clone()
+        });
+    }
+    let mut one_more: String = world.numbers.iter().map(Num::table_line).collect();
+    one_more += "5,,D001,01012000\n";
+    scenario.files.push(("bad-table.txt".into(), one_more.into_bytes()));
+    scenario.commands.push(words(&["start", "store", "bad-table.txt"]));
+    let day = world.base + 8;
+    (0..4).map(|i| many_records(world, 'D', day + i, 60)).collect()
+}
+
+/// 1,024 files and one more of each kind, with a record and without.
+fn many_files(world: &mut World) -> Vec<Offer> {
+    let mut offers = Vec::new();
+    for i in 0..1024u32 {
+        let (publisher, letter) = (format!("D{:03}", i % 997), if i % 5 == 0 { 'K' } else { 'D' });
+        let day = world.base.saturating_sub(90) + i / 997;
+        let path = format!("{}/{}", publisher, file_name(letter, day));
+        offers.push(Offer { publisher, path, bytes: file_text(&[]) });
+    }
+    for (letter, records) in [('D', 1), ('K', 1), ('D', 0), ('K', 0)] {
+        let day = world.base + 8 + records as Day;
+        offers.push(many_records(world, letter, day, records));
+    }
+    offers
+}
