@@ -13,3 +13,4 @@ pub mod ByKey
 pub mod Keys
 pub mod Rising
 pub mod Split
+pub mod Lines

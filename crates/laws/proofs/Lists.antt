@@ -241,3 +241,14 @@ same-true [] [] e = refl
 same-true [] (y ∷ ys) e = cc
 same-true (x ∷ xs) [] e = cc
 same-true (x ∷ xs) (y ∷ ys) e = ap₂ _∷_ (eqb-true x y (and-left (eqb x y) (same xs ys) e)) (same-true xs ys (and-right (eqb x y) (same xs ys) e))
+
+pub same-long : (xs ys : List ℕ) → (length xs ≡ length ys → ⊥) → same xs ys ≡ false
+unfolding same
+same-long [] [] n = absurd (n refl)
+same-long [] (y ∷ ys) n = refl
+same-long (x ∷ xs) [] n = refl
+same-long (x ∷ xs) (y ∷ ys) n = go (eqb x y) (same-long xs ys (λ e. n (ap suc e)))
+  where
+    go : (t : Bool) → same xs ys ≡ false → (t && same xs ys) ≡ false
+    go true e = e
+    go false e = refl

@@ -9,20 +9,26 @@
 --     any-found      the element at i passes: some element does
 --     any-passed     i is past the end: none does
 -- A test of all, likewise: all-on, all-failed, all-passed.
+-- A comparison, with the invariant `same (drop i xs) (drop i ys) ≡ same xs ys`:
+--     same-on        the elements at i are equal: the invariant holds at i + 1
+--     same-not       they differ: so do the lists
+--     same-end       i is past both ends: the lists are equal
 -- A loop that stores `f` of each element in its place, with the invariant `Mapped f xs ys i`:
 --     map-on         after the store at i the invariant holds at i + 1
 --     map-done       i is past the end: the list is `map f xs`
 -- Assumes nothing.
 use mathlib.Core.Path.{_≡_, refl, ap, sym, _∙_}
-use mathlib.Core.Bool.{Bool, true, false, cond}
+use mathlib.Core.Bool.{Bool, true, false, cond, _&&_}
 use mathlib.Core.List.{List, [], _∷_, map}
 use Prim.Native.Nat.{ℕ, zero, suc, _+_, _≤_, _<_}
 use native.Mathlib.Nat.{not-suc-le-zero, le-of-suc-le-suc}
 use native.Mathlib.Numerals.{add-one}
 use native.Mathlib.Omega.{arith}
+use lib.Dec.{eqb}
+use borrow.Author.Tests.{eq-eqb, ne-eqb}
 use lib.ListN.{length, getD, drop, set, drop-of-length-le}
 use lib.Seq.{drop-cons}
-use Rattle.laws.specs.Lists.{firstAt, any, all, mapFirst}
+use Rattle.laws.specs.Lists.{firstAt, any, all, mapFirst, same}
 
 -- no element before i passes the test
 abbrev pub Searched : {A : Type 0} → (A → Bool) → List A → ℕ → Type 0
@@ -108,3 +114,18 @@ module _ {A : Type 0} (f : A → A) (d : A) where
 
     pub map-done : length xs ≤ i → ys ≡ map f xs
     map-done h = inv ∙ map-all xs i h
+
+module _ (xs ys : List ℕ) (i : ℕ) (h : i < length xs) (k : i < length ys) where
+  same-drop : same (drop i xs) (drop i ys) ≡ (eqb (getD xs i 0) (getD ys i 0) && same (drop (i + 1) xs) (drop (i + 1) ys))
+  unfolding same
+  same-drop = rw (add-one, drop-cons xs i 0 h, drop-cons ys i 0 k)
+
+  pub same-on : getD xs i 0 ≡ getD ys i 0 → same (drop i xs) (drop i ys) ≡ same xs ys → same (drop (i + 1) xs) (drop (i + 1) ys) ≡ same xs ys
+  same-on e inv = rw (same-drop, eq-eqb _ _ e) at inv
+
+  pub same-not : (getD xs i 0 ≡ getD ys i 0 → ⊥) → same (drop i xs) (drop i ys) ≡ same xs ys → false ≡ same xs ys
+  same-not n inv = rw (same-drop, ne-eqb _ _ n) at inv
+
+pub same-end : (xs ys : List ℕ) (i : ℕ) → length xs ≤ i → length ys ≤ i → same (drop i xs) (drop i ys) ≡ same xs ys → true ≡ same xs ys
+unfolding same
+same-end xs ys i h k inv = rw (drop-of-length-le xs h, drop-of-length-le ys k) at inv
