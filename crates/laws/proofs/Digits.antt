@@ -192,6 +192,23 @@ unfolding down
 down-down j zero p = ap (λ (k : ℕ). down k p) (sym (add-zero j))
 down-down j (suc n) p = down-down j n (p / 10) ∙ ap (λ (k : ℕ). down k p) (sym (add-suc j n))
 
+pub down-next : (n p : ℕ) → down (n + 1) p ≡ down n p / 10
+unfolding down
+down-next n p = let e : n + 1 ≡ 1 + n = omega arith in ap (λ (k : ℕ). down k p) e ∙ sym (down-down 1 n p)
+
+-- without the digits that were read, what stood before them is left
+pub down-spelt : (l : List ℕ) (n : ℕ) → allDigits l ≡ true → down (length l) (spelt n l) ≡ n
+unfolding all spelt
+down-spelt [] n p = unfold down in refl
+down-spelt (x ∷ l) n p =
+    let d = and-left (isDigit x) (allDigits l) p in
+    let high : (n * 10 + (x - 48)) / 10 ≡ n = omega (arith, digit-low x d, digit-high x d) in
+    let e : suc (length l) ≡ length l + 1 = omega arith in
+    ap (λ (k : ℕ). down k (spelt (n * 10 + (x - 48)) l)) e
+    ∙ down-next (length l) (spelt (n * 10 + (x - 48)) l)
+    ∙ ap (λ (m : ℕ). m / 10) (down-spelt l (n * 10 + (x - 48)) (and-right (isDigit x) (allDigits l) p))
+    ∙ high
+
 -- ---- a field of a fixed width: k digits and nothing before them
 pub down-small : (k n : ℕ) → n < 10 ^ k → down k n ≡ 0
 unfolding down

@@ -4,7 +4,7 @@ use native.Mathlib.Nat.{add-zero, add-suc, suc-add}
 use native.Mathlib.Numerals.{add-one}
 use native.Mathlib.Omega.{arith}
 use mathlib.Core.Path.{_≡_, refl, sym, ap, ap₂, _∙_}
-use mathlib.Core.Bool.{Bool, true, false, cond, not, _&&_}
+use mathlib.Core.Bool.{Bool, true, false, cond, not, _&&_, true≢false}
 use mathlib.Core.List.{List, [], _∷_, _++_}
 use lib.ListN.{length, getD, take, drop, length-drop, drop-of-length-le}
 use lib.Seq.{drop-cons, drop-drop, length-take-le}
@@ -13,7 +13,8 @@ use borrow.Author.Tests.{eq-eqb, ne-eqb, eqb-true, lt-ltb, le-ltb, not-true}
 use Rattle.laws.specs.Lists.{all, firstAt}
 use Rattle.laws.specs.Split.{before, split, joined, isNot, lacks, isSep, between, pieceOf, endOf, behind, EndsAt}
 use mathlib.Core.Logic.{_⊎_, ⊎-elim}
-use Rattle.laws.proofs.Tests.{and-left, and-right, and-true, le-or-lt, cond-le}
+use Rattle.laws.proofs.Tests.{and-left, and-right, le-or-lt, cond-le}
+use Rattle.laws.proofs.Tables.{all-weaker}
 
 -- ---- one element more in front
 before-count : (t : Bool) (b : ℕ) (fs : List (List ℕ)) → 1 ≤ length fs → length (before t b fs) ≡ cond t 1 0 + length fs
@@ -156,3 +157,9 @@ joined-split sep (b ∷ s) = go (eqb b sep) refl (split sep s) (split-some sep s
     go true e (f ∷ fs) h ih = ap₂ _∷_ (sym (eqb-true b sep e)) ih
     go false e (f ∷ []) h ih = ap (_∷_ b) ih
     go false e (f ∷ g ∷ fs) h ih = ap (_∷_ b) ih
+
+-- a list of elements that all pass a test lacks a separator that fails it
+pub lacks-by : (p : ℕ → Bool) (sep : ℕ) → p sep ≡ false → (f : List ℕ) → all p f ≡ true → lacks sep f ≡ true
+unfolding isNot
+lacks-by p sep no-sep f h =
+    all-weaker p (isNot sep) (λ x e. ap not (ne-eqb x sep (λ q. true≢false (sym e ∙ ap p q ∙ no-sep)))) f h

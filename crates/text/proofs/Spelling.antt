@@ -1,13 +1,14 @@
 -- What `digitsOf` says, taken apart and put together. Assumes nothing.
-use Prim.Native.Nat.{ℕ, _≤_}
-use mathlib.Core.Path.{_≡_, refl}
+use Prim.Native.Nat.{ℕ, _^_, _<_, _≤_}
+use mathlib.Core.Path.{_≡_, refl, ap, _∙_}
 use mathlib.Core.Bool.{Bool, true, false, cond}
 use mathlib.Core.List.{List}
 use native.Mathlib.Omega.{arith}
 use lib.Dec.{leb}
 use lib.ListN.{length}
 use borrow.Author.Tests.{le-leb, leb-true}
-use Rattle.laws.specs.Digits.{allDigits, spelt}
+use Rattle.laws.specs.Digits.{allDigits, spelt, digits}
+use Rattle.laws.proofs.Digits.{length-digits, all-digits, width-trip, width-back, width-below}
 use Rattle.text.specs.declared.Spelt.{Spelt}
 use Rattle.text.specs.declared.Spelt.the-variants.{Value, Fault}
 use Rattle.text.specs.Spelt.{spells, digitsOf}
@@ -26,3 +27,12 @@ value-inv lead f n e = go (leb (length f) 18) (allDigits f) refl e
     go true true p q = (p, cc)
     go true false p q = absurd (let z : _≡_ {A = ℕ} 0 1 = cc in omega arith)
     go false t p q = absurd (let z : _≡_ {A = ℕ} 0 1 = cc in omega arith)
+
+-- a field of k digits: what was written is read back, and what was read is written again
+pub fixed-trip : (k n : ℕ) → k ≤ 18 → n < 10 ^ k → digitsOf false (digits k n) ≡ Value n
+fixed-trip k n h small = value-of false (digits k n) (rw length-digits h) (all-digits k n) ∙ ap Value (width-trip k n small)
+
+pub fixed-back : (k : ℕ) (f : List ℕ) (n : ℕ) → length f ≡ k → digitsOf false f ≡ Value n → (digits k n ≡ f) × (n < 10 ^ k)
+fixed-back k f n e d =
+    let w = value-inv false f n d in
+    (rw (← (w .1), ← e) (width-back f (w .0)), rw (w .1, e) at (width-below f (w .0)))

@@ -1,0 +1,4 @@
+pub mod PartLaws
+pub mod RequestLaws
+pub mod CorrectionLaws
+pub mod ReportLaws
