@@ -23,3 +23,10 @@ isFiled Default = true
 isFiled Correction = true
 isFiled Request = false
 isFiled Response = false
+
+-- whether the kind's tables ask for a closing record
+abbrev pub hasClosing : FileKind → Bool
+hasClosing Default = true
+hasClosing Correction = true
+hasClosing Request = false
+hasClosing Response = true

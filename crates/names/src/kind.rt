@@ -1,6 +1,6 @@
 // The kinds of files. Default and correction files are filed; request and response files are only read and written.
 ghost use mathlib.Core.Path.{_≡_};
-ghost use Rattle.names.specs.Kind.{kindOf, letterOf};
+ghost use Rattle.names.specs.Kind.{kindOf, letterOf, hasClosing};
 
 pub enum FileKind {
     Default,
@@ -36,6 +36,18 @@ impl FileKind {
             FileKind::Correction => 75,
             FileKind::Request => 81,
             FileKind::Response => 82,
+        }
+    }
+
+    // Whether the kind's tables ask for a closing record.
+    pub fn has_closing(self) -> bool
+        ensures { λ r. ⌜ r ≡ hasClosing self ⌝ }
+    {
+        match self {
+            FileKind::Default => true,
+            FileKind::Correction => true,
+            FileKind::Request => false,
+            FileKind::Response => true,
         }
     }
 }
