@@ -5,3 +5,5 @@ pub mod NumberLaws
 pub mod CorrectionCodeLaws
 pub mod DateLaws
 pub mod ByteLaws
+pub mod WordLaws
+pub mod Examples

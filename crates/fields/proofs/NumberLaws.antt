@@ -98,7 +98,7 @@ unfolding digits sizeOf
 empty-text = refl
 
 -- a field that fits and is not empty has digits
-size-some : (d : Digits) → digitsFits d ≡ true → isEmpty d ≡ false → digitsSize d ≡ 0 → ⊥
+pub size-some : (d : Digits) → digitsFits d ≡ true → isEmpty d ≡ false → digitsSize d ≡ 0 → ⊥
 unfolding down
 size-some d p e z = eqb-false (d .0) 1 e (rw z at (fits-leads d p))
 
@@ -119,6 +119,15 @@ module _ (n : Number) (p : numberFits n ≡ true) where
   block-ends : isEmpty (n .last) ≡ false → digitsFits (n .last) ≡ true
   unfolding blockFits
   block-ends e = and-left (digitsFits (n .last)) _ (and-right (digitsFits (n .first)) _ (block-whole e))
+
+  pub last-size : digitsSize (n .last) ≤ 11
+  last-size = go (isEmpty (n .last)) refl
+    where
+      go : (t : Bool) → isEmpty (n .last) ≡ t → digitsSize (n .last) ≤ 11
+      go true e =
+          let one : n .last .0 ≡ 1 = eqb-true (n .last .0) 1 e in
+          omega (arith, size-none 12 (n .last .0) (omega arith))
+      go false e = fits-size (n .last) (block-ends e)
 
   -- what was written is read back
   pub number-trip : numberOf (n .first) (digitsText (n .last)) ≡ NumberRead.Number n

@@ -6,3 +6,4 @@ pub mod Block
 pub mod Number
 pub mod Gaining
 pub mod Bytes
+pub mod Examples

@@ -14,7 +14,7 @@ use Rattle.laws.specs.Lists.{all, firstAt}
 use Rattle.laws.specs.Split.{before, split, joined, isNot, lacks, isSep, between, pieceOf, endOf, behind, EndsAt}
 use mathlib.Core.Logic.{_⊎_, ⊎-elim}
 use Rattle.laws.proofs.Tests.{and-left, and-right, le-or-lt, cond-le}
-use Rattle.laws.proofs.Tables.{all-weaker}
+use Rattle.laws.proofs.Tables.{all-weaker, all-append}
 
 -- ---- one element more in front
 before-count : (t : Bool) (b : ℕ) (fs : List (List ℕ)) → 1 ≤ length fs → length (before t b fs) ≡ cond t 1 0 + length fs
@@ -163,3 +163,12 @@ pub lacks-by : (p : ℕ → Bool) (sep : ℕ) → p sep ≡ false → (f : List 
 unfolding isNot
 lacks-by p sep no-sep f h =
     all-weaker p (isNot sep) (λ x e. ap not (ne-eqb x sep (λ q. true≢false (sym e ∙ ap p q ∙ no-sep)))) f h
+
+-- what passes in the pieces and in the separator passes in the pieces joined
+pub all-joined : (q : ℕ → Bool) (sep : ℕ) → q sep ≡ true → (fs : List (List ℕ)) → all (all q) fs ≡ true → all q (joined sep fs) ≡ true
+unfolding all
+all-joined q sep s [] h = refl
+all-joined q sep s (f ∷ []) h = and-left (all q f) true h
+all-joined q sep s (f ∷ g ∷ fs) h =
+    all-append q f (sep ∷ joined sep (g ∷ fs))
+    ∙ rw (and-left (all q f) (all (all q) (g ∷ fs)) h, s) (all-joined q sep s (g ∷ fs) (and-right (all q f) (all (all q) (g ∷ fs)) h))
