@@ -2,12 +2,13 @@
 --     length-closing, short-closing     how long it is
 --     begins-closing                    it begins as it should
 --     lacks-closing                     it holds no CR
+--     begins-not                        which lines do not begin so
 use Prim.Native.Nat.{ℕ, suc, _+_, _^_, _<_, _≤_}
 use native.Mathlib.Omega.{arith}
 use mathlib.Core.Path.{_≡_, refl, sym, ap, _∙_}
 use mathlib.Core.Bool.{Bool, true, false, not}
 use mathlib.Core.List.{List, [], _∷_, _++_}
-use lib.ListN.{length, take, length-append}
+use lib.ListN.{length, take, drop, length-append, take-append-drop}
 use lib.Seq.{take-all}
 use borrow.Author.Tests.{ne-eqb}
 use Rattle.laws.specs.Digits.{isDigit, digits, sizeOf}
@@ -17,7 +18,7 @@ use Rattle.laws.specs.Split.{isNot, lacks}
 use Rattle.laws.proofs.Tables.{all-append, all-weaker}
 use Rattle.laws.proofs.Digits.{digit-low, all-digits, length-digits, size-small}
 use Rattle.laws.specs.Overlay.{Laid}
-use Rattle.laws.proofs.Lists.{same-refl, same-long}
+use Rattle.laws.proofs.Lists.{same-refl, same-true, same-long}
 use Rattle.laws.proofs.Overlay.{laid-then}
 use Rattle.closing.specs.Closing.{closingWord, decimal, closingText, begins}
 
@@ -58,3 +59,14 @@ unfolding closingText decimal all isNot
 lacks-closing n =
     all-append (isNot 13) (decimal n) (44 ∷ [])
     ∙ rw (all-weaker isDigit (isNot 13) digit-no-end (decimal n) (all-digits (suc (sizeOf n n)) n))
+
+-- a line without an 'e' (101) does not begin so
+pub begins-not : (l : List ℕ) → lacks 101 l ≡ true → begins l ≡ false
+unfolding begins all isNot
+begins-not l h = go (same (take 13 l) closingWord) refl
+  where
+    go : (t : Bool) → same (take 13 l) closingWord ≡ t → t ≡ false
+    go true e =
+        let whole : l ≡ closingWord ++ drop 13 l = sym (take-append-drop 13 l) ∙ ap (λ (f : List ℕ). f ++ drop 13 l) (same-true (take 13 l) closingWord e) in
+        sym h ∙ ap (lacks 101) whole
+    go false e = refl

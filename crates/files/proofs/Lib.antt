@@ -4,3 +4,6 @@ pub mod GroupLaws
 pub mod LayLaws
 pub mod WroteLaws
 pub mod LineTrip
+pub mod FileTrip
+pub mod Cursor
+pub mod ValueTrip

@@ -44,12 +44,14 @@ module _ (sep : ℕ) (none : fieldByte sep ≡ false) (p : Part) where
   pub fields-lack : all (lacks sep) (fieldsOf p) ≡ true
   unfolding all
   fields-lack =
-      rw (lacks-by fieldByte sep none (digitsText (p .number .first)) (bytes-digits (digitsSize (p .number .first)) (p .number .first .0)),
+      rw (
+        lacks-by fieldByte sep none (digitsText (p .number .first)) (bytes-digits (digitsSize (p .number .first)) (p .number .first .0)),
         lacks-by fieldByte sep none (digitsText (p .number .last)) (bytes-digits (digitsSize (p .number .last)) (p .number .last .0)),
         lacks-by fieldByte sep none (maybeDateText (p .date)) (bytes-maybe-date (p .date)),
         lacks-by fieldByte sep none (maybeCodeText (p .gaining)) (bytes-maybe-code (p .gaining)),
         lacks-by fieldByte sep none (maybeCodeText (p .losing)) (bytes-maybe-code (p .losing)),
-        lacks-by fieldByte sep none (maybeKindText (p .kind)) (bytes-maybe-kind (p .kind)))
+        lacks-by fieldByte sep none (maybeKindText (p .kind)) (bytes-maybe-kind (p .kind)),
+      )
 
 module _ (p : Part) where
   comma-none : fieldByte 44 ≡ false
@@ -125,8 +127,7 @@ module _ (a b c d e f : List ℕ) (p : Part) where
       let b₄ = maybe-code-back d (x₄ .0) (x₄ .1) in
       let b₅ = maybe-code-back e (x₅ .0) (x₅ .1) in
       let b₆ = maybe-kind-back f (x₆ .0) (x₆ .1) in
-      let t₁ : digitsText (x₂ .0 .first) ≡ a = ap digitsText (b₂ .0) ∙ b₁ .0 in
-      (
+      let t₁ : digitsText (x₂ .0 .first) ≡ a = ap digitsText (b₂ .0) ∙ b₁ .0 in (
         ap fieldsOf (sym same) ∙ (λ i. t₁ i ∷ b₂ .1 i ∷ b₃ .0 i ∷ b₄ .0 i ∷ b₅ .0 i ∷ b₆ i ∷ []),
         ap partFits (sym same) ∙ and-true _ _ (b₂ .2) (and-true _ _ (b₃ .1) (and-true _ _ (b₄ .1) (b₅ .1))),
       )

@@ -38,12 +38,14 @@ module _ (p : Part) where
   unfolding all
   field-bytes =
       let d : (f : List ℕ) → all fieldByte f ≡ true → all partByte f ≡ true = λ f h. all-weaker fieldByte partByte weak f h in
-      rw (d (digitsText (p .number .first)) (bytes-digits (digitsSize (p .number .first)) (p .number .first .0)),
+      rw (
+        d (digitsText (p .number .first)) (bytes-digits (digitsSize (p .number .first)) (p .number .first .0)),
         d (digitsText (p .number .last)) (bytes-digits (digitsSize (p .number .last)) (p .number .last .0)),
         d (maybeDateText (p .date)) (bytes-maybe-date (p .date)),
         d (maybeCodeText (p .gaining)) (bytes-maybe-code (p .gaining)),
         d (maybeCodeText (p .losing)) (bytes-maybe-code (p .losing)),
-        d (maybeKindText (p .kind)) (bytes-maybe-kind (p .kind)))
+        d (maybeKindText (p .kind)) (bytes-maybe-kind (p .kind)),
+      )
 
   pub part-bytes : all partByte (partText p) ≡ true
   unfolding partText partByte fieldByte isDigit

@@ -82,8 +82,7 @@ whole-back p r h =
     let l = sym (x₂ .1) in
     let k = sym (x₃ .1) in
     let own : reportPart (record { number = p .number; date = x₁ .0; gaining = gainingOf (p .gaining); losing = x₂ .0; kind = x₃ .0 }) ≡ p =
-    (λ i. record { number = p .number; date = d i; gaining = g i; losing = l i; kind = k i }) in
-    (
+    (λ i. record { number = p .number; date = d i; gaining = g i; losing = l i; kind = k i }) in (
       ap reportPart (sym same) ∙ own,
       ap (λ (q : Report). isEmpty (q .number .first)) (sym same) ∙ x₀ .0,
       ap (λ (q : Report). isNamed (gainingField (q .gaining)) (q .kind)) (sym same) ∙ ap (λ (f : MaybeCode). isNamed f (x₃ .0)) g ∙ x₄ .0,
