@@ -224,3 +224,12 @@ width-back l p = rw zero-add at (digits-spelt l 0 0 p)
 
 pub width-below : (l : List ℕ) → allDigits l ≡ true → spelt 0 l < 10 ^ length l
 width-below l p = omega (arith, spelt-below l 0 p)
+
+-- a number of at most k + 1 digits
+pub size-small : (k f n : ℕ) → n < 10 ^ suc k → sizeOf f n ≤ k
+unfolding sizeOf
+size-small k zero n h = omega arith
+size-small zero (suc f) n h = rw (lt-ltb n 10 (omega arith)) (omega arith)
+size-small (suc k) (suc f) n h =
+    let less : n / 10 < 10 ^ suc k = omega (arith, pow-succ' 10 (suc k)) in
+    size-step (ltb n 10) k (sizeOf f (n / 10)) (size-small k f (n / 10) less)

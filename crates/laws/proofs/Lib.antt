@@ -17,3 +17,4 @@ pub mod ByKey
 pub mod Keys
 pub mod Rising
 pub mod Split
+pub mod Ended

@@ -166,6 +166,11 @@ laid-length {o} {l} {o₁} {at} p = ap length (p .bytes) ∙ length-overlay o at
 pub laid-part : {o l o₁ : List ℕ} {at n : ℕ} → at + length l ≤ length o → Laid o at l o₁ n → part o₁ at (length l) ≡ l
 laid-part {o} {l} {o₁} {at} h p = ap (λ (x : List ℕ). part x at (length l)) (p .bytes) ∙ part-same o at l (length l) h refl
 
+-- what was laid from the start on stands in front
+pub laid-front : {o l o₁ : List ℕ} {n : ℕ} → length l ≤ length o → Laid o 0 l o₁ n → take n o₁ ≡ l
+unfolding part
+laid-front {o} {l} {o₁} h p = ap (λ (k : ℕ). take k o₁) (p .ends ∙ zero-add (length l)) ∙ laid-part (omega arith) p
+
 -- there is room for q behind p, where there is room for a t that is no shorter than both
 pub laid-room : {o p o₁ : List ℕ} {at m : ℕ} → Laid o at p o₁ m → (q t : List ℕ) → length (p ++ q) ≤ length t → at + length t ≤ length o → m + length q ≤ length o₁
 laid-room {o} {p} {o₁} {at} {m} l q t h k = omega (arith, laid-length l, l .ends, length-append p q)

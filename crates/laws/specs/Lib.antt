@@ -7,3 +7,4 @@ pub mod Words
 pub mod Slots
 pub mod Digits
 pub mod Split
+pub mod Ended

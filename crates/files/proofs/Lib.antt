@@ -1,0 +1,9 @@
+pub mod JudgeLaws
+pub mod ReadLaws
+pub mod GroupLaws
+pub mod LayLaws
+pub mod WroteLaws
+pub mod LineTrip
+pub mod FileTrip
+pub mod Cursor
+pub mod ValueTrip

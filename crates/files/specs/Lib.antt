@@ -1,0 +1,6 @@
+pub mod Judged
+pub mod Reading
+pub mod Writing
+pub mod Measuring
+pub mod Cursor
+pub mod Values

@@ -1,0 +1,47 @@
+-- `records::words::put_report` meets its contract. Assumes nothing.
+use Rattle.laws.specs.Overlay.{overlay}
+use native.Mathlib.Omega.{arith}
+use mathlib.Core.Path.{sym, refl, _∙_}
+use borrow.Author.Needs.{needs}
+use Rattle.records.proofs.words.put_report.Statement.{statement}
+use Rattle.records.proofs.words.put_report.Tie as tie
+
+of-words-requires : tie.Need-of-words-requires
+of-words-requires c κs = search needs
+
+enum-known-r : tie.Need-enum-known-r
+enum-known-r c = search needs
+
+write-requires : tie.Need-write-requires
+write-requires c κs =
+    let r = c .before .before in
+    let o = r .before .before in
+    rw (sym (o .of-words .ensures) ∙ r .r .given .1) at (o .before .before .before .pre)
+
+enum-told : tie.Need-enum-told
+enum-told c = search needs
+
+same-length : tie.Need-same-length
+same-length c = search needs
+
+returns : tie.Need-returns
+returns c =
+    let w = c .before .before in
+    let r = w .before .before .before in
+    rw (sym (r .before .before .of-words .ensures) ∙ r .r .given .1) (w .write .ensures)
+
+returns-2 : tie.Need-returns-2
+unfolding overlay
+returns-2 c = rw (sym (c .before .before .of-words .ensures) ∙ c .enum-told .given .1) (record { bytes = refl; ends = omega arith })
+
+pub put-report-spec : {M : Type 1} → statement M
+put-report-spec =
+    tie.close
+    (tie.spec
+    of-words-requires
+    enum-known-r
+    write-requires
+    enum-told
+    same-length
+    returns
+    returns-2)

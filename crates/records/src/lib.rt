@@ -1,0 +1,4 @@
+// The records of files, by the kind of file: reports in default and response files, corrections, requests. A record is read from a line
+// and written from plain words.
+pub mod line;
+pub mod words;
