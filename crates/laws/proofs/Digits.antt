@@ -1,6 +1,6 @@
 -- Reading digits undoes writing them, and the other way round. Assumes nothing.
 use Prim.Native.Nat.{ℕ, zero, suc, _+_, _-_, _*_, _/_, _%_, _^_, _<_, _≤_}
-use native.Mathlib.Nat.{add-zero, mul-assoc, pow-succ', mul-le-mul-right, lt-of-lt-of-le}
+use native.Mathlib.Nat.{add-zero, zero-add, add-suc, mul-assoc, pow-succ', mul-le-mul-right, lt-of-lt-of-le}
 use native.Mathlib.Numerals.{add-one}
 use native.Mathlib.Omega.{arith}
 use mathlib.Core.Path.{_≡_, refl, sym, ap, ap₂, _∙_}
@@ -74,6 +74,11 @@ size-more zero m h k = absurd (omega arith)
 size-more (suc i) m h k =
     let e : i ≡ suc i - 1 = omega arith in
     rw (le-ltb m 10 k) (ap (λ (j : ℕ). suc (sizeOf j (m / 10))) e)
+
+pub size-first : (n most : ℕ) → sizeOf most n ≡ 0 + sizeOf (most - 0) n
+size-first n most =
+    let e : most ≡ most - 0 = omega arith in
+    ap (λ (k : ℕ). sizeOf k n) e ∙ omega arith
 
 -- a turn of `size`
 pub size-turn : (most k m : ℕ) → k < most → 10 ≤ m → k + sizeOf (most - k) m ≡ k + 1 + sizeOf (most - (k + 1)) (m / 10)
@@ -172,3 +177,50 @@ pub size-le : (k n : ℕ) → sizeOf k n ≤ k
 unfolding sizeOf
 size-le zero n = omega arith
 size-le (suc k) n = size-step (ltb n 10) k (sizeOf k (n / 10)) (size-le k (n / 10))
+
+-- ---- the last n digits, and the digits before them
+pub digits-append : (j n p : ℕ) → digits (j + n) p ≡ digits j (down n p) ++ digits n p
+unfolding digits down
+digits-append j zero p = rw (add-zero, append-nil)
+digits-append j (suc n) p =
+    ap (λ (k : ℕ). digits k p) (add-suc j n)
+    ∙ ap (λ (l : List ℕ). l ++ (48 + p % 10) ∷ []) (digits-append j n (p / 10))
+    ∙ append-assoc (digits j (down n (p / 10))) (digits n (p / 10)) ((48 + p % 10) ∷ [])
+
+pub down-down : (j n p : ℕ) → down j (down n p) ≡ down (j + n) p
+unfolding down
+down-down j zero p = ap (λ (k : ℕ). down k p) (sym (add-zero j))
+down-down j (suc n) p = down-down j n (p / 10) ∙ ap (λ (k : ℕ). down k p) (sym (add-suc j n))
+
+pub down-next : (n p : ℕ) → down (n + 1) p ≡ down n p / 10
+unfolding down
+down-next n p = let e : n + 1 ≡ 1 + n = omega arith in ap (λ (k : ℕ). down k p) e ∙ sym (down-down 1 n p)
+
+-- without the digits that were read, what stood before them is left
+pub down-spelt : (l : List ℕ) (n : ℕ) → allDigits l ≡ true → down (length l) (spelt n l) ≡ n
+unfolding all spelt
+down-spelt [] n p = unfold down in refl
+down-spelt (x ∷ l) n p =
+    let d = and-left (isDigit x) (allDigits l) p in
+    let high : (n * 10 + (x - 48)) / 10 ≡ n = omega (arith, digit-low x d, digit-high x d) in
+    let e : suc (length l) ≡ length l + 1 = omega arith in
+    ap (λ (k : ℕ). down k (spelt (n * 10 + (x - 48)) l)) e
+    ∙ down-next (length l) (spelt (n * 10 + (x - 48)) l)
+    ∙ ap (λ (m : ℕ). m / 10) (down-spelt l (n * 10 + (x - 48)) (and-right (isDigit x) (allDigits l) p))
+    ∙ high
+
+-- ---- a field of a fixed width: k digits and nothing before them
+pub down-small : (k n : ℕ) → n < 10 ^ k → down k n ≡ 0
+unfolding down
+down-small zero n h = omega arith
+down-small (suc k) n h = down-small k (n / 10) (let e : n < 10 * 10 ^ k = rw (← pow-succ' 10 k) h in omega arith)
+
+pub width-trip : (k n : ℕ) → n < 10 ^ k → spelt 0 (digits k n) ≡ n
+width-trip k n h = rw (down-small k n h) at (spelt-digits k n)
+
+pub width-back : (l : List ℕ) → allDigits l ≡ true → digits (length l) (spelt 0 l) ≡ l
+unfolding digits
+width-back l p = rw zero-add at (digits-spelt l 0 0 p)
+
+pub width-below : (l : List ℕ) → allDigits l ≡ true → spelt 0 l < 10 ^ length l
+width-below l p = omega (arith, spelt-below l 0 p)

@@ -16,3 +16,4 @@ pub mod Order
 pub mod ByKey
 pub mod Keys
 pub mod Rising
+pub mod Split

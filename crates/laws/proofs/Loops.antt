@@ -3,6 +3,7 @@
 --     search-on      the element at i fails the test: the invariant holds at i + 1
 --     search-here    the element at i passes: i is the first place
 --     search-none    i is past the end: i is the first place, and the length
+--     first-on, first-here, first-none    the same turns, for a search that began anywhere
 -- A search for any, with the invariant `any p (drop i xs) ≡ any p xs`:
 --     any-on         the element at i fails the test: the invariant holds at i + 1
 --     any-found      the element at i passes: some element does
@@ -31,21 +32,26 @@ Searched p xs i = i + firstAt p (drop i xs) ≡ firstAt p xs
 abbrev pub Mapped : {A : Type 0} → (A → A) → List A → List A → ℕ → Type 0
 Mapped f xs ys i = ys ≡ mapFirst f i xs
 
+-- one turn of the search, wherever it began
+module _ {A : Type 0} (f : A → Bool) (d : A) (xs : List A) (i : ℕ) where
+  pub first-on : i < length xs → f (getD xs i d) ≡ false → i + firstAt f (drop i xs) ≡ (i + 1) + firstAt f (drop (i + 1) xs)
+  first-on h e = rw (add-one, drop-cons xs i d h, e) (omega arith)
+
+  pub first-here : i < length xs → f (getD xs i d) ≡ true → i + firstAt f (drop i xs) ≡ i
+  first-here h e = rw (drop-cons xs i d h, e) (omega arith)
+
+  pub first-none : length xs ≤ i → i + firstAt f (drop i xs) ≡ i
+  first-none h = rw (drop-of-length-le xs h) (omega arith)
+
 module _ {A : Type 0} (f : A → Bool) (d : A) (xs : List A) (i : ℕ) (inv : Searched f xs i) where
   pub search-on : i < length xs → f (getD xs i d) ≡ false → Searched f xs (i + 1)
-  search-on h e =
-      let step : i + firstAt f (drop i xs) ≡ (i + 1) + firstAt f (drop (i + 1) xs) = rw (add-one, drop-cons xs i d h, e) (omega arith) in
-      sym step ∙ inv
+  search-on h e = sym (first-on f d xs i h e) ∙ inv
 
   pub search-here : i < length xs → f (getD xs i d) ≡ true → i ≡ firstAt f xs
-  search-here h e =
-      let stop : i + firstAt f (drop i xs) ≡ i = rw (drop-cons xs i d h, e) (omega arith) in
-      sym stop ∙ inv
+  search-here h e = sym (first-here f d xs i h e) ∙ inv
 
   pub search-none : length xs ≤ i → i ≡ firstAt f xs
-  search-none h =
-      let stop : i + firstAt f (drop i xs) ≡ i = rw (drop-of-length-le xs h) (omega arith) in
-      sym stop ∙ inv
+  search-none h = sym (first-none f d xs i h) ∙ inv
 
 module _ {A : Type 0} (p : A → Bool) (d : A) (xs : List A) (i : ℕ) where
   any-drop : i < length xs → any p (drop i xs) ≡ any p (getD xs i d ∷ drop (i + 1) xs)

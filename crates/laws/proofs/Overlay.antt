@@ -170,6 +170,20 @@ laid-part {o} {l} {o₁} {at} h p = ap (λ (x : List ℕ). part x at (length l))
 pub laid-room : {o p o₁ : List ℕ} {at m : ℕ} → Laid o at p o₁ m → (q t : List ℕ) → length (p ++ q) ≤ length t → at + length t ≤ length o → m + length q ≤ length o₁
 laid-room {o} {p} {o₁} {at} {m} l q t h k = omega (arith, laid-length l, l .ends, length-append p q)
 
+-- ---- room for what is left to write
+pub record Room (o : List ℕ) (at : ℕ) (t : List ℕ) : Type 0 where
+  pub fits : at + length t ≤ length o
+
+-- for the first list of two, for a first element, and once a list is written, for the rest
+pub room-first : (a t : List ℕ) {o : List ℕ} {at : ℕ} → Room o at (a ++ t) → at + length a ≤ length o
+room-first a t r = omega (arith, r .fits, length-append a t)
+
+pub room-byte : {y : ℕ} {t o : List ℕ} {at : ℕ} → Room o at (y ∷ t) → at < length o
+room-byte r = omega (arith, r .fits)
+
+pub room-next : (t : List ℕ) {o a o₁ : List ℕ} {at m : ℕ} → Room o at (a ++ t) → Laid o at a o₁ m → Room o₁ m t
+room-next t {o} {a} r l = record { fits = omega (arith, r .fits, laid-length l, l .ends, length-append a t) }
+
 -- `Laid` settles the buffer and the place behind
 pub laid-same : {o l o₁ o₂ : List ℕ} {at m n : ℕ} → Laid o at l o₁ m → Laid o at l o₂ n → (o₁ ≡ o₂) × (m ≡ n)
 laid-same p q = (p .bytes ∙ sym (q .bytes), p .ends ∙ sym (q .ends))

@@ -4,7 +4,9 @@
 -- Assumes nothing.
 use mathlib.Core.Path.{_≡_, refl, sym, ap, _∙_}
 use mathlib.Core.Bool.{Bool, true, false, _&&_, _||_, and-true, and-false, false-and, and-assoc, or-false, or-true, true-or, or-assoc}
+use mathlib.Core.Logic.{⊎-elim}
 use native.Mathlib.Decide.{ℕ-discrete, le-ind}
+use native.Mathlib.Nat.{eq-or-lt-of-le}
 use mathlib.Core.List.{List, [], _∷_, _++_}
 use Prim.Native.Nat.{ℕ, zero, suc, _+_, _≤_, _<_}
 use native.Mathlib.Numerals.{add-one}
@@ -36,13 +38,32 @@ module _ {A : Type 0} where
   all-more p [] x = and-true (p x)
   all-more p (y ∷ xs) x = ap (λ (b : Bool). p y && b) (all-more p xs x) ∙ sym (and-assoc (p y) (all p xs) (p x))
 
-  -- a search through a table: nothing yet; not here; here
+  pub all-append : (p : A → Bool) (xs ys : List A) → all p (xs ++ ys) ≡ (all p xs && all p ys)
+  unfolding all
+  all-append p [] ys = refl
+  all-append p (x ∷ xs) ys = ap (λ (b : Bool). p x && b) (all-append p xs ys) ∙ sym (and-assoc (p x) (all p xs) (all p ys))
+
+  -- what passes a test passes a weaker one
+  pub all-weaker : (p q : A → Bool) → ((x : A) → p x ≡ true → q x ≡ true) → (xs : List A) → all p xs ≡ true → all q xs ≡ true
+  unfolding all
+  all-weaker p q h [] e = refl
+  all-weaker p q h (x ∷ xs) e = rw (h x (and-left (p x) (all p xs) e)) (all-weaker p q h xs (and-right (p x) (all p xs) e))
+
+  -- a search through a table: nothing yet; not here; here; nor anywhere further on
   pub any-none : (p : A → Bool) (f : ℕ → A) → any p (table 0 f) ≡ false
   unfolding any table
   any-none p f = refl
 
   pub any-next : (p : A → Bool) (n : ℕ) (f : ℕ → A) → any p (table n f) ≡ false → p (f n) ≡ false → any p (table (n + 1) f) ≡ false
   any-next p n f h k = ap (any p) (table-more n f) ∙ any-more p (table n f) (f n) ∙ rw (h, k)
+
+  pub any-stops : (p : A → Bool) (n k : ℕ) (f : ℕ → A) → n ≤ k → any p (table n f) ≡ false → ((i : ℕ) → n ≤ i → i < k → p (f i) ≡ false) → any p (table k f) ≡ false
+  any-stops p n zero f h e none = rw (← (let z : n ≡ 0 = omega arith in z)) e
+  any-stops p n (suc k) f h e none =
+      ⊎-elim
+      (λ (q : n ≡ suc k). rw (← q) e)
+      (λ (q : n < suc k). rw (← (add-one k)) (any-next p k f (any-stops p n k f (omega arith) e (λ i a b. none i a (omega arith))) (none k (omega arith) (omega arith))))
+      (eq-or-lt-of-le h)
 
   pub any-here : (p : A → Bool) (n i : ℕ) (f : ℕ → A) → i < n → p (f i) ≡ true → any p (table n f) ≡ true
   unfolding table

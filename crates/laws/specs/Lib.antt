@@ -6,3 +6,4 @@ pub mod Overlay
 pub mod Words
 pub mod Slots
 pub mod Digits
+pub mod Split

@@ -3,6 +3,7 @@
 use Prim.Native.Nat.{ℕ, zero, suc, _+_}
 use mathlib.Core.Bool.{Bool, true, false, cond, _&&_, _||_}
 use mathlib.Core.List.{List, [], _∷_, _++_}
+use lib.Dec.{eqb}
 
 module _ {A : Type 0} where
   -- f 0, f 1, .., f (n - 1)
@@ -57,3 +58,10 @@ module _ {A : Type 0} where
   sameLists same [] (y ∷ ys) = false
   sameLists same (x ∷ xs) [] = false
   sameLists same (x ∷ xs) (y ∷ ys) = same x y && sameLists same xs ys
+
+-- whether two lists of numbers are equal, place by place
+unfoldable pub same : List ℕ → List ℕ → Bool
+same [] [] = true
+same [] (y ∷ ys) = false
+same (x ∷ xs) [] = false
+same (x ∷ xs) (y ∷ ys) = eqb x y && same xs ys

@@ -1,0 +1,9 @@
+pub mod PartLaws
+pub mod PartTrip
+pub mod RecordBytes
+pub mod ReportLaws
+pub mod RequestLaws
+pub mod RequestTrip
+pub mod CorrectionLaws
+pub mod CorrectionTrip
+pub mod Records

@@ -1,0 +1,183 @@
+-- A part: which way its readers go, what is left to write, and how long its text is. Assumes nothing.
+use Prim.Native.Nat.{ℕ, _+_, _-_, _≤_}
+use native.Mathlib.Omega.{arith}
+use mathlib.Core.Path.{_≡_, refl, sym, ap, _∙_}
+use mathlib.Core.Bool.{Bool, true, false, cond, _&&_}
+use mathlib.Core.List.{List, [], _∷_, _++_}
+use lib.ListN.{length, getD, length-append}
+use borrow.Author.Tests.{eq-eqb, ne-eqb}
+use Rattle.laws.specs.Split.{split, pieceOf, joined}
+use Rattle.laws.proofs.Digits.{length-digits, size-le}
+use Rattle.laws.proofs.Overlay.{Room}
+use Rattle.fields.specs.declared.code.MaybeCode.{MaybeCode}
+use Rattle.fields.specs.declared.code.MaybeCodeRead.{MaybeCodeRead}
+use Rattle.fields.specs.declared.date.MaybeDate.{MaybeDate}
+use Rattle.fields.specs.declared.date.MaybeDateRead.{MaybeDateRead}
+use Rattle.fields.specs.declared.kind.MaybeKind.{MaybeKind}
+use Rattle.fields.specs.declared.kind.MaybeKindRead.{MaybeKindRead}
+use Rattle.fields.specs.declared.number.Digits.{Digits}
+use Rattle.fields.specs.declared.number.DigitsRead.{DigitsRead}
+use Rattle.fields.specs.declared.number.Number.{Number}
+use Rattle.fields.specs.declared.number.NumberRead.{NumberRead}
+use Rattle.fields.specs.Code.{maybeCodeOf, maybeCodeOfWord, maybeCodeText}
+use Rattle.fields.specs.Date.{maybeDateOf, maybeDateOfWord, maybeDateText}
+use Rattle.fields.specs.Kind.{maybeKindOf, maybeKindOfWord, maybeKindText}
+use Rattle.fields.specs.Number.{digitsFieldOf, digitsText, digitsSize, numberOf, numberFits}
+use Rattle.fields.proofs.CodeLaws.{length-code}
+use Rattle.fields.proofs.DateLaws.{length-date}
+use Rattle.fields.proofs.KindLaws.{length-kind}
+use Rattle.fields.proofs.NumberLaws.{length-field}
+use Rattle.layout.specs.declared.part.Part.{Part}
+use Rattle.layout.specs.declared.part.PartRead.{PartRead}
+use Rattle.layout.specs.declared.part.PartRead.the-variants.{Fault}
+use Rattle.layout.specs.Part.{sixOf, partOf, restOfWords, numberOfWords, partOfWords, partText}
+
+-- ---- how many fields there are
+module _ (s : List ℕ) where
+  pub part-count : (length (split 44 s) - 1 ≡ 5 → ⊥) → partOf s ≡ Fault
+  unfolding partOf
+  part-count n = rw (ne-eqb (length (split 44 s)) 6 (λ e. n (omega arith)))
+
+  pub part-six : length (split 44 s) - 1 ≡ 5 → partOf s ≡ sixOf (pieceOf 44 s 0) (pieceOf 44 s 1) (pieceOf 44 s 2) (pieceOf 44 s 3) (pieceOf 44 s 4) (pieceOf 44 s 5)
+  unfolding partOf
+  part-six e = rw (eq-eqb (length (split 44 s)) 6 (omega arith))
+
+-- ---- which way the six fields go
+module _ (a b c d e f : List ℕ) where
+  pub six-1 : digitsFieldOf a ≡ DigitsRead.Fault → sixOf a b c d e f ≡ Fault
+  unfolding sixOf
+  six-1 p₁ = rw p₁
+
+  module _ {first : Digits} (p₁ : digitsFieldOf a ≡ DigitsRead.Digits first) where
+    pub six-2 : numberOf first b ≡ NumberRead.Fault → sixOf a b c d e f ≡ Fault
+    unfolding sixOf
+    six-2 p₂ = rw (p₁, p₂)
+
+    module _ {number : Number} (p₂ : numberOf first b ≡ NumberRead.Number number) where
+      pub six-3 : maybeDateOf c ≡ MaybeDateRead.Fault → sixOf a b c d e f ≡ Fault
+      unfolding sixOf
+      six-3 p₃ = rw (p₁, p₂, p₃)
+
+      module _ {date : MaybeDate} (p₃ : maybeDateOf c ≡ MaybeDateRead.MaybeDate date) where
+        pub six-4 : maybeCodeOf d ≡ MaybeCodeRead.Fault → sixOf a b c d e f ≡ Fault
+        unfolding sixOf
+        six-4 p₄ = rw (p₁, p₂, p₃, p₄)
+
+        module _ {gaining : MaybeCode} (p₄ : maybeCodeOf d ≡ MaybeCodeRead.MaybeCode gaining) where
+          pub six-5 : maybeCodeOf e ≡ MaybeCodeRead.Fault → sixOf a b c d e f ≡ Fault
+          unfolding sixOf
+          six-5 p₅ = rw (p₁, p₂, p₃, p₄, p₅)
+
+          module _ {losing : MaybeCode} (p₅ : maybeCodeOf e ≡ MaybeCodeRead.MaybeCode losing) where
+            pub six-6 : maybeKindOf f ≡ MaybeKindRead.Fault → sixOf a b c d e f ≡ Fault
+            unfolding sixOf
+            six-6 p₆ = rw (p₁, p₂, p₃, p₄, p₅, p₆)
+
+            pub six-7 : {kind : MaybeKind} → maybeKindOf f ≡ MaybeKindRead.MaybeKind kind → sixOf a b c d e f ≡ PartRead.Part (record { number = number; date = date; gaining = gaining; losing = losing; kind = kind })
+            unfolding sixOf
+            six-7 p₆ = rw (p₁, p₂, p₃, p₄, p₅, p₆)
+
+-- ---- which way the words go
+module _ (w : List ℕ) where
+  pub words-count : (length w ≡ 6 → ⊥) → partOfWords w ≡ Fault
+  unfolding partOfWords
+  words-count n = rw (ne-eqb (length w) 6 n)
+
+  module _ (l : length w ≡ 6) where
+    pub words-number : numberFits (numberOfWords w) ≡ false → partOfWords w ≡ Fault
+    unfolding partOfWords
+    words-number p = rw (eq-eqb (length w) 6 l, p)
+
+    pub words-rest : numberFits (numberOfWords w) ≡ true → partOfWords w ≡ restOfWords (numberOfWords w) (getD w 2 0) (getD w 3 0) (getD w 4 0) (getD w 5 0)
+    unfolding partOfWords
+    words-rest p = rw (eq-eqb (length w) 6 l, p)
+
+module _ (number : Number) (c d e f : ℕ) where
+  pub rest-1 : maybeDateOfWord c ≡ MaybeDateRead.Fault → restOfWords number c d e f ≡ Fault
+  unfolding restOfWords
+  rest-1 p₁ = rw p₁
+
+  module _ {date : MaybeDate} (p₁ : maybeDateOfWord c ≡ MaybeDateRead.MaybeDate date) where
+    pub rest-2 : maybeCodeOfWord d ≡ MaybeCodeRead.Fault → restOfWords number c d e f ≡ Fault
+    unfolding restOfWords
+    rest-2 p₂ = rw (p₁, p₂)
+
+    module _ {gaining : MaybeCode} (p₂ : maybeCodeOfWord d ≡ MaybeCodeRead.MaybeCode gaining) where
+      pub rest-3 : maybeCodeOfWord e ≡ MaybeCodeRead.Fault → restOfWords number c d e f ≡ Fault
+      unfolding restOfWords
+      rest-3 p₃ = rw (p₁, p₂, p₃)
+
+      module _ {losing : MaybeCode} (p₃ : maybeCodeOfWord e ≡ MaybeCodeRead.MaybeCode losing) where
+        pub rest-4 : maybeKindOfWord f ≡ MaybeKindRead.Fault → restOfWords number c d e f ≡ Fault
+        unfolding restOfWords
+        rest-4 p₄ = rw (p₁, p₂, p₃, p₄)
+
+        pub rest-5 : {kind : MaybeKind} → maybeKindOfWord f ≡ MaybeKindRead.MaybeKind kind → restOfWords number c d e f ≡ PartRead.Part (record { number = number; date = date; gaining = gaining; losing = losing; kind = kind })
+        unfolding restOfWords
+        rest-5 p₄ = rw (p₁, p₂, p₃, p₄)
+
+-- ---- what is left to write before each of the calls of `write`
+module _ (p : Part) where
+  abbrev pub left11 : List ℕ
+  left11 = maybeKindText (p .kind)
+
+  abbrev pub left10 : List ℕ
+  left10 = 44 ∷ left11
+
+  abbrev pub left9 : List ℕ
+  left9 = maybeCodeText (p .losing) ++ left10
+
+  abbrev pub left8 : List ℕ
+  left8 = 44 ∷ left9
+
+  abbrev pub left7 : List ℕ
+  left7 = maybeCodeText (p .gaining) ++ left8
+
+  abbrev pub left6 : List ℕ
+  left6 = 44 ∷ left7
+
+  abbrev pub left5 : List ℕ
+  left5 = maybeDateText (p .date) ++ left6
+
+  abbrev pub left4 : List ℕ
+  left4 = 44 ∷ left5
+
+  abbrev pub left3 : List ℕ
+  left3 = digitsText (p .number .last) ++ left4
+
+  abbrev pub left2 : List ℕ
+  left2 = 44 ∷ left3
+
+  abbrev pub left1 : List ℕ
+  left1 = digitsText (p .number .first) ++ left2
+
+  pub whole : partText p ≡ left1
+  unfolding partText
+  whole = refl
+
+  pub room-part : (o : List ℕ) (at : ℕ) → at + length (partText p) ≤ length o → Room o at left1
+  room-part o at h = record { fits = rw whole at h }
+
+-- ---- how long the fields are
+pub date-short : (d : MaybeDate) → length (maybeDateText d) ≤ 8
+date-short (MaybeDate.Date d) = omega (arith, length-date d)
+date-short MaybeDate.Empty = omega arith
+
+pub code-short : (c : MaybeCode) → length (maybeCodeText c) ≤ 4
+code-short (MaybeCode.Code c) = omega (arith, length-code c)
+code-short MaybeCode.Empty = omega arith
+
+pub kind-short : (k : MaybeKind) → length (maybeKindText k) ≤ 1
+kind-short (MaybeKind.Kind k) = omega (arith, length-kind k)
+kind-short MaybeKind.Empty = omega arith
+
+pub digits-short : (d : Digits) → digitsSize d ≤ 12
+digits-short d = size-le 12 (d .0)
+
+pub length-part : (p : Part) → length (partText p) ≡ digitsSize (p .number .first) + digitsSize (p .number .last) + length (maybeDateText (p .date)) + length (maybeCodeText (p .gaining)) + length (maybeCodeText (p .losing)) + length (maybeKindText (p .kind)) + 5
+length-part p =
+    rw (whole p) (simp length-append (omega (arith, length-field (p .number .first), length-field (p .number .last))))
+
+pub part-short : (p : Part) → length (partText p) ≤ 46
+part-short p =
+    omega (arith, length-part p, digits-short (p .number .first), digits-short (p .number .last), date-short (p .date), code-short (p .gaining), code-short (p .losing), kind-short (p .kind))

@@ -1,0 +1,4 @@
+pub mod Part
+pub mod Report
+pub mod Request
+pub mod Correction

@@ -1,0 +1,139 @@
+// Six fields, `num1,num2,ddmmyyyy,GAINING,LOSING,STATUS`, each of which may be empty: a report is such a part with
+// nothing missing, and a correction has two.
+ghost use mathlib.Core.Path.{_≡_};
+ghost use Prim.Native.Nat.{_+_, _≤_};
+ghost use lib.ListN.{length};
+ghost use Rattle.laws.specs.Overlay.{Laid};
+ghost use Rattle.layout.specs.Part.{partOf, partOfWords, partText};
+use fields::code::MaybeCode;
+use fields::code::MaybeCodeRead;
+use fields::date::MaybeDate;
+use fields::date::MaybeDateRead;
+use fields::kind::MaybeKind;
+use fields::kind::MaybeKindRead;
+use fields::number::Digits;
+use fields::number::DigitsRead;
+use fields::number::Number;
+use fields::number::NumberRead;
+
+pub struct Part {
+    pub number: Number,
+    pub date: MaybeDate,
+    pub gaining: MaybeCode,
+    pub losing: MaybeCode,
+    pub kind: MaybeKind,
+}
+
+pub enum PartRead {
+    Part(Part),
+    Fault,
+}
+
+impl Part {
+    pub fn read(s: &[u8]) -> PartRead
+        ensures { λ r. ⌜ r ≡ partOf (now (s .entry)) ⌝ }
+    {
+        if text::cuts(s, 44) != 5 {
+            return PartRead::Fault;
+        }
+        let DigitsRead::Digits(first) = Digits::read(text::piece(s, 44, 0)) else {
+            return PartRead::Fault;
+        };
+        let NumberRead::Number(number) = Number::read(first, text::piece(s, 44, 1)) else {
+            return PartRead::Fault;
+        };
+        let MaybeDateRead::MaybeDate(date) = MaybeDate::read(text::piece(s, 44, 2)) else {
+            return PartRead::Fault;
+        };
+        let MaybeCodeRead::MaybeCode(gaining) = MaybeCode::read(text::piece(s, 44, 3)) else {
+            return PartRead::Fault;
+        };
+        let MaybeCodeRead::MaybeCode(losing) = MaybeCode::read(text::piece(s, 44, 4)) else {
+            return PartRead::Fault;
+        };
+        let MaybeKindRead::MaybeKind(kind) = MaybeKind::read(text::piece(s, 44, 5)) else {
+            return PartRead::Fault;
+        };
+        PartRead::Part(Part {
+            number,
+            date,
+            gaining,
+            losing,
+            kind,
+        })
+    }
+
+    // From six plain words, in the order of the fields: the codes of the number fields, 1 for an empty one; a day's
+    // number, 65535 for none; two network codes, 1000 for none; the kind, P 0, L 1, Z 2, 3 for none.
+    pub fn of_words(w: &[u64]) -> PartRead
+        ensures { λ r. ⌜ r ≡ partOfWords (now (w .entry)) ⌝ }
+    {
+        if w.len() != 6 {
+            return PartRead::Fault;
+        }
+        let number = Number {
+            first: Digits(w[0]),
+            last: Digits(w[1]),
+        };
+        if !number.fits() {
+            return PartRead::Fault;
+        }
+        let MaybeDateRead::MaybeDate(date) = MaybeDate::of_word(w[2]) else {
+            return PartRead::Fault;
+        };
+        let MaybeCodeRead::MaybeCode(gaining) = MaybeCode::of_word(w[3]) else {
+            return PartRead::Fault;
+        };
+        let MaybeCodeRead::MaybeCode(losing) = MaybeCode::of_word(w[4]) else {
+            return PartRead::Fault;
+        };
+        let MaybeKindRead::MaybeKind(kind) = MaybeKind::of_word(w[5]) else {
+            return PartRead::Fault;
+        };
+        PartRead::Part(Part {
+            number,
+            date,
+            gaining,
+            losing,
+            kind,
+        })
+    }
+
+    // How many bytes its text has.
+    pub fn len(self) -> usize
+        ensures { λ r. ⌜ r ≡ length (partText self) ⌝ }
+    {
+        let number = self.number;
+        let date = self.date;
+        let gaining = self.gaining;
+        let losing = self.losing;
+        let kind = self.kind;
+        let first = number.first;
+        let last = number.last;
+        first.len() + last.len() + date.len() + gaining.len() + losing.len() + kind.len() + 5
+    }
+
+    pub fn write(self, out: &mut [u8], at: usize) -> usize
+        requires { ⌜ at + length (partText self) ≤ length (now out) ⌝ }
+        ensures { λ r. ⌜ Laid (now (out .entry)) at (partText self) (now (out .exit)) r ⌝ }
+    {
+        let number = self.number;
+        let date = self.date;
+        let gaining = self.gaining;
+        let losing = self.losing;
+        let kind = self.kind;
+        let first = number.first;
+        let last = number.last;
+        let a = first.write(out, at);
+        let a1 = text::put_byte(out, a, 44);
+        let b = last.write(out, a1);
+        let b1 = text::put_byte(out, b, 44);
+        let c = date.write(out, b1);
+        let c1 = text::put_byte(out, c, 44);
+        let d = gaining.write(out, c1);
+        let d1 = text::put_byte(out, d, 44);
+        let e = losing.write(out, d1);
+        let e1 = text::put_byte(out, e, 44);
+        kind.write(out, e1)
+    }
+}
