@@ -16,4 +16,5 @@ pub mod Order
 pub mod ByKey
 pub mod Keys
 pub mod Rising
+pub mod Twice
 pub mod Split
