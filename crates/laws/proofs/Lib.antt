@@ -16,5 +16,6 @@ pub mod Order
 pub mod ByKey
 pub mod Keys
 pub mod Rising
+pub mod Twice
 pub mod Split
 pub mod Ended

@@ -6,7 +6,7 @@ use mathlib.Core.List.{List, [], _∷_, _++_, append-nil, append-assoc, map, fla
 use Prim.Native.Nat.{ℕ, zero, suc, _+_, _≤_, _<_}
 use native.Mathlib.Omega.{arith}
 use lib.ListN.{length, getD, length-append}
-use Rattle.laws.specs.Lists.{table, keep, any}
+use Rattle.laws.specs.Lists.{table, keep, any, total}
 
 module _ {A : Type 0} where
   pub keep-yes : (p : A → Bool) (x : A) (xs : List A) → p x ≡ true → keep p (x ∷ xs) ≡ x ∷ keep p xs
@@ -176,6 +176,12 @@ module _ {A : Type 0} where
       go : (t : Bool) → List·Permᴰ (keep p l ++ keep (λ (x : A). not (p x)) l) l → List·Permᴰ (cond t (x ∷ keep p l) (keep p l) ++ cond (not t) (x ∷ keep (λ (x : A). not (p x)) l) (keep (λ (x : A). not (p x)) l)) (x ∷ l)
       go true ih = List·Permᴰ·cons refl ih
       go false ih = List·Permᴰ·trans (Permᴰ·middle x (keep p l) (keep (λ (x : A). not (p x)) l)) (List·Permᴰ·cons refl ih)
+
+  -- a sum with one element more
+  pub total-end : (f : A → ℕ) (l : List A) (x : A) → total f (l ++ (x ∷ [])) ≡ total f l + f x
+  unfolding total
+  total-end f [] x = omega arith
+  total-end f (y ∷ l) x = omega (arith, total-end f l x)
 
   -- two lists in front change places
   perm-front : (a b l : List A) → List·Permᴰ (a ++ (b ++ l)) (b ++ (a ++ l))

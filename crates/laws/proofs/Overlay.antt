@@ -66,7 +66,7 @@ drop-overlay n xs at [] h = refl
 drop-overlay n xs at (y ∷ ys) h =
     drop-overlay n (set xs at y) (at + 1) ys (omega arith) ∙ drop-set-lt n xs at y (omega arith)
 
-take-drop : (n i : ℕ) (l : List ℕ) → drop i (take (i + n) l) ≡ take n (drop i l)
+pub take-drop : (n i : ℕ) (l : List ℕ) → drop i (take (i + n) l) ≡ take n (drop i l)
 take-drop n zero l = rw zero-add
 take-drop n (suc i) [] = rw (suc-add, take-nil)
 take-drop n (suc i) (x ∷ l) = rw suc-add (take-drop n i l)

@@ -1,16 +1,17 @@
 -- Reading a slot after a slot was written, for any head and width. Assumes nothing.
-use mathlib.Core.Path.{_≡_, refl, sym, ap, _∙_}
-use mathlib.Core.List.{List, _∷_}
+use mathlib.Core.Path.{_≡_, refl, sym, ap, ap₂, _∙_}
+use mathlib.Core.List.{List, [], _∷_, _++_, append-assoc, append-nil, flatMap}
 use Prim.Native.Nat.{ℕ, zero, suc, _+_, _-_, _*_, _≤_, _<_}
 use native.Mathlib.Numerals.{add-one}
-use native.Mathlib.Nat.{suc-mul, mul-le-mul-right}
+use native.Mathlib.Nat.{suc-mul, zero-mul, mul-le-mul-right}
 use native.Mathlib.Decide.{decLe}
 use native.Mathlib.Omega.{arith}
 use lib.ListN.{length, take, drop, getD, set, replicate, length-append, length-replicate, length-take}
-use lib.Seq.{take-at, take-take, take-all, drop-cons}
+use lib.Seq.{take-at, drop-at, take-suc, take-take, take-all, length-take-le, drop-cons}
 use Rattle.laws.specs.Overlay.{overlay, part}
 use Rattle.laws.specs.Slots.{slotAt, slotOf, heldIn}
-use Rattle.laws.proofs.Overlay.{part-same, part-before, part-after, overlay-append}
+use Rattle.laws.proofs.Overlay.{part-same, part-before, part-after, overlay-append, overlay-none}
+use Rattle.laws.proofs.Lists.{flat-append}
 
 -- a lower slot ends before a higher one begins
 pub slots-apart : (width : ℕ) {j k : ℕ} → j < k → j * width + width ≤ k * width
@@ -86,3 +87,43 @@ held-long (suc w) xs at n m fits e h em =
     ap (λ (k : ℕ). take k (drop (at + 1) xs)) all
     ∙ sym (take-all (getD xs at 0) (take w (drop (at + 1) xs)) (rw length-take (omega arith)))
     ∙ sym (ap heldIn (slot-split w xs at fits))
+
+-- ---- slots that are written one behind the other: each is read at its place
+module _ {A : Type 0} (width : ℕ) (f : A → List ℕ) (each : (x : A) → length (f x) ≡ width) where
+  pub slot-flat : (head : List ℕ) (l : List A) (rest : List ℕ) (i : ℕ) (d : A) → i < length l
+      → slotAt (length head) width (head ++ (flatMap f l ++ rest)) i ≡ f (getD l i d)
+  unfolding slotAt part flatMap
+  slot-flat head [] rest i d h = absurd (omega arith)
+  slot-flat head (x ∷ l) rest zero d h =
+      let at : length head + 0 * width ≡ length head = rw zero-mul (omega arith) in
+      ap₂ (λ (k : ℕ) (r : List ℕ). take width (drop k (head ++ r))) at (append-assoc (f x) (flatMap f l) rest)
+      ∙ ap (take width) (drop-at head (f x ++ (flatMap f l ++ rest)) (length head) refl)
+      ∙ take-at (f x) (flatMap f l ++ rest) width (each x)
+  slot-flat head (x ∷ l) rest (suc i) d h =
+      let on : length head + suc i * width ≡ length (head ++ f x) + i * width = omega (arith, suc-mul i width, length-append head (f x), each x) in
+      ap₂ (λ (k : ℕ) (r : List ℕ). take width (drop k r)) on
+      (ap (λ (r : List ℕ). head ++ r) (append-assoc (f x) (flatMap f l) rest) ∙ sym (append-assoc head (f x) (flatMap f l ++ rest)))
+      ∙ slot-flat (head ++ f x) l rest i d (omega arith)
+
+  pub length-flat : (l : List A) → length (flatMap f l) ≡ length l * width
+  unfolding flatMap
+  length-flat [] = sym (zero-mul width)
+  length-flat (x ∷ l) = omega (arith, length-append (f x) (flatMap f l), each x, length-flat l, suc-mul (length l) width)
+
+  -- a turn of the loop that writes them
+  pub flat-next : (xs : List ℕ) (at : ℕ) (l : List A) (i : ℕ) (d : A) → i < length l
+      → overlay (overlay xs at (flatMap f (take i l))) (at + i * width) (f (getD l i d)) ≡ overlay xs at (flatMap f (take (i + 1) l))
+  unfolding flatMap
+  flat-next xs at l i d h =
+      let size : i * width ≡ length (flatMap f (take i l)) = sym (length-flat (take i l) ∙ ap (λ (n : ℕ). n * width) (length-take-le i l (omega arith))) in
+      let one : flatMap f (getD l i d ∷ []) ≡ f (getD l i d) = append-nil (f (getD l i d)) in
+      ap (λ (n : ℕ). overlay (overlay xs at (flatMap f (take i l))) (at + n) (f (getD l i d))) size
+      ∙ sym (overlay-append xs at (flatMap f (take i l)) (f (getD l i d)))
+      ∙ ap (overlay xs at)
+      (ap (λ (r : List ℕ). flatMap f (take i l) ++ r) (sym one)
+      ∙ sym (flat-append f (take i l) (getD l i d ∷ []))
+      ∙ ap (flatMap f) (sym (take-suc l i d h) ∙ ap (λ (k : ℕ). take k l) (sym (add-one i))))
+
+  pub flat-none : (xs : List ℕ) (at : ℕ) (l : List A) → xs ≡ overlay xs at (flatMap f (take 0 l))
+  unfolding flatMap
+  flat-none xs at l = overlay-none xs at

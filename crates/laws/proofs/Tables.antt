@@ -2,17 +2,17 @@
 --     any-none, any-next, any-here    a search through a table from its start: nothing yet; not here; here. all-none, all-next, all-not likewise
 --     all-at, tested                  a rule shown once by a computed test: it holds at each entry of a list; of each number below n
 -- Assumes nothing.
-use mathlib.Core.Path.{_≡_, refl, sym, ap, _∙_}
+use mathlib.Core.Path.{_≡_, refl, sym, ap, ap₂, _∙_}
 use mathlib.Core.Bool.{Bool, true, false, _&&_, _||_, and-true, and-false, false-and, and-assoc, or-false, or-true, true-or, or-assoc}
 use mathlib.Core.Logic.{⊎-elim}
 use native.Mathlib.Decide.{ℕ-discrete, le-ind}
 use native.Mathlib.Nat.{eq-or-lt-of-le}
-use mathlib.Core.List.{List, [], _∷_, _++_}
+use mathlib.Core.List.{List, [], _∷_, _++_, map, map-append}
 use Prim.Native.Nat.{ℕ, zero, suc, _+_, _≤_, _<_}
 use native.Mathlib.Numerals.{add-one}
 use native.Mathlib.Omega.{arith}
-use lib.ListN.{length, drop, getD, length-append, drop-of-length-le, List·getD-append}
-use lib.Seq.{drop-cons, getD-at}
+use lib.ListN.{length, take, drop, getD, set, length-append, drop-of-length-le, List·getD-append}
+use lib.Seq.{drop-cons, getD-at, take-suc-set, ext-getD}
 use Rattle.laws.specs.Lists.{table, any, all}
 use Rattle.laws.proofs.Tests.{and-left, and-right}
 
@@ -119,6 +119,35 @@ module _ {A : Type 0} where
 
   pub drop-none : (n i : ℕ) (f : ℕ → A) → n ≤ i → drop i (table n f) ≡ []
   drop-none n i f h = drop-of-length-le (table n f) {i = i} (omega (arith, length-table n f))
+
+  -- a loop that lays a table down in a list, one element a turn
+  pub lay-none : (f : ℕ → A) (xs : List A) → take 0 xs ≡ table 0 f
+  unfolding table
+  lay-none f xs = refl
+
+  pub lay-next : (f : ℕ → A) (xs : List A) (i : ℕ) (v : A) → i < length xs → v ≡ f i → take i xs ≡ table i f → take (i + 1) (set xs i v) ≡ table (i + 1) f
+  lay-next f xs i v h e inv =
+      ap (λ (j : ℕ). take j (set xs i v)) (add-one i)
+      ∙ take-suc-set xs i v h
+      ∙ ap₂ (λ (l : List A) (x : A). l ++ (x ∷ [])) inv e
+      ∙ sym (table-more i f)
+
+  -- a list is the table of its elements
+  pub table-self : (l : List A) (d : A) (n : ℕ) → length l ≡ n → table n (λ (i : ℕ). getD l i d) ≡ l
+  table-self l d n e =
+      ext-getD d (table n (λ (i : ℕ). getD l i d)) l (length-table n (λ (i : ℕ). getD l i d) ∙ sym e)
+      (λ i h. getD-table n i (λ (i : ℕ). getD l i d) d (omega (arith, length-table n (λ (i : ℕ). getD l i d))))
+
+  -- what passes at each index passes in the table
+  pub all-each : (p : A → Bool) (n : ℕ) (f : ℕ → A) → ((i : ℕ) → i < n → p (f i) ≡ true) → all p (table n f) ≡ true
+  all-each p zero f h = all-none p f
+  all-each p (suc n) f h = rw (← add-one n) (all-next p n f (all-each p n f (λ i b. h i (omega arith))) (h n (omega arith)))
+
+  -- what a function makes of a table
+  pub map-table : {B : Type 0} (g : A → B) (n : ℕ) (f : ℕ → A) → map g (table n f) ≡ table n (λ (i : ℕ). g (f i))
+  unfolding table
+  map-table g zero f = refl
+  map-table {B} g (suc n) f = map-append g (table n f) (f n ∷ []) ∙ ap (λ (l : List B). l ++ (g (f n) ∷ [])) (map-table g n f)
 
   -- ---- a rule shown once, by a test that is computed
   -- what passes at each entry passes at this one

@@ -1,12 +1,14 @@
 -- Numbers in bytes, the lowest first: what was written is read, what stands elsewhere is read as before. Assumes nothing.
-use mathlib.Core.Path.{_≡_, refl, ap, ap₂, _∙_}
+use mathlib.Core.Path.{_≡_, refl, sym, ap, ap₂, _∙_}
 use mathlib.Core.Bool.{true}
-use mathlib.Core.List.{List, [], _∷_}
+use mathlib.Core.List.{List, [], _∷_, _++_}
 use Prim.Native.Nat.{ℕ, zero, suc, _+_, _*_, _/_, _%_, _^_, _≤_, _<_}
 use native.Mathlib.Nat.{pow-suc}
 use native.Mathlib.Omega.{arith}
 use lib.Dec.{ltb}
-use lib.ListN.{length}
+use lib.ListN.{length, take, drop, getD}
+use lib.Seq.{drop-cons, take-at, drop-at, drop-drop}
+use native.Mathlib.Numerals.{add-one}
 use borrow.Author.Tests.{ltb-true}
 use Rattle.laws.specs.Lists.{all}
 use Rattle.laws.specs.Overlay.{overlay, part}
@@ -69,3 +71,25 @@ word-after k xs at ys j h = ap wordOf (part-after xs at ys j k h)
 pub word-part : (k : ℕ) (xs : List ℕ) (at n i : ℕ) → i + k ≤ n → wordAt k (part xs at n) i ≡ wordAt k xs (at + i)
 unfolding wordAt
 word-part k xs at n i h = ap wordOf (part-part xs at n i k h)
+
+-- ---- one byte after the other, as code reads them
+pub word-none : (xs : List ℕ) (at : ℕ) → wordAt 0 xs at ≡ 0
+unfolding wordAt wordOf part
+word-none xs at = refl
+
+pub word-more : (k : ℕ) (xs : List ℕ) (at : ℕ) → at < length xs → wordAt (suc k) xs at ≡ getD xs at 0 + 256 * wordAt k xs (at + 1)
+unfolding wordAt wordOf part
+word-more k xs at h = rw (drop-cons xs at 0 h, add-one)
+
+-- ---- numbers written one behind the other
+pub word-first : (k n : ℕ) (rest : List ℕ) → n < 256 ^ k → wordAt k (lowFirst k n ++ rest) 0 ≡ n
+unfolding wordAt part
+word-first k n rest h = ap wordOf (take-at (lowFirst k n) rest k (length-lowFirst k n)) ∙ word-lowFirst k n h
+
+pub word-behind : (k j at : ℕ) (xs rest : List ℕ) → length xs ≡ j → wordAt k (xs ++ rest) (j + at) ≡ wordAt k rest at
+unfolding wordAt part
+word-behind k j at xs rest e =
+    ap (λ (l : List ℕ). wordOf (take k l)) (sym (drop-drop at j (xs ++ rest)) ∙ ap (drop at) (drop-at xs rest j e))
+
+pub word-next : (k j m at : ℕ) (rest : List ℕ) → wordAt k (lowFirst j m ++ rest) (j + at) ≡ wordAt k rest at
+word-next k j m at rest = word-behind k j at (lowFirst j m) rest (length-lowFirst j m)

@@ -1,7 +1,7 @@
 -- Lists of anything: given index by index, tested, filtered, searched, and read line by line as a table of rules.
 -- Assumes nothing: these are definitions.
 use Prim.Native.Nat.{ℕ, zero, suc, _+_}
-use mathlib.Core.Bool.{Bool, true, false, cond, _&&_, _||_}
+use mathlib.Core.Bool.{Bool, true, false, cond, not, _&&_, _||_}
 use mathlib.Core.List.{List, [], _∷_, _++_}
 
 module _ {A : Type 0} where
@@ -29,6 +29,11 @@ module _ {A : Type 0} where
   unfoldable pub distinct : (A → A → Bool) → List A → List A
   distinct same [] = []
   distinct same (x ∷ xs) = cond (any (same x) xs) (distinct same xs) (x ∷ distinct same xs)
+
+  -- no element is the same as one behind it
+  unfoldable pub noneTwice : (A → A → Bool) → List A → Bool
+  noneTwice same [] = true
+  noneTwice same (x ∷ xs) = not (any (same x) xs) && noneTwice same xs
 
   -- f x, of all x together
   unfoldable pub total : (A → ℕ) → List A → ℕ

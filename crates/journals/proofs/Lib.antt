@@ -1,0 +1,4 @@
+pub mod Reading
+pub mod Counting
+pub mod Keys
+pub mod Places

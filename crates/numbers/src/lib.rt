@@ -1,0 +1,3 @@
+// The number table in a lent buffer: a count, and a line of 14 bytes for each number.
+pub mod lines;
+pub mod twice;

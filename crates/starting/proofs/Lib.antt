@@ -1,0 +1,4 @@
+pub mod Reading
+pub mod Spreading
+pub mod Beginning
+pub mod Readable
