@@ -1,4 +1,3 @@
 pub mod PairLaws
 pub mod StepLaws
 pub mod Laws
-pub mod Paper

@@ -3,4 +3,3 @@ pub mod Reports
 pub mod Corrections
 pub mod Step
 pub mod Sound
-pub mod Paper

@@ -1,0 +1,4 @@
+pub mod Lawful
+pub mod Promises
+pub mod Paper
+pub mod ByKind

@@ -1,0 +1,83 @@
+-- What the bytes of a record say: the number that it names, its class within a day, and what the verdicts take. Each is total: bytes that
+-- are no record of their kind name no number, come behind the others of their kind, and say nothing. Assumes nothing: these are definitions.
+use Prim.Native.Nat.{ℕ, zero, suc, _+_}
+use mathlib.Core.List.{List}
+use Rattle.fields.specs.declared.kind.Kind.{Kind}
+use Rattle.fields.specs.declared.number.Number.{Number}
+use Rattle.layout.specs.declared.report.Report.{Report}
+use Rattle.layout.specs.declared.report.ReportRead.{ReportRead}
+use Rattle.layout.specs.declared.correction.CorrectionRead.{CorrectionRead}
+use Rattle.layout.specs.Report.{reportOf, wholeOf}
+use Rattle.layout.specs.Correction.{correctionOf, namedNumber}
+use Rattle.entries.specs.declared.report.Published.{Published}
+use Rattle.entries.specs.Report.{byKind}
+use Rattle.verdict.specs.declared.corrections.Named.{Named}
+use Rattle.verdict.specs.declared.corrections.Named.the-variants.{Whole, Less}
+use Rattle.verdict.specs.declared.corrections.Correction.{Correction}
+use Rattle.verdict.specs.declared.step.Says.{Says}
+use Rattle.verdict.specs.declared.step.Says.the-variants.{Reported, Corrected}
+
+-- ---- the number
+
+-- both fields empty: no record of a file names it
+abbrev pub noNumber : Number
+noNumber = record { first = record { 0 = 1 }; last = record { 0 = 1 } }
+
+abbrev pub numberInReport : ReportRead → Number
+numberInReport (ReportRead.Report r) = r .number
+numberInReport ReportRead.Fault = noNumber
+
+abbrev pub numberInCorrection : CorrectionRead → Number
+numberInCorrection (CorrectionRead.Correction c) = namedNumber c
+numberInCorrection CorrectionRead.Fault = noNumber
+
+-- the number that a record names. The kinds of file: 0 default, 1 correction
+unfoldable pub numberIn : ℕ → List ℕ → Number
+numberIn zero bytes = numberInReport (reportOf bytes)
+numberIn (suc zero) bytes = numberInCorrection (correctionOf bytes)
+numberIn (suc (suc kind)) bytes = noNumber
+
+-- ---- the class within a day: corrections, then P, then L, then Z. Numbers between them are left for kinds of record to come
+
+abbrev pub classOfKind : Kind → ℕ
+classOfKind kind = byKind kind 8 9 10
+
+abbrev pub classOfReport : ReportRead → ℕ
+classOfReport (ReportRead.Report r) = classOfKind (r .kind)
+classOfReport ReportRead.Fault = 11
+
+abbrev pub correctionClass : ℕ
+correctionClass = 2
+
+unfoldable pub classIn : ℕ → List ℕ → ℕ
+classIn zero bytes = classOfReport (reportOf bytes)
+classIn (suc zero) bytes = correctionClass
+classIn (suc (suc kind)) bytes = 100 + kind
+
+-- ---- what it says
+
+-- a report without its number
+abbrev pub publishedBy : Report → Published
+publishedBy r = record { kind = r .kind; date = r .date; losing = r .losing; gaining = r .gaining }
+
+-- what a U part names
+abbrev pub namedBy : ReportRead → Named
+namedBy (ReportRead.Report r) = Whole (publishedBy r)
+namedBy ReportRead.Fault = Less
+
+-- a correction that changes nothing, whatever it finds
+abbrev pub nothing : Says
+nothing = Corrected (record { code = 0; named = Less })
+
+abbrev pub reported : ReportRead → Says
+reported (ReportRead.Report r) = Reported (publishedBy r)
+reported ReportRead.Fault = nothing
+
+abbrev pub corrected : CorrectionRead → Says
+corrected (CorrectionRead.Correction c) = Corrected (record { code = c .code .0; named = namedBy (wholeOf (c .u)) })
+corrected CorrectionRead.Fault = nothing
+
+unfoldable pub saysIn : ℕ → List ℕ → Says
+saysIn zero bytes = reported (reportOf bytes)
+saysIn (suc zero) bytes = corrected (correctionOf bytes)
+saysIn (suc (suc kind)) bytes = nothing

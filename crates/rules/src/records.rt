@@ -1,0 +1,183 @@
+// What the bytes of a record say, by the kind of its file: 0 default, 1 correction.
+use entries::report::Published;
+use fields::kind::Kind;
+use fields::number::Digits;
+use fields::number::Number;
+use layout::correction::CorrectionRead;
+use layout::report::Report;
+use layout::report::ReportRead;
+use verdict::corrections::Correction;
+use verdict::corrections::Named;
+use verdict::step::Says;
+ghost use mathlib.Core.Path.{_≡_};
+ghost use Rattle.layout.specs.Report.{reportOf};
+ghost use Rattle.layout.specs.Correction.{correctionOf};
+ghost use Rattle.verdict.specs.declared.step.Says.the-variants.{Corrected};
+ghost use Rattle.rules.specs.Records.{noNumber, numberInReport, numberInCorrection, numberIn, classOfKind, classOfReport, classIn, publishedBy, namedBy, nothing, reported, corrected, saysIn};
+
+// No record of a file names it.
+fn no_number() -> Number
+    ensures { λ r. ⌜ r ≡ noNumber ⌝ }
+{
+    let empty = Digits(1);
+    Number {
+        first: empty,
+        last: empty,
+    }
+}
+
+fn number_in_report(bytes: &[u8]) -> Number
+    ensures { λ r. ⌜ r ≡ numberInReport (reportOf (now (bytes .entry))) ⌝ }
+{
+    let read = Report::read(bytes);
+    match read {
+        ReportRead::Report(r) => r.number,
+        ReportRead::Fault => no_number(),
+    }
+}
+
+fn number_in_correction(bytes: &[u8]) -> Number
+    ensures { λ r. ⌜ r ≡ numberInCorrection (correctionOf (now (bytes .entry))) ⌝ }
+{
+    let read = layout::correction::Correction::read(bytes);
+    match read {
+        CorrectionRead::Correction(c) => c.named_number(),
+        CorrectionRead::Fault => no_number(),
+    }
+}
+
+// The number that a record names.
+pub fn number_in(kind: u8, bytes: &[u8]) -> Number
+    ensures { λ r. ⌜ r ≡ numberIn kind (now (bytes .entry)) ⌝ }
+{
+    if kind == 0 {
+        return number_in_report(bytes);
+    }
+    if kind == 1 {
+        return number_in_correction(bytes);
+    }
+    no_number()
+}
+
+// The class of a report: P, then L, then Z.
+fn class_of(k: Kind) -> u64
+    ensures { λ r. ⌜ r ≡ classOfKind k ⌝ }
+{
+    match k {
+        Kind::P => 8,
+        Kind::L => 9,
+        Kind::Z => 10,
+    }
+}
+
+fn class_of_report(bytes: &[u8]) -> u64
+    ensures { λ r. ⌜ r ≡ classOfReport (reportOf (now (bytes .entry))) ⌝ }
+{
+    let read = Report::read(bytes);
+    match read {
+        ReportRead::Report(r) => {
+            let kind = r.kind;
+            class_of(kind)
+        }
+        ReportRead::Fault => 11,
+    }
+}
+
+// The class of a record within its day.
+pub fn class_in(kind: u8, bytes: &[u8]) -> u64
+    ensures { λ r. ⌜ r ≡ classIn kind (now (bytes .entry)) ⌝ }
+{
+    if kind == 0 {
+        return class_of_report(bytes);
+    }
+    if kind == 1 {
+        return 2;
+    }
+    98 + kind as u64
+}
+
+// A report without its number.
+fn published(r: Report) -> Published
+    ensures { λ p. ⌜ p ≡ publishedBy r ⌝ }
+{
+    let kind = r.kind;
+    let date = r.date;
+    let losing = r.losing;
+    let gaining = r.gaining;
+    Published {
+        kind: kind,
+        date: date,
+        losing: losing,
+        gaining: gaining,
+    }
+}
+
+// What a U part names.
+fn named(read: ReportRead) -> Named
+    ensures { λ n. ⌜ n ≡ namedBy read ⌝ }
+{
+    match read {
+        ReportRead::Report(r) => Named::Whole(published(r)),
+        ReportRead::Fault => Named::Less,
+    }
+}
+
+// A correction that changes nothing.
+fn says_nothing() -> Says
+    ensures { λ s. ⌜ s ≡ nothing ⌝ }
+{
+    let less = Named::Less;
+    let c = Correction {
+        code: 0,
+        named: less,
+    };
+    Says::Corrected(c)
+}
+
+fn says_report(bytes: &[u8]) -> Says
+    ensures { λ s. ⌜ s ≡ reported (reportOf (now (bytes .entry))) ⌝ }
+{
+    let read = Report::read(bytes);
+    match read {
+        ReportRead::Report(r) => Says::Reported(published(r)),
+        ReportRead::Fault => says_nothing(),
+    }
+}
+
+// What a correction with this code and this U part says.
+fn says_of(code: u16, read: ReportRead) -> Says
+    ensures { λ s. ⌜ s ≡ Corrected (record { code = code; named = namedBy read }) ⌝ }
+{
+    let n = named(read);
+    let c = Correction {
+        code: code,
+        named: n,
+    };
+    Says::Corrected(c)
+}
+
+fn says_correction(bytes: &[u8]) -> Says
+    ensures { λ s. ⌜ s ≡ corrected (correctionOf (now (bytes .entry))) ⌝ }
+{
+    let read = layout::correction::Correction::read(bytes);
+    match read {
+        CorrectionRead::Correction(c) => {
+            let code = c.code;
+            says_of(code.0, c.named_report())
+        }
+        CorrectionRead::Fault => says_nothing(),
+    }
+}
+
+// What a record says.
+pub fn says_in(kind: u8, bytes: &[u8]) -> Says
+    ensures { λ s. ⌜ s ≡ saysIn kind (now (bytes .entry)) ⌝ }
+{
+    if kind == 0 {
+        return says_report(bytes);
+    }
+    if kind == 1 {
+        return says_correction(bytes);
+    }
+    says_nothing()
+}

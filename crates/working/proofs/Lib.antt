@@ -1,0 +1,5 @@
+pub mod Reading
+pub mod SlipLaws
+pub mod KeyLaws
+pub mod GatherLaws
+pub mod WorkLaws

@@ -1,0 +1,64 @@
+-- Working out: the fold over the sorted keys is the one over the history. Assumes nothing.
+use mathlib.Core.Path.{_≡_, sym, ap, _∙_}
+use mathlib.Core.List.{List, [], _++_, map, foldl}
+use Prim.Native.Nat.{ℕ, _+_, _<_}
+use lib.ListN.{length, take, drop, getD}
+use Rattle.laws.specs.Lists.{table}
+use Rattle.laws.specs.Order.{sorted}
+use Rattle.laws.proofs.Rising.{take-sorted-any}
+use Rattle.laws.proofs.Folds.{fold-more}
+use Rattle.fields.specs.declared.number.Number.{Number}
+use Rattle.entries.specs.declared.entry.Line.{Line}
+use Rattle.verdict.specs.declared.step.Standing.{Standing}
+use Rattle.verdict.specs.Step.{firstStanding, standOn}
+use Rattle.model.specs.Rules.{Event}
+use Rattle.model.specs.Model.{Filed, Store, Reached, Later, history, entryOver, entriesBefore}
+use Rattle.journals.specs.Files.{fileAt}
+use Rattle.rules.specs.Rules.{rules, standings, recordOf}
+use Rattle.rules.proofs.Promises.{before-a-late-file, same-history, standing-entry}
+use Rattle.working.specs.Reads.{recordsAt, filedIn, firstFiles, readFiles}
+use Rattle.working.specs.Slips.{keysOf}
+use Rattle.working.specs.Working.{tableLine, Sound, Gathered, standBehind, WorkedAfresh}
+use Rattle.working.proofs.Reading.{first-of-all}
+use Rattle.working.proofs.KeyLaws.{fold-keys, keys-count}
+use Rattle.working.proofs.GatherLaws.{ranged}
+
+-- a turn of the fold
+pub fold-turn : (line : Line) (regular corrections keys : List ℕ) (s t : Standing) (i : ℕ) → i < length keys
+    → s ≡ foldl (standBehind line regular corrections) (firstStanding line) (take i keys) → t ≡ standBehind line regular corrections s (getD keys i 0)
+    → t ≡ foldl (standBehind line regular corrections) (firstStanding line) (take (i + 1) keys)
+fold-turn line regular corrections keys s t i h e q =
+    q ∙ ap (λ (u : Standing). standBehind line regular corrections u (getD keys i 0)) e
+    ∙ sym (fold-more (standBehind line regular corrections) (firstStanding line) 0 keys i h)
+
+module _ (n : ℕ) (files regular corrections : List ℕ) (number : Number) (line : Line) (sound : Sound n files regular corrections) where
+  folded : foldl (standBehind line regular corrections) (firstStanding line) (sorted (keysOf (recordsAt regular corrections) number (fileAt files) n)) ≡ entryOver standings (firstFiles n files regular corrections) (tableLine number line)
+  unfolding standBehind entryOver firstFiles
+  folded =
+      fold-keys regular corrections (sound .regularRoom) (sound .correctionRoom) (fileAt files) n (ranged n files regular corrections sound) (sound .reports) (sound .objections) number
+      (λ (t : Standing) (e : Event). standOn line t (recordOf e)) (firstStanding line)
+      ∙ ap (foldl (λ (t : Standing) (e : Event). standOn line t (recordOf e)) (firstStanding line)) (sym (same-history (filedIn (recordsAt regular corrections) [] (table n (fileAt files))) number))
+
+  counted : length (keysOf (recordsAt regular corrections) number (fileAt files) n) ≡ length (history rules (firstFiles n files regular corrections) number)
+  unfolding firstFiles
+  counted =
+      keys-count regular corrections (sound .regularRoom) (sound .correctionRoom) (fileAt files) n (ranged n files regular corrections sound) (sound .reports) (sound .objections) number
+
+  pub answer : (keys after : List ℕ) (r : ℕ) (s : Standing) → Gathered n files regular corrections number keys r → after ≡ sorted (take r keys) ++ drop r keys
+      → s ≡ foldl (standBehind line regular corrections) (firstStanding line) (take r after) → WorkedAfresh n files regular corrections number line s r
+  answer keys after r s g e f =
+      let read = first-of-all n files regular corrections (sound .filed) in
+      let stands = f
+      ∙ ap (foldl (standBehind line regular corrections) (firstStanding line)) (ap (take r) e ∙ take-sorted-any r keys ∙ ap sorted (g .laid))
+      ∙ folded
+      ∙ ap (λ (fs : List Filed). entryOver standings fs (tableLine number line)) read in record {
+        stands = stands;
+        entry = ap (λ (t : Standing). t .entry) stands ∙ standing-entry (take n (readFiles files regular corrections)) (tableLine number line);
+        counted = g .counted ∙ counted ∙ ap (λ (fs : List Filed). length (history rules fs number)) read;
+      }
+
+-- what is worked out over the first files is what the stored entries were when only these had arrived
+pub worked-before : (files regular corrections : List ℕ) {s t : Store rules} → Reached rules s → Later rules s t → t .files ≡ readFiles files regular corrections → map (entryOver rules (take (length (s .files)) (readFiles files regular corrections))) (t .lines) ≡ s .entries
+unfolding entriesBefore
+worked-before files regular corrections {s} {t} r l e =
+    ap (λ (fs : List Filed). map (entryOver rules (take (length (s .files)) fs)) (t .lines)) (sym e) ∙ before-a-late-file r l

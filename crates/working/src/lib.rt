@@ -1,0 +1,4 @@
+// Working out one number afresh from the journals: the keys of its records are gathered and put in order, and the
+// records behind them are folded.
+pub mod gather;
+pub mod work;
