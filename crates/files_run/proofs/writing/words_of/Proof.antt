@@ -1,0 +1,76 @@
+-- `files_run::writing::words_of` meets its contract. Assumes nothing.
+use lib.ListN.{length}
+use Prim.Native.Nat.{_-_}
+use mathlib.Core.Path.{_≡_}
+use borrow.Author.Needs.{needs}
+use Rattle.files_run.proofs.writing.words_of.Statement.{statement}
+use Rattle.files_run.proofs.writing.words_of.Tie as tie
+
+abbrev Inv-loop : tie.InvT-loop
+Inv-loop s words₀ n i₀ words i = length words ≡ length words₀
+
+abbrev μ-loop : tie.MeasureT-loop
+μ-loop s words₀ n i₀ words i = n - i
+
+cuts-requires : tie.Need-cuts-requires Inv-loop μ-loop
+cuts-requires c κs = search needs
+
+loop-holds : tie.Need-loop-holds Inv-loop μ-loop
+loop-holds c = search needs
+
+same-length : tie.Need-same-length Inv-loop μ-loop
+same-length c = search needs
+
+returns : tie.Need-returns Inv-loop μ-loop
+returns c = search needs
+
+add-piece : tie.Need-add-piece Inv-loop μ-loop
+add-piece c = search needs
+
+piece-requires : tie.Need-piece-requires Inv-loop μ-loop
+piece-requires c κs = search needs
+
+word-requires : tie.Need-word-requires Inv-loop μ-loop
+word-requires c κs = search needs
+
+mul-words : tie.Need-mul-words Inv-loop μ-loop
+mul-words c = search needs
+
+slice-write-words : tie.Need-slice-write-words Inv-loop μ-loop
+slice-write-words c = search needs
+
+add-i : tie.Need-add-i Inv-loop μ-loop
+add-i c = search needs
+
+loop-less : tie.Need-loop-less Inv-loop μ-loop
+loop-less c = search needs
+
+loop-again : tie.Need-loop-again Inv-loop μ-loop
+loop-again c = search needs
+
+same-length-2 : tie.Need-same-length-2 Inv-loop μ-loop
+same-length-2 c = search needs
+
+returns-2 : tie.Need-returns-2 Inv-loop μ-loop
+returns-2 c = search needs
+
+pub words-of-spec : {M : Type 1} → statement M
+words-of-spec =
+    tie.close
+    (tie.spec
+    Inv-loop
+    μ-loop
+    cuts-requires
+    loop-holds
+    same-length
+    returns
+    add-piece
+    piece-requires
+    word-requires
+    mul-words
+    slice-write-words
+    add-i
+    loop-less
+    loop-again
+    same-length-2
+    returns-2)
