@@ -60,7 +60,8 @@ fn judge_one(kind: FileKind, file: &[u8]) -> Judged
     if !records::line::is_record(kind, &file[0..end]) {
         return Judged::Fault(0);
     }
-    if end + 1 < file.len() {
+    let behind = end + 1;
+    if behind < file.len() {
         return Judged::Fault(1);
     }
     Judged::Records(1)

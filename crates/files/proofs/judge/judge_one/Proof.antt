@@ -33,8 +33,8 @@ returns-2 c =
     let e = c .before .before .before .before in
     one-fault (isRecord (e .before .before .args .kind)) (ended-at _ 0 _ (omega arith) (e .field-end .ensures)) (omega arith) (sym (c .before .is-record .ensures) ∙ not-true _ (c .if2 .taken))
 
-add-if3 : tie.Need-add-if3
-add-if3 c = search needs
+add-behind : tie.Need-add-behind
+add-behind c = search needs
 
 returns-3 : tie.Need-returns-3
 returns-3 c =
@@ -57,6 +57,6 @@ judge-one-spec =
     part-is-record-end
     is-record-requires
     returns-2
-    add-if3
+    add-behind
     returns-3
     returns-4)
