@@ -70,12 +70,12 @@ fn enter(room: &[u8], n: usize, table: &mut [u8], files: &mut [u8], entries: &mu
 // Judges the text in room of its own, and writes only where it is a table.
 fn begin(
     text: &[u8],
-    room: &mut [u8; 14338],
+    room: &mut [u8],
     table: &mut [u8],
     files: &mut [u8],
     entries: &mut [u8],
 ) -> Started
-    requires { ⌜ (14338 ≤ length (now table)) × (8194 ≤ length (now files)) × (102400 ≤ length (now entries)) ⌝ }
+    requires { ⌜ (14338 ≤ length (now room)) × (14338 ≤ length (now table)) × (8194 ≤ length (now files)) × (102400 ≤ length (now entries)) ⌝ }
     ensures { λ r. ⌜ Begun (now (text .entry)) (now (table .entry)) (now (files .entry)) (now (entries .entry)) r (now (table .exit)) (now (files .exit)) (now (entries .exit)) ⌝ }
 {
     let Counted::Lines(n) = scratch::judge(text, room) else {
@@ -83,6 +83,20 @@ fn begin(
     };
     enter(room, n, table, files, entries);
     Started::Done(n)
+}
+
+// The same with as much room as a table needs.
+fn begin_in(
+    text: &[u8],
+    room: &mut [u8; TABLE_LENGTH],
+    table: &mut [u8],
+    files: &mut [u8],
+    entries: &mut [u8],
+) -> Started
+    requires { ⌜ (14338 ≤ length (now table)) × (8194 ≤ length (now files)) × (102400 ≤ length (now entries)) ⌝ }
+    ensures { λ r. ⌜ Begun (now (text .entry)) (now (table .entry)) (now (files .entry)) (now (entries .entry)) r (now (table .exit)) (now (files .exit)) (now (entries .exit)) ⌝ }
+{
+    begin(text, room, table, files, entries)
 }
 
 // Starts a store: 44 for a short buffer before all else; 6 for a text that is no number table, and nothing is written; else 0, and
@@ -100,6 +114,6 @@ pub fn start(
     if !readable::long_enough(table, files, regular, corrections, entries) {
         return Started::Short;
     }
-    let mut room = [0u8; 14338];
-    begin(text, &mut room, table, files, entries)
+    let mut room = [0u8; TABLE_LENGTH];
+    begin_in(text, &mut room, table, files, entries)
 }

@@ -32,8 +32,8 @@ returns c = let a = c .before .before .before .before .before .before .before .b
     let l = lent (now (a .table)) (now (a .files)) (now (a .regular)) (now (a .corrections)) (now (a .entries)) in
     starts-short (now (a .text)) l (sym (c .before .long-enough .ensures) ∙ not-true _ (c .if1 .taken))
 
-begin-requires : tie.Need-begin-requires
-begin-requires c κs = let a = c .before .before .before .before .before .before .before .before .before .before .before .before .before .before .before .before .before .args in
+begin-in-requires : tie.Need-begin-in-requires
+begin-in-requires c κs = let a = c .before .before .before .before .before .before .before .before .before .before .before .before .before .before .before .before .before .args in
     let l = lent (now (a .table)) (now (a .files)) (now (a .regular)) (now (a .corrections)) (now (a .entries)) in
     let g = long l (sym (c .before .before .before .before .before .long-enough .ensures) ∙ not-false _ (c .before .before .before .before .if1 .left)) in
     (g .long-table, g .long-files, g .long-entries)
@@ -56,7 +56,7 @@ same-length-10 c = search needs
 returns-2 : tie.Need-returns-2
 returns-2 c = let a = c .before .before .before .before .before .before .before .before .before .before .before .before .before .before .before .before .before .before .before .before .before .before .before .before .args in
     let l = lent (now (a .table)) (now (a .files)) (now (a .regular)) (now (a .corrections)) (now (a .entries)) in
-    starts-long (now (a .text)) (now (a .table)) (now (a .files)) (now (a .regular)) (now (a .corrections)) (now (a .entries)) _ _ _ _ (sym (c .before .before .before .before .before .before .before .before .before .before .before .before .long-enough .ensures) ∙ not-false _ (c .before .before .before .before .before .before .before .before .before .before .before .if1 .left)) (c .before .before .before .before .before .before .begin .ensures)
+    starts-long (now (a .text)) (now (a .table)) (now (a .files)) (now (a .regular)) (now (a .corrections)) (now (a .entries)) _ _ _ _ (sym (c .before .before .before .before .before .before .before .before .before .before .before .before .long-enough .ensures) ∙ not-false _ (c .before .before .before .before .before .before .before .before .before .before .before .if1 .left)) (c .before .before .before .before .before .before .begin-in .ensures)
 
 pub start-spec : {M : Type 1} → statement M
 start-spec =
@@ -69,7 +69,7 @@ start-spec =
     same-length-4
     same-length-5
     returns
-    begin-requires
+    begin-in-requires
     same-length-6
     same-length-7
     same-length-8

@@ -1,0 +1,72 @@
+-- `store_run::full::put_files` meets its contract. Assumes nothing.
+use lib.ListN.{length}
+use mathlib.Core.Path.{_≡_}
+use Prim.Native.Nat.{_-_}
+use borrow.Author.Needs.{needs}
+use Rattle.store_run.proofs.full.put_files.Statement.{statement}
+use Rattle.store_run.proofs.full.put_files.Tie as tie
+
+abbrev Inv-loop : tie.InvT-loop
+Inv-loop lent₀ i₀ lent i = length lent ≡ length lent₀
+
+abbrev μ-loop : tie.MeasureT-loop
+μ-loop lent₀ i₀ lent i = 1024 - i
+
+loop-holds : tie.Need-loop-holds Inv-loop μ-loop
+loop-holds c = search needs
+
+same-length : tie.Need-same-length Inv-loop μ-loop
+same-length c = search needs
+
+returns : tie.Need-returns Inv-loop μ-loop
+returns c = search needs
+
+cast-day : tie.Need-cast-day Inv-loop μ-loop
+cast-day c = search needs
+
+put-file-requires : tie.Need-put-file-requires Inv-loop μ-loop
+put-file-requires c κs = search needs
+
+add-i : tie.Need-add-i Inv-loop μ-loop
+add-i c = search needs
+
+loop-less : tie.Need-loop-less Inv-loop μ-loop
+loop-less c = search needs
+
+loop-again : tie.Need-loop-again Inv-loop μ-loop
+loop-again c = search needs
+
+same-length-2 : tie.Need-same-length-2 Inv-loop μ-loop
+same-length-2 c = search needs
+
+returns-2 : tie.Need-returns-2 Inv-loop μ-loop
+returns-2 c = search needs
+
+put-count-requires : tie.Need-put-count-requires Inv-loop μ-loop
+put-count-requires c κs = search needs
+
+same-length-3 : tie.Need-same-length-3 Inv-loop μ-loop
+same-length-3 c = search needs
+
+returns-3 : tie.Need-returns-3 Inv-loop μ-loop
+returns-3 c = search needs
+
+pub put-files-spec : {M : Type 1} → statement M
+put-files-spec =
+    tie.close
+    (tie.spec
+    Inv-loop
+    μ-loop
+    loop-holds
+    same-length
+    returns
+    cast-day
+    put-file-requires
+    add-i
+    loop-less
+    loop-again
+    same-length-2
+    returns-2
+    put-count-requires
+    same-length-3
+    returns-3)
