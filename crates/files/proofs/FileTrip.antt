@@ -2,12 +2,13 @@
 --     file-read        a file written from the texts of records has these records
 --     file-written     a file that was read is the file written from its records' texts
 --     file-one         so two different files never have the same records
---     words-read       a file written from words has the records of these words; its closing record can always be held
-use Prim.Native.Nat.{ℕ, zero, suc, _+_, _≤_}
+--     words-read       a file written from words has the records of these words
+--     closing-held     a closing record can always be held
+use Prim.Native.Nat.{ℕ, suc, _+_, _<_}
 use native.Mathlib.Nat.{zero-add}
 use native.Mathlib.Omega.{arith}
 use mathlib.Core.Path.{_≡_, refl, sym, ap, _∙_}
-use mathlib.Core.Bool.{Bool, true, false, cond, _&&_}
+use mathlib.Core.Bool.{Bool, true, false, cond, not, _&&_}
 use mathlib.Core.List.{List, [], _∷_, _++_, append-nil, append-assoc, map}
 use lib.ListN.{length, take, length-map}
 use lib.Seq.{take-at, take-length}
@@ -189,3 +190,23 @@ words-read kind words n e =
 -- and each of its values fits
 pub words-fit : (kind : FileKind) (words : List ℕ) (n : ℕ) → held kind (valuesIn kind words) ≡ Records n → all (fits kind) (valuesIn kind words) ≡ true
 words-fit kind words n e = held-parts kind (valuesIn kind words) n e .fit
+
+-- ---- the closing record can always be held: a place that can't be held is that of a record
+unfit-inside : (kind : FileKind) (vs : List (List ℕ)) → all (fits kind) vs ≡ false → firstAt (unfit kind) vs < length vs
+unfolding all unfit
+unfit-inside kind [] e = absurd (let z : _≡_ {A = ℕ} 0 1 = cc in omega arith)
+unfit-inside kind (v ∷ vs) e = go (fits kind v) e (unfit-inside kind vs)
+  where
+    go : (t : Bool) → (t && all (fits kind) vs) ≡ false → (all (fits kind) vs ≡ false → firstAt (unfit kind) vs < length vs) → cond (not t) 0 (suc (firstAt (unfit kind) vs)) < suc (length vs)
+    go true e ih = omega (arith, ih e)
+    go false e ih = omega arith
+
+pub closing-held : (kind : FileKind) (vs : List (List ℕ)) (i : ℕ) → hasClosing kind ≡ true → held kind vs ≡ Fault i → i < length vs
+unfolding held heldAll
+closing-held kind vs i c e = go (all (fits kind) vs) refl (sym (ap (λ (t : Bool). cond t (heldAll kind vs) (heldOne kind vs)) c) ∙ e)
+  where
+    go : (t : Bool) → all (fits kind) vs ≡ t → cond t (Records (length vs)) (Fault (firstAt (unfit kind) vs)) ≡ Fault i → i < length vs
+    go true p e = absurd (let z : _≡_ {A = ℕ} 0 1 = cc in omega arith)
+    go false p e =
+        let q : firstAt (unfit kind) vs ≡ i = cc in
+        omega (arith, unfit-inside kind vs p)

@@ -2,16 +2,15 @@
 use Prim.Native.Nat.{ℕ, zero, suc, _+_, _-_, _*_, _≤_, _<_}
 use native.Mathlib.Nat.{min-le-right}
 use native.Mathlib.Omega.{arith}
-use mathlib.Core.Path.{_≡_, refl, sym, ap, _∙_}
-use mathlib.Core.Bool.{Bool, true, false, cond}
+use mathlib.Core.Path.{_≡_, refl, ap, _∙_}
+use mathlib.Core.Bool.{true, false}
 use mathlib.Core.List.{List, [], _∷_}
-use lib.ListN.{length, take, drop, length-drop, length-take, drop-of-length-le}
-use lib.Seq.{drop-drop, take-all}
+use lib.ListN.{length, take, drop, length-drop, length-take}
+use lib.Seq.{drop-drop}
 use Rattle.names.specs.declared.kind.FileKind.{FileKind}
 use Rattle.names.specs.declared.kind.FileKind.the-variants.{Default, Correction, Request, Response}
 use Rattle.records.specs.Record.{widthOf, fits, textOf}
 use Rattle.records.proofs.RecordLaws.{fits-width, fits-short}
-use Rattle.files.specs.declared.measure.Measured.{Measured}
 use Rattle.files.specs.declared.measure.Measured.the-variants.{Length, Fault}
 use Rattle.files.specs.Writing.{groupsTo, groups, valuesIn}
 use Rattle.files.specs.Measuring.{measuredFrom}

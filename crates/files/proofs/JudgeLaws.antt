@@ -3,9 +3,9 @@
 --     turn-closing, turn-record, turn-fault, turn-end     the line that starts at a place, and what is left to judge
 --     one-short, one-fault, one-more, one-record          the same for a file of one record
 --     end-here, end-more          nothing follows; something does
-use Prim.Native.Nat.{ℕ, suc, _+_, _≤_, _<_}
+use Prim.Native.Nat.{ℕ, _+_, _≤_, _<_}
 use native.Mathlib.Omega.{arith}
-use mathlib.Core.Path.{_≡_, refl, sym, ap, _∙_, subst}
+use mathlib.Core.Path.{_≡_, refl, sym, ap, _∙_}
 use mathlib.Core.Bool.{Bool, true, false, cond}
 use mathlib.Core.List.{List, [], _∷_}
 use lib.Dec.{eqb}
@@ -13,7 +13,6 @@ use lib.ListN.{length, drop, length-drop, drop-of-length-le}
 use Rattle.laws.specs.Split.{before, split, between, endOf, EndsAt}
 use Rattle.laws.proofs.Split.{split-some, ends-at, ends-more, ends-last}
 use Rattle.closing.specs.Closing.{begins}
-use Rattle.files.specs.declared.judge.Judged.{Judged}
 use Rattle.files.specs.declared.judge.Judged.the-variants.{Records, Fault}
 use Rattle.files.specs.Judged.{isEnd, closed, judged, judgedOne}
 

@@ -14,6 +14,11 @@ use Rattle.records.specs.Record.{isRecord}
 use Rattle.files.specs.declared.judge.Judged.{Judged}
 use Rattle.files.specs.declared.judge.Judged.the-variants.{Records, Fault}
 
+-- the paper's number of an answer
+abbrev pub judgedNumber : Judged → ℕ
+judgedNumber (Records n) = 0
+judgedNumber (Fault i) = 4
+
 -- whether nothing stands behind the last CR, and no line either
 abbrev pub isEnd : List (List ℕ) → Bool
 isEnd [] = false

@@ -13,7 +13,7 @@ pub enum Measured {
 }
 
 // The `w` words from `at` on, or what is left.
-pub fn group<'a>(words: &'a [u64], at: usize, w: usize) -> &'a [u64]
+pub(crate) fn group<'a>(words: &'a [u64], at: usize, w: usize) -> &'a [u64]
     requires { ⌜ at ≤ length (now words) ⌝ }
     ensures { λ r. ⌜ now r ≡ take w (drop at (now (words .entry))) ⌝ }
 {
@@ -24,7 +24,7 @@ pub fn group<'a>(words: &'a [u64], at: usize, w: usize) -> &'a [u64]
     &words[at..end]
 }
 
-pub fn measure(kind: FileKind, words: &[u64]) -> Measured
+pub(crate) fn measure(kind: FileKind, words: &[u64]) -> Measured
     ensures { λ r. ⌜ r ≡ measuredFrom kind 0 0 (valuesIn kind (now (words .entry))) ⌝ }
 {
     let w = records::words::width(kind);

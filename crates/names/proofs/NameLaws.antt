@@ -82,6 +82,10 @@ unfolding kindOf
 letter-none b d k q r = simp (ne-eqb b 68 d, ne-eqb b 75 k, ne-eqb b 81 q, ne-eqb b 82 r)
 
 -- ---- the writer
+-- what a writer answers and leaves is settled
+pub wrote-one : {w : Written} {text before a b : List ℕ} {r s : Written} → Wrote w text before a r → Wrote w text before b s → (a ≡ b) × (r ≡ s)
+wrote-one p q = (p .bytes ∙ sym (q .bytes), p .answer ∙ sym (q .answer))
+
 module _ (m : Name) (before : List ℕ) where
   pub wrote-none : dateOf (m .day .0) ≡ Beyond → Wrote (nameAnswer m (length before)) (nameText m) before before (Written.Fault 0)
   unfolding nameAnswer nameText

@@ -1,21 +1,19 @@
 -- What the files need to know of their records. Assumes nothing.
 --     fits-width, fits-short     words that make a record are as many as its kind takes, and its line is no longer than they are
-use Prim.Native.Nat.{ℕ, suc, _+_, _*_, _≤_}
+use Prim.Native.Nat.{ℕ, _+_, _*_, _≤_}
 use native.Mathlib.Omega.{arith}
-use mathlib.Core.Path.{_≡_, refl, sym, ap, _∙_}
-use mathlib.Core.Logic.{⊎-elim}
-use mathlib.Core.Bool.{Bool, true, false}
-use mathlib.Core.List.{List, []}
+use mathlib.Core.Path.{_≡_, sym, ap, _∙_}
+use mathlib.Core.Bool.{true, false}
+use mathlib.Core.List.{List}
 use lib.ListN.{length}
 use native.Mathlib.Decide.{ℕ-discrete}
 use Rattle.layout.specs.declared.part.PartRead.{PartRead}
 use Rattle.layout.specs.declared.report.ReportRead.{ReportRead}
 use Rattle.layout.specs.declared.correction.CorrectionRead.{CorrectionRead}
 use Rattle.layout.specs.declared.request.RequestRead.{RequestRead}
-use Rattle.layout.specs.Part.{partOfWords}
-use Rattle.layout.specs.Report.{reportFrom, reportOfWords, reportPart, reportText}
-use Rattle.layout.specs.Correction.{correctionOfWords, correctionText, isReport}
-use Rattle.layout.specs.Request.{requestOfWords, requestText}
+use Rattle.layout.specs.Report.{reportFrom, reportOfWords, reportPart}
+use Rattle.layout.specs.Correction.{correctionOfWords, isReport}
+use Rattle.layout.specs.Request.{requestOfWords}
 use Rattle.layout.proofs.PartLaws.{words-count, part-short, date-short}
 use Rattle.layout.proofs.CorrectionLaws as correction
 use Rattle.layout.proofs.RequestLaws as request
