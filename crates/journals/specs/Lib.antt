@@ -1,3 +1,4 @@
 pub mod Files
 pub mod Records
 pub mod Twice
+pub mod Reads

@@ -28,7 +28,8 @@ use Rattle.numbers.proofs.Reading.{length-line, line-back}
 use Rattle.entry_slots.specs.Entries.{entryOf, entryAt, goodEntry}
 use Rattle.entry_slots.proofs.Back.{first-fine, entry-back, entry-fine}
 use Rattle.entries.specs.declared.entry.Entry.{Entry}
-use Rattle.store.specs.Reads.{Buffers, Held, tableLine, filedIn, recordOf, held, longEnough, goodTable, goodFiles, goodRecords, isReadable, reads}
+use Rattle.journals.specs.Reads.{recordsAt, filedIn, firstFiles, readFiles}
+use Rattle.store.specs.Reads.{Buffers, Held, tableLine, held, longEnough, goodTable, goodFiles, goodRecords, isReadable, reads}
 use Rattle.store.proofs.Checks.{Long, long, reads-some}
 use Rattle.starting.specs.declared.given.LineRead.{LineRead}
 use Rattle.starting.specs.declared.given.LineRead.the-variants.{Fault}
@@ -202,10 +203,10 @@ module _ (b : Buffers) (ls : List Line) (w : Table ls) (enough : longEnough b �
       )
 
   holds : held (withTable (some ls) b) ≡ startedWith ls
-  unfolding held startedWith filedIn
+  unfolding held startedWith firstFiles filedIn filesOf
   holds =
       let l : map tableLine (linesOf (withTable (some ls) b .table)) ≡ map tableLine ls = ap (map tableLine) (lines-back (b .table) ls w (room .long-table)) in
-      let f : filedIn (recordOf (withTable (some ls) b)) [] (filesOf (withTable (some ls) b .files)) ≡ [] = ap (filedIn (recordOf (withTable (some ls) b)) []) (no-files (b .files) (room .long-files)) in
+      let f : readFiles (withTable (some ls) b .files) (b .regular) (b .corrections) ≡ [] = ap (filedIn (recordsAt (b .regular) (b .corrections)) []) (no-files (b .files) (room .long-files)) in
       let e : table (lineCount (withTable (some ls) b .table)) (entryAt (withTable (some ls) b .entries)) ≡ map firstOf ls =
       ap (λ (k : ℕ). table k (entryAt (withTable (some ls) b .entries))) (count-back (b .table) ls w (room .long-table)) ∙ entries-back (b .entries) ls w (room .long-entries) in
       λ i. record { lines = l i; files = f i; entries = e i }

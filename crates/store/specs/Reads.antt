@@ -13,8 +13,7 @@ use Rattle.fields.specs.Number.{sameNumber}
 use Rattle.fields.specs.declared.number.Number.{Number}
 use Rattle.entries.specs.declared.entry.Entry.{Entry}
 use Rattle.journals.specs.Files.{fileCount, filesOf, goodFile, sameFile, recordsOf}
-use Rattle.journals.specs.Records.{recordAt}
-use Rattle.journals.specs.declared.files.File.{File}
+use Rattle.journals.specs.Reads.{readFiles}
 use Rattle.numbers.specs.Lines.{lineCount, linesOf, numberAt, goodLine}
 use Rattle.numbers.specs.declared.lines.Line.{Line}
 use Rattle.entry_slots.specs.Entries.{entryAt, goodEntry}
@@ -39,29 +38,10 @@ pub record Held : Type 0 where
 abbrev pub tableLine : Line → TableLine Number
 tableLine l = record { number = l .number; owner = l .owner .0; setUp = l .setup .0 }
 
--- the record at a place of the journal of a kind: that of kind 0 is the regular journal, that of kind 1 the correction journal
-unfoldable pub recordOf : Buffers → ℕ → ℕ → List ℕ
-recordOf b zero place = recordAt 45 (b .regular) place
-recordOf b (suc zero) place = recordAt 98 (b .corrections) place
-recordOf b (suc (suc kind)) place = []
-
--- a file that comes after the files `before`: its records follow on theirs in the journal of its kind
-unfoldable pub filedAfter : (ℕ → ℕ → List ℕ) → List File → File → Filed
-filedAfter recordsAt before f = record {
-  kind = f .kind;
-  publisher = f .publisher;
-  day = f .day;
-  records = table (f .count) (λ (i : ℕ). recordsAt (f .kind) (recordsOf (f .kind) before + i));
-}
-
-unfoldable pub filedIn : (ℕ → ℕ → List ℕ) → List File → List File → List Filed
-filedIn recordsAt before [] = []
-filedIn recordsAt before (f ∷ fs) = filedAfter recordsAt before f ∷ filedIn recordsAt (before ++ (f ∷ [])) fs
-
 unfoldable pub held : Buffers → Held
 held b = record {
   lines = map tableLine (linesOf (b .table));
-  files = filedIn (recordOf b) [] (filesOf (b .files));
+  files = readFiles (b .files) (b .regular) (b .corrections);
   entries = table (lineCount (b .table)) (entryAt (b .entries));
 }
 

@@ -19,7 +19,7 @@ use Rattle.calendar.specs.Dates.{inCalendar}
 use Rattle.journals.specs.Files.{fileAt, goodFile, recordsOf}
 use Rattle.journals.specs.declared.files.File.{File}
 use Rattle.rules.specs.Records.{numberIn}
-use Rattle.working.specs.Reads.{recordsAt}
+use Rattle.journals.specs.Reads.{recordsAt}
 use Rattle.working.specs.Slips.{Slip, slipAt, slipsOf, slips, aboutSlip, keyOf, keysIn, keysOf}
 use Rattle.working.specs.Working.{Sound, InFile, Behind, Gathered}
 use Rattle.working.proofs.SlipLaws.{Ranged, records-more, own-records, records-grow, slips-length, slips-more}

@@ -24,7 +24,7 @@ use Rattle.journals.specs.declared.records.Journal.the-variants.{Regular, Corre
 use Rattle.rules.specs.Records.{classIn}
 use Rattle.rules.specs.Rules.{rules}
 use Rattle.rules.proofs.Lawful.{lawful, class-of-reports, class-of-corrections}
-use Rattle.working.specs.Reads.{recordsAt, filedIn}
+use Rattle.journals.specs.Reads.{recordsAt, filedIn}
 use Rattle.working.specs.Slips.{Slip, slips, aboutSlip, keyBy, keyOf, keysOf, classBehind, kindBehind, journalBehind, eventBehind}
 use Rattle.working.proofs.SlipLaws.{Ranged, Kept, Rise, eventOf, kept, rise, slips-journal}
 

@@ -1,4 +1,3 @@
-pub mod Reading
 pub mod SlipLaws
 pub mod KeyLaws
 pub mod GatherLaws

@@ -17,9 +17,9 @@ use Rattle.journals.specs.Files.{recordsIn, recordsOf}
 use Rattle.journals.specs.declared.files.File.{File}
 use Rattle.journals.proofs.Counting.{records-end}
 use Rattle.rules.specs.Records.{classIn}
-use Rattle.working.specs.Reads.{filedAfter, filedIn}
+use Rattle.journals.specs.Reads.{filedAfter, filedIn}
 use Rattle.working.specs.Slips.{Slip, slipAt, slipsOf, slips}
-use Rattle.working.proofs.Reading.{filed-end}
+use Rattle.journals.proofs.FirstFiles.{filed-end}
 
 -- ---- lists
 mem-below : {A : Type 0} {a : A} (n : ℕ) (f : ℕ → A) → List·Memᴰ a (table n f) → (i : ℕ) × (i < n) × (a ≡ f i)

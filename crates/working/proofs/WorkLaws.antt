@@ -16,10 +16,10 @@ use Rattle.model.specs.Model.{Filed, Store, Reached, Later, history, entryOver,
 use Rattle.journals.specs.Files.{fileAt}
 use Rattle.rules.specs.Rules.{rules, standings, recordOf}
 use Rattle.rules.proofs.Promises.{before-a-late-file, same-history, standing-entry}
-use Rattle.working.specs.Reads.{recordsAt, filedIn, firstFiles, readFiles}
+use Rattle.journals.specs.Reads.{recordsAt, filedIn, firstFiles, readFiles}
 use Rattle.working.specs.Slips.{keysOf}
 use Rattle.working.specs.Working.{tableLine, Sound, Gathered, standBehind, WorkedAfresh}
-use Rattle.working.proofs.Reading.{first-of-all}
+use Rattle.journals.proofs.FirstFiles.{first-of-all}
 use Rattle.working.proofs.KeyLaws.{fold-keys, keys-count}
 use Rattle.working.proofs.GatherLaws.{ranged}
 

@@ -14,7 +14,7 @@ use Rattle.model.specs.Model.{entryOver, history}
 use Rattle.journals.specs.Files.{fileAt, fileCount, goodFile, recordsOf}
 use Rattle.journals.specs.declared.files.File.{File}
 use Rattle.rules.specs.Rules.{rules, standings, recordOf}
-use Rattle.working.specs.Reads.{recordsAt, readFiles}
+use Rattle.journals.specs.Reads.{recordsAt, readFiles}
 use Rattle.working.specs.Slips.{keysOf, eventBehind}
 
 -- a line of the number table in the model's words

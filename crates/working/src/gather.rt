@@ -12,7 +12,7 @@ ghost use lib.ListN.{length, take};
 ghost use Rattle.fields.specs.Number.{sameNumber};
 ghost use Rattle.rules.specs.Records.{numberIn};
 ghost use Rattle.journals.specs.Files.{fileAt};
-ghost use Rattle.working.specs.Reads.{recordsAt};
+ghost use Rattle.journals.specs.Reads.{recordsAt};
 ghost use Rattle.working.specs.Slips.{slipAt, keyBy, keyOf, keysIn, keysOf};
 ghost use Rattle.working.specs.Working.{Sound, Stored, InFile, Behind, Gathered};
 

@@ -2,7 +2,7 @@
 use mathlib.Core.Path.{_≡_}
 use native.Mathlib.Omega.{arith}
 use Rattle.journals.specs.Records.{recordAt}
-use Rattle.working.specs.Reads.{recordsAt}
+use Rattle.journals.specs.Reads.{recordsAt}
 use borrow.Author.Needs.{needs}
 use Rattle.working.proofs.gather.record_at.Statement.{statement}
 use Rattle.working.proofs.gather.record_at.Tie as tie

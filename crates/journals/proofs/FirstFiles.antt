@@ -9,9 +9,9 @@ use lib.Seq.{take-all, take-append-le}
 use Rattle.laws.specs.Lists.{table}
 use Rattle.laws.proofs.Tables.{length-table}
 use Rattle.model.specs.Model.{Filed}
 use Rattle.journals.specs.Files.{fileAt, fileCount}
 use Rattle.journals.specs.declared.files.File.{File}
-use Rattle.working.specs.Reads.{recordsAt, filedAfter, filedIn, firstFiles, readFiles}
+use Rattle.journals.specs.Reads.{recordsAt, filedAfter, filedIn, firstFiles, readFiles}
 
 -- the first elements of a table
 take-table : {A : Type 0} (n m : ℕ) (f : ℕ → A) → n ≤ m → take n (table m f) ≡ table n f
