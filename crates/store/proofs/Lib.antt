@@ -1,2 +1,3 @@
 pub mod Checks
 pub mod Limits
+pub mod Whole

@@ -2,3 +2,4 @@ pub mod SlipLaws
 pub mod KeyLaws
 pub mod GatherLaws
 pub mod WorkLaws
+pub mod Readable
