@@ -1,0 +1,5 @@
+pub mod Lists
+pub mod Steps
+pub mod Records
+pub mod Worked
+pub mod Renewed
