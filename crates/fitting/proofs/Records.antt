@@ -1,9 +1,9 @@
 -- What is read is in range, whatever the bytes are. Assumes nothing.
 --     says-fine       what the bytes of a record say
-use mathlib.Core.Path.{_≡_, refl, sym, ap, _∙_}
+use mathlib.Core.Path.{_≡_, refl}
 use mathlib.Core.Bool.{Bool, true, not, _&&_}
 use mathlib.Core.List.{List}
-use Prim.Native.Nat.{ℕ, zero, suc, _≤_}
+use Prim.Native.Nat.{ℕ, zero, suc}
 use borrow.Author.Tests.{leb-true}
 use Rattle.laws.proofs.Tests.{and-left, and-right}
 use Rattle.fields.specs.declared.gaining.Gaining.{Gaining}
@@ -18,7 +18,7 @@ use Rattle.layout.specs.declared.report.Report.{Report}
 use Rattle.layout.specs.declared.report.ReportRead.{ReportRead}
 use Rattle.layout.specs.declared.correction.CorrectionRead.{CorrectionRead}
 use Rattle.layout.specs.Part.{partFits}
-use Rattle.layout.specs.Report.{reportOf, reportPart, reportFits, isNamed}
+use Rattle.layout.specs.Report.{reportOf, reportFits, isNamed}
 use Rattle.layout.specs.Correction.{correctionOf}
 use Rattle.layout.proofs.ReportLaws.{report-back}
 use Rattle.rules.specs.Records.{publishedBy, reported, corrected, saysIn}

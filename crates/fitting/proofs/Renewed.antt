@@ -10,11 +10,10 @@ use mathlib.Core.List.{List, [], _∷_, _++_, map, flatMap, zipWith}
 use mathlib.Core.Option.{some}
 use Prim.Native.Nat.{ℕ, _+_, _-_, _*_, _≤_, _<_}
 use native.Mathlib.Omega.{arith}
-use lib.Dec.{leb}
-use lib.ListN.{length, getD, take, drop, length-append, length-take, length-drop, length-map, List·getD-map}
+use lib.ListN.{length, getD, drop, length-append, length-take, length-drop, length-map, List·getD-map}
 use lib.Seq.{getD-at}
 use Rattle.laws.specs.Lists.{table, all}
-use Rattle.laws.specs.Overlay.{overlay, part}
+use Rattle.laws.specs.Overlay.{part}
 use Rattle.laws.specs.Slots.{slotAt}
 use Rattle.laws.proofs.Lists.{zip-at}
 use Rattle.laws.proofs.Overlay.{length-overlay, overlay-parts}
@@ -28,11 +27,11 @@ use Rattle.journals.specs.Reads.{readFiles}
 use Rattle.numbers.specs.Lines.{lineCount, lineAt, linesOf}
 use Rattle.entry_slots.specs.Entries.{entrySlot, entryOf, entryAt, goodEntry}
 use Rattle.entry_slots.proofs.Back.{FineEntry, length-entry, entry-back, entry-fine}
-use Rattle.store.specs.Reads.{Buffers, Held, lent, tableLine, held, longEnough, goodTable, isReadable, reads}
+use Rattle.store.specs.Reads.{Buffers, lent, tableLine, held, longEnough, isReadable, reads}
 use Rattle.store.proofs.Checks.{long, few-lines, read-entries, reads-some}
 use Rattle.fitting.specs.Renewing.{renewedSlot, renewedEntries, noFile, lastFiled}
 use Rattle.fitting.proofs.Lists.{zip-length, slot-among, length-among}
-use Rattle.fitting.proofs.Worked.{Parts, parts, all-fits}
+use Rattle.fitting.proofs.Worked.{parts, all-fits}
 
 -- ---- the file that came last
 pub last-filed : (files : List Filed) (f : Filed) → lastFiled (files ++ (f ∷ [])) ≡ f

@@ -4,24 +4,23 @@
 --     worked-fits     so over the first files, as many as are asked for, and each line of the table
 --     all-fits        and over all files
 use mathlib.Core.Path.{_≡_, refl, sym, ap, subst, _∙_}
-use mathlib.Core.Bool.{Bool, true, cond, _&&_}
-use mathlib.Core.List.{List, [], _∷_, _++_, map, flatMap, List·Memᴰ, List·Memᴰ·head, List·Memᴰ·tail, List·Memᴰ·not-nil}
+use mathlib.Core.Bool.{Bool, true, _&&_}
+use mathlib.Core.List.{List, [], _∷_, _++_, List·Memᴰ, List·Memᴰ·head, List·Memᴰ·tail, List·Memᴰ·not-nil}
 use Prim.Native.Nat.{ℕ, zero, suc, _+_, _≤_, _<_}
 use native.Mathlib.Omega.{arith}
 use borrow.Author.Tests.{leb-true, eq-eqb}
 use lib.Dec.{leb}
 use lib.ListN.{length, getD, take}
 use lib.Seq.{take-length}
-use Rattle.laws.specs.Lists.{table, all, keep, noneTwice, total}
+use Rattle.laws.specs.Lists.{table, all, keep, noneTwice}
 use Rattle.laws.specs.Slots.{slotAt}
-use Rattle.laws.proofs.Lists.{mem-keep, mem-flat}
+use Rattle.laws.proofs.Lists.{mem-keep}
 use Rattle.laws.proofs.Order.{mem-inOrder}
 use Rattle.laws.proofs.Tables.{length-table, getD-table, all-at}
 use Rattle.laws.proofs.Tests.{and-left, and-right}
 use Rattle.calendar.specs.Dates.{inCalendar}
 use Rattle.fields.specs.Number.{sameNumber}
 use Rattle.fields.specs.declared.number.Number.{Number}
-use Rattle.entries.specs.declared.entry.Entry.{Entry}
 use Rattle.entries.specs.Entry.{firstEntry}
 use Rattle.model.specs.Rules.{TableLine, Event}
 use Rattle.model.specs.Model.{Filed, eventAt, events, journal, about, notLater, history, entryOver}
