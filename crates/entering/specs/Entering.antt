@@ -1,0 +1,89 @@
+-- What the buffers are once a file's records have joined their journal, and when a file may be entered. Assumes nothing: these are definitions.
+use mathlib.Core.Path.{_≡_}
+use mathlib.Core.Bool.{true, false, cond}
+use mathlib.Core.List.{List, flatMap}
+use Prim.Native.Nat.{ℕ, _+_, _*_, _≤_, _<_}
+use lib.Dec.{eqb}
+use lib.ListN.{length}
+use Rattle.laws.specs.Lists.{any}
+use Rattle.laws.specs.Overlay.{overlay}
+use Rattle.laws.specs.Slots.{slotOf}
+use Rattle.laws.specs.Words.{lowFirst}
+use Rattle.calendar.specs.Dates.{inCalendar}
+use Rattle.model.specs.Model.{Filed}
+use Rattle.names.specs.declared.kind.FileKind.{FileKind}
+use Rattle.files.specs.Judged.{judgedFile, recordsOf as textsOf}
+use Rattle.files.specs.declared.judge.Judged.the-variants.{Records}
+use Rattle.journals.specs.Files.{fileCount, filesOf, fileSlot, sameFile, recordsOf}
+use Rattle.journals.specs.declared.files.File.{File}
+use Rattle.store.specs.Reads.{Buffers, isReadable}
+use Rattle.entering.specs.declared.kind.Filable.{Filable}
+use Rattle.entering.specs.declared.kind.Filable.the-variants.{Default, Correction}
+
+-- ---- the kinds that are filed
+-- the number of a kind in the list of files; the kind among all kinds of file
+abbrev pub kindNumber : Filable → ℕ
+kindNumber Default = 0
+kindNumber Correction = 1
+
+abbrev pub fileKind : Filable → FileKind
+fileKind Default = FileKind.Default
+fileKind Correction = FileKind.Correction
+
+-- how wide a record's slot is in the kind's journal, and how many records the journal takes
+abbrev pub slotWidth : Filable → ℕ
+slotWidth Default = 45
+slotWidth Correction = 98
+
+abbrev pub most : Filable → ℕ
+most Default = 8192
+most Correction = 2048
+
+-- ---- the file
+-- as the model has it: its records as published
+unfoldable pub filedAs : Filable → ℕ → ℕ → List ℕ → Filed
+filedAs kind publisher day text = record { kind = kindNumber kind; publisher = publisher; day = day; records = textsOf (fileKind kind) text }
+
+-- and as the list of files tells of it
+unfoldable pub fileIn : Filed → File
+fileIn f = record { kind = f .kind; publisher = f .publisher; day = f .day; count = length (f .records) }
+
+-- ---- the buffers
+-- one file more in the list: the count, and a slot behind the others
+unfoldable pub filesWith : List ℕ → File → List ℕ
+filesWith files f = overlay (overlay files 0 (lowFirst 2 (fileCount files + 1))) (2 + fileCount files * 8) (fileSlot f)
+
+-- a journal with records behind its first n
+unfoldable pub journalWith : ℕ → List ℕ → ℕ → List (List ℕ) → List ℕ
+journalWith width journal n records = overlay journal (n * width) (flatMap (slotOf width) records)
+
+-- the buffers with one file more: its records behind the stored ones of their journal; every other byte stays
+unfoldable pub entered : Filed → Buffers → Buffers
+entered f b = record {
+  table = b .table;
+  files = filesWith (b .files) (fileIn f);
+  regular = cond (eqb (f .kind) 0) (journalWith 45 (b .regular) (recordsOf 0 (filesOf (b .files))) (f .records)) (b .regular);
+  corrections = cond (eqb (f .kind) 1) (journalWith 98 (b .corrections) (recordsOf 1 (filesOf (b .files))) (f .records)) (b .corrections);
+  entries = b .entries;
+}
+
+-- ---- when a file may be entered
+-- what the checks of filing have found: the buffers read as a store, the text is a file of its kind with m records, publisher and day are in
+-- range, none alike is filed, and there is room
+pub record Enterable (b : Buffers) (kind : Filable) (publisher day : ℕ) (text : List ℕ) (m : ℕ) : Type 0 where
+  pub readable : isReadable b ≡ true
+  pub judged : judgedFile (fileKind kind) text ≡ Records m
+  pub code : publisher ≤ 999
+  pub date : inCalendar day ≡ true
+  pub new : any (sameFile (fileIn (filedAs kind publisher day text))) (filesOf (b .files)) ≡ false
+  pub slot : fileCount (b .files) < 1024
+  pub room : recordsOf (kindNumber kind) (filesOf (b .files)) + m ≤ most kind
+
+-- the part of it that the code that enters a file needs, of the three buffers that it writes
+pub record Ready (files regular corrections : List ℕ) (kind : Filable) (text : List ℕ) (m : ℕ) : Type 0 where
+  pub judged : judgedFile (fileKind kind) text ≡ Records m
+  pub slot : fileCount files < 1024
+  pub room : recordsOf (kindNumber kind) (filesOf files) + m ≤ most kind
+  pub long-files : 8194 ≤ length files
+  pub long-regular : 368640 ≤ length regular
+  pub long-corrections : 200704 ≤ length corrections

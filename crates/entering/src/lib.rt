@@ -1,0 +1,2 @@
+// A file's records join their journal, behind the stored ones.
+pub mod kind;
