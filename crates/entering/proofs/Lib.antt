@@ -1,0 +1,3 @@
+pub mod Journals
+pub mod Writing
+pub mod Joining

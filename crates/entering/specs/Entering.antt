@@ -1,13 +1,14 @@
 -- What the buffers are once a file's records have joined their journal, and when a file may be entered. Assumes nothing: these are definitions.
 use mathlib.Core.Path.{_≡_}
-use mathlib.Core.Bool.{true, false, cond}
+use mathlib.Core.Bool.{Bool, true, false, cond}
 use mathlib.Core.List.{List, flatMap}
 use Prim.Native.Nat.{ℕ, _+_, _*_, _≤_, _<_}
-use lib.Dec.{eqb}
-use lib.ListN.{length}
-use Rattle.laws.specs.Lists.{any}
+use lib.Dec.{eqb, ltb}
+use lib.ListN.{length, take}
+use Rattle.laws.specs.Lists.{any, all}
 use Rattle.laws.specs.Overlay.{overlay}
 use Rattle.laws.specs.Slots.{slotOf}
+use Rattle.laws.specs.Split.{split}
 use Rattle.laws.specs.Words.{lowFirst}
 use Rattle.calendar.specs.Dates.{inCalendar}
 use Rattle.model.specs.Model.{Filed}
@@ -16,7 +17,7 @@ use Rattle.files.specs.Judged.{judgedFile, recordsOf as textsOf}
 use Rattle.files.specs.declared.judge.Judged.the-variants.{Records}
 use Rattle.journals.specs.Files.{fileCount, filesOf, fileSlot, sameFile, recordsOf}
 use Rattle.journals.specs.declared.files.File.{File}
-use Rattle.store.specs.Reads.{Buffers, isReadable}
+use Rattle.store.specs.Reads.{Buffers, lent, isReadable}
 use Rattle.entering.specs.declared.kind.Filable.{Filable}
 use Rattle.entering.specs.declared.kind.Filable.the-variants.{Default, Correction}
 
@@ -30,11 +31,7 @@ abbrev pub fileKind : Filable → FileKind
 fileKind Default = FileKind.Default
 fileKind Correction = FileKind.Correction
 
--- how wide a record's slot is in the kind's journal, and how many records the journal takes
-abbrev pub slotWidth : Filable → ℕ
-slotWidth Default = 45
-slotWidth Correction = 98
-
+-- how many records its journal takes
 abbrev pub most : Filable → ℕ
 most Default = 8192
 most Correction = 2048
@@ -79,7 +76,8 @@ pub record Enterable (b : Buffers) (kind : Filable) (publisher day : ℕ) (text 
   pub slot : fileCount (b .files) < 1024
   pub room : recordsOf (kindNumber kind) (filesOf (b .files)) + m ≤ most kind
 
--- the part of it that the code that enters a file needs, of the three buffers that it writes
+-- ---- as the code enters it
+-- the part of `Enterable` that it needs, of the three buffers that it writes
 pub record Ready (files regular corrections : List ℕ) (kind : Filable) (text : List ℕ) (m : ℕ) : Type 0 where
   pub judged : judgedFile (fileKind kind) text ≡ Records m
   pub slot : fileCount files < 1024
@@ -87,3 +85,27 @@ pub record Ready (files regular corrections : List ℕ) (kind : Filable) (text :
   pub long-files : 8194 ≤ length files
   pub long-regular : 368640 ≤ length regular
   pub long-corrections : 200704 ≤ length corrections
+
+-- and what it leaves in them, whatever table and entries stand beside them
+pub record Joined (f : Filed) (files regular corrections files₁ regular₁ corrections₁ : List ℕ) : Type 0 where
+  pub buffers : (t e : List ℕ) → lent t files₁ regular₁ corrections₁ e ≡ entered f (lent t files regular corrections e)
+
+unfoldable pub shorter : ℕ → List ℕ → Bool
+shorter width l = ltb (length l) width
+
+-- the first m lines of a text, each shorter than a slot
+abbrev pub firstLines : ℕ → List ℕ → List (List ℕ)
+firstLines m text = take m (split 13 text)
+
+pub record Lines (width : ℕ) (text : List ℕ) (m : ℕ) : Type 0 where
+  pub enough : m ≤ length (split 13 text)
+  pub short : all (shorter width) (firstLines m text) ≡ true
+
+-- the two journals with records behind the first n of their kind's journal
+abbrev pub regularWith : Filable → List ℕ → ℕ → List (List ℕ) → List ℕ
+regularWith Default journal n records = journalWith 45 journal n records
+regularWith Correction journal n records = journal
+
+abbrev pub correctionsWith : Filable → List ℕ → ℕ → List (List ℕ) → List ℕ
+correctionsWith Default journal n records = journal
+correctionsWith Correction journal n records = journalWith 98 journal n records

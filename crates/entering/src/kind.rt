@@ -1,7 +1,7 @@
 // The kinds of file that are filed, each with a journal of its own.
 use names::kind::FileKind;
 ghost use mathlib.Core.Path.{_≡_};
-ghost use Rattle.entering.specs.Entering.{kindNumber, fileKind, slotWidth, most};
+ghost use Rattle.entering.specs.Entering.{kindNumber, fileKind, most};
 
 pub enum Filable {
     Default,
@@ -26,16 +26,6 @@ impl Filable {
         match self {
             Filable::Default => FileKind::Default,
             Filable::Correction => FileKind::Correction,
-        }
-    }
-
-    // How wide a record's slot is in the kind's journal.
-    pub fn width(self) -> usize
-        ensures { λ r. ⌜ r ≡ slotWidth self ⌝ }
-    {
-        match self {
-            Filable::Default => journals::records::REPORT_SLOT,
-            Filable::Correction => journals::records::CORRECTION_SLOT,
         }
     }
 

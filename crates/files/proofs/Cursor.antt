@@ -1,5 +1,6 @@
 -- A walk through a file that was judged finds its records one after the other. Assumes nothing.
 --     line-at       where the line k starts, and what the lines from there on are
+--     lines-enough  a file that was judged has no fewer lines than records
 --     walked        k steps from the start of a file with more than k records lead to the record k
 use Prim.Native.Nat.{ℕ, zero, suc, _+_, _-_, _≤_, _<_}
 use native.Mathlib.Nat.{add-zero, min-le-right}
@@ -56,8 +57,8 @@ line-is s k h =
     let q = ends-at 13 s (lineStart s k) (p .inside) in
     ap (λ (ls : List (List ℕ)). getD ls 0 []) (sym (q .splits) ∙ p .lines) ∙ getD-drop k (split 13 s) 0 [] ∙ ap (λ (n : ℕ). getD (split 13 s) n []) (add-zero k)
 
--- a file that was judged has more lines than records
-lines-enough : (kind : FileKind) (file : List ℕ) (n : ℕ) → judgedFile kind file ≡ Records n → n ≤ length (split 13 file)
+-- a file that was judged has no fewer lines than records
+pub lines-enough : (kind : FileKind) (file : List ℕ) (n : ℕ) → judgedFile kind file ≡ Records n → n ≤ length (split 13 file)
 unfolding recordsOf
 lines-enough kind file n e =
     let l = file-written kind file n e .1 in
