@@ -1,10 +1,9 @@
 -- What the code that enters a file leaves in the buffers. Assumes nothing.
 use mathlib.Core.Path.{_≡_, refl, sym, ap, _∙_}
 use mathlib.Core.List.{List}
-use Prim.Native.Nat.{ℕ, _+_, _*_, _≤_, _<_}
+use Prim.Native.Nat.{ℕ, _+_, _*_, _≤_}
 use native.Mathlib.Nat.{mul-le-mul-right}
 use native.Mathlib.Omega.{arith}
-use lib.ListN.{length}
 use Rattle.laws.specs.Lists.{table}
 use Rattle.laws.specs.Overlay.{overlay}
 use Rattle.laws.specs.Words.{lowFirst}
@@ -12,7 +11,7 @@ use Rattle.files.specs.Judged.{judgedFile, recordsOf as textsOf}
 use Rattle.files.specs.declared.judge.Judged.the-variants.{Records}
 use Rattle.journals.specs.Files.{fileCount, fileAt, filesOf, fileSlot, recordsOf}
 use Rattle.journals.specs.declared.files.File.{File}
-use Rattle.store.specs.Reads.{lent}
+use Rattle.store.specs.Reads.{Buffers, lent}
 use Rattle.entering.specs.declared.kind.Filable.{Filable}
 use Rattle.entering.specs.declared.kind.Filable.the-variants.{Default, Correction}
 use Rattle.entering.specs.Entering.{kindNumber, fileKind, most, filedAs, fileIn, filesWith, journalWith, regularWith, correctionsWith, entered, firstLines, Lines, Joined}
@@ -54,18 +53,21 @@ module _ (kind : Filable) (text before after other : List ℕ) (from m : ℕ) (e
       → (other ≡ regularWith kind other from (textsOf (fileKind kind) text)) × (after ≡ correctionsWith kind before from (textsOf (fileKind kind) text))
   put-correction k w = rw (records-lines kind text m e, k) (refl, w)
 
--- the journals, by the kind of the file
-regular-entered : (kind : Filable) (publisher day : ℕ) (text t files regular corrections e : List ℕ)
-    → regularWith kind regular (recordsOf (kindNumber kind) (filesOf files)) (textsOf (fileKind kind) text) ≡ entered (filedAs kind publisher day text) (lent t files regular corrections e) .regular
-unfolding entered filedAs
-regular-entered Default publisher day text t files regular corrections e = refl
-regular-entered Correction publisher day text t files regular corrections e = refl
+-- ---- the buffers
+-- with the file entered, by its kind
+abbrev pub withFile : Filable → ℕ → ℕ → List ℕ → Buffers → Buffers
+withFile kind publisher day text b = record {
+  table = b .table;
+  files = filesWith (b .files) (fileIn (filedAs kind publisher day text));
+  regular = regularWith kind (b .regular) (recordsOf (kindNumber kind) (filesOf (b .files))) (textsOf (fileKind kind) text);
+  corrections = correctionsWith kind (b .corrections) (recordsOf (kindNumber kind) (filesOf (b .files))) (textsOf (fileKind kind) text);
+  entries = b .entries;
+}
 
-corrections-entered : (kind : Filable) (publisher day : ℕ) (text t files regular corrections e : List ℕ)
-    → correctionsWith kind corrections (recordsOf (kindNumber kind) (filesOf files)) (textsOf (fileKind kind) text) ≡ entered (filedAs kind publisher day text) (lent t files regular corrections e) .corrections
+pub entered-as : (kind : Filable) (publisher day : ℕ) (text : List ℕ) (b : Buffers) → withFile kind publisher day text b ≡ entered (filedAs kind publisher day text) b
 unfolding entered filedAs
-corrections-entered Default publisher day text t files regular corrections e = refl
-corrections-entered Correction publisher day text t files regular corrections e = refl
+entered-as Default publisher day text b = refl
+entered-as Correction publisher day text b = refl
 
 module _ (kind : Filable) (publisher day m : ℕ) (text : List ℕ) (judged : judgedFile (fileKind kind) text ≡ Records m) where
   file-same : (number : ℕ) → number ≡ kindNumber kind → _≡_ {A = File} (record { kind = number; publisher = publisher; day = day; count = m }) (fileIn (filedAs kind publisher day text))
@@ -77,17 +79,8 @@ module _ (kind : Filable) (publisher day m : ℕ) (text : List ℕ) (judged : ju
       → regular₁ ≡ regularWith kind regular from (textsOf (fileKind kind) text)
       → corrections₁ ≡ correctionsWith kind corrections from (textsOf (fileKind kind) text)
       → Joined (filedAs kind publisher day text) files regular corrections files₁ regular₁ corrections₁
-  unfolding entered
-  joined files regular corrections files₁ regular₁ corrections₁ number from k at ef er ec = record { buffers = λ t e. go t e }
-    where
-      f : files₁ ≡ filesWith files (fileIn (filedAs kind publisher day text))
-      f = ef ∙ ap (filesWith files) (file-same number k)
-
-      r : (t e : List ℕ) → regular₁ ≡ entered (filedAs kind publisher day text) (lent t files regular corrections e) .regular
-      r t e = er ∙ ap (λ (n : ℕ). regularWith kind regular n (textsOf (fileKind kind) text)) at ∙ regular-entered kind publisher day text t files regular corrections e
-
-      c : (t e : List ℕ) → corrections₁ ≡ entered (filedAs kind publisher day text) (lent t files regular corrections e) .corrections
-      c t e = ec ∙ ap (λ (n : ℕ). correctionsWith kind corrections n (textsOf (fileKind kind) text)) at ∙ corrections-entered kind publisher day text t files regular corrections e
-
-      go : (t e : List ℕ) → lent t files₁ regular₁ corrections₁ e ≡ entered (filedAs kind publisher day text) (lent t files regular corrections e)
-      go t e = λ i. lent t (f i) (r t e i) (c t e i) e
+  joined files regular corrections files₁ regular₁ corrections₁ number from k at ef er ec =
+      let f = ef ∙ ap (filesWith files) (file-same number k) in
+      let r = er ∙ ap (λ (n : ℕ). regularWith kind regular n (textsOf (fileKind kind) text)) at in
+      let c = ec ∙ ap (λ (n : ℕ). correctionsWith kind corrections n (textsOf (fileKind kind) text)) at in
+      record { buffers = λ t e. (λ i. lent t (f i) (r i) (c i) e) ∙ entered-as kind publisher day text (lent t files regular corrections e) }

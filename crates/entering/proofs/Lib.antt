@@ -1,3 +1,5 @@
 pub mod Journals
 pub mod Writing
 pub mod Joining
+pub mod Listing
+pub mod Entered

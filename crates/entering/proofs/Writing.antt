@@ -2,12 +2,12 @@
 use mathlib.Core.Path.{_≡_, refl, sym, ap, _∙_}
 use mathlib.Core.Bool.{true}
 use mathlib.Core.List.{List, [], _∷_}
-use Prim.Native.Nat.{ℕ, zero, suc, _+_, _-_, _*_, _≤_, _<_}
-use native.Mathlib.Nat.{zero-add, add-zero, suc-mul, mul-one, mul-le-mul-left, mul-le-mul-right}
+use Prim.Native.Nat.{ℕ, suc, _+_, _-_, _*_, _≤_, _<_}
+use native.Mathlib.Nat.{add-zero, suc-mul, mul-one, mul-le-mul-left, mul-le-mul-right}
 use native.Mathlib.Numerals.{add-one}
 use native.Mathlib.Omega.{arith}
 use borrow.Author.Tests.{lt-ltb}
-use lib.ListN.{length, getD, take, drop, drop-of-length-le}
+use lib.ListN.{length, getD, drop, drop-of-length-le}
 use lib.Seq.{drop-cons, getD-take, length-take-le}
 use Rattle.laws.specs.Lists.{all}
 use Rattle.laws.specs.Overlay.{overlay}
@@ -16,7 +16,7 @@ use Rattle.laws.specs.Split.{split, between, endOf, EndsAt}
 use Rattle.laws.proofs.Split.{ends-at}
 use Rattle.laws.proofs.Tables.{all-at, all-weaker}
 use Rattle.files.specs.Cursor.{lineStart}
-use Rattle.files.proofs.Cursor.{StartsAt, line-at, line-is, lines-enough}
+use Rattle.files.proofs.Cursor.{line-at, line-is, lines-enough}
 use Rattle.files.proofs.FileTrip.{file-written}
 use Rattle.files.specs.Judged.{judgedFile, recordsOf}
 use Rattle.files.specs.declared.judge.Judged.the-variants.{Records}
