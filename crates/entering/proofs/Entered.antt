@@ -12,7 +12,7 @@ use native.Mathlib.Omega.{arith}
 use borrow.Author.Tests.{le-leb, leb-true}
 use lib.Dec.{eqb, leb}
 use lib.ListN.{length, getD}
-use Rattle.laws.specs.Lists.{table, any, all}
+use Rattle.laws.specs.Lists.{table, all}
 use Rattle.laws.specs.Slots.{slotAt, slotOf}
 use Rattle.laws.proofs.Slots.{held-slot}
 use Rattle.laws.proofs.Tables.{all-at}

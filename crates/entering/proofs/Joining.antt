@@ -1,12 +1,13 @@
 -- What the code that enters a file leaves in the buffers. Assumes nothing.
 use mathlib.Core.Path.{_≡_, refl, sym, ap, _∙_}
-use mathlib.Core.List.{List}
+use mathlib.Core.List.{List, []}
 use Prim.Native.Nat.{ℕ, _+_, _*_, _≤_}
 use native.Mathlib.Nat.{mul-le-mul-right}
 use native.Mathlib.Omega.{arith}
 use Rattle.laws.specs.Lists.{table}
 use Rattle.laws.specs.Overlay.{overlay}
 use Rattle.laws.specs.Words.{lowFirst}
+use Rattle.model.specs.Model.{Filed}
 use Rattle.files.specs.Judged.{judgedFile, recordsOf as textsOf}
 use Rattle.files.specs.declared.judge.Judged.the-variants.{Records}
 use Rattle.journals.specs.Files.{fileCount, fileAt, filesOf, fileSlot, recordsOf}
@@ -84,3 +85,9 @@ module _ (kind : Filable) (publisher day m : ℕ) (text : List ℕ) (judged : ju
       let r = er ∙ ap (λ (n : ℕ). regularWith kind regular n (textsOf (fileKind kind) text)) at in
       let c = ec ∙ ap (λ (n : ℕ). correctionsWith kind corrections n (textsOf (fileKind kind) text)) at in
       record { buffers = λ t e. (λ i. lent t (f i) (r i) (c i) e) ∙ entered-as kind publisher day text (lent t files regular corrections e) }
+
+-- two outcomes that the contract of entering allows are equal
+pub joined-one : {f : Filed} {files regular corrections a b c a₁ b₁ c₁ : List ℕ} → Joined f files regular corrections a b c → Joined f files regular corrections a₁ b₁ c₁ → (a ≡ a₁) × ((b ≡ b₁) × (c ≡ c₁))
+joined-one p q =
+    let e = p .buffers [] [] ∙ sym (q .buffers [] []) in
+    (ap (λ (l : Buffers). l .files) e, (ap (λ (l : Buffers). l .regular) e, ap (λ (l : Buffers). l .corrections) e))
