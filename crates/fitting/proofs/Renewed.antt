@@ -29,9 +29,10 @@ use Rattle.entry_slots.specs.Entries.{entrySlot, entryOf, entryAt, goodEntry}
 use Rattle.entry_slots.proofs.Back.{FineEntry, length-entry, entry-back, entry-fine}
 use Rattle.store.specs.Reads.{Buffers, lent, tableLine, held, longEnough, isReadable, reads}
 use Rattle.store.proofs.Checks.{long, few-lines, read-entries, reads-some}
+use Rattle.store.proofs.Whole.{whole-long, whole-table, whole-files, whole-records, whole-entries}
 use Rattle.fitting.specs.Renewing.{renewedSlot, renewedEntries, noFile, lastFiled}
 use Rattle.fitting.proofs.Lists.{zip-length, slot-among, length-among}
-use Rattle.fitting.proofs.Worked.{parts, all-fits}
+use Rattle.fitting.proofs.Worked.{all-fits}
 
 -- ---- the file that came last
 pub last-filed : (files : List Filed) (f : Filed) → lastFiled (files ++ (f ∷ [])) ≡ f
@@ -106,7 +107,7 @@ module _ (b : Buffers) (e : isReadable b ≡ true) (f : Filed) where
       ∙ ap₂ (renewedSlot files f) (line-at k h) (getD-table (length lines) k (slotAt 0 100 (b .entries)) [] (omega (arith, lines-count)))
 
   room : lineCount (b .table) * 100 ≤ length (b .entries)
-  room = omega (arith, few-lines (b .table) (parts b e .table-good), long b (parts b e .long) .long-entries)
+  room = omega (arith, few-lines (b .table) (whole-table b e), long b (whole-long b e) .long-entries)
 
   slot-width : (k : ℕ) → k < length slots → length (getD slots k []) ≡ 100
   slot-width k h =
@@ -130,7 +131,7 @@ module _ (b : Buffers) (e : isReadable b ≡ true) (f : Filed) where
       all-each goodEntry (lineCount (b .table)) (slotAt 0 100 after)
       (λ k h. ap goodEntry (slot-of k h) ∙ slot-good files f (line k) (slotAt 0 100 (b .entries) k) (all-fits b e k h)
       (ap goodEntry (sym (getD-table (lineCount (b .table)) k (slotAt 0 100 (b .entries)) [] h))
-      ∙ all-at goodEntry (table (lineCount (b .table)) (slotAt 0 100 (b .entries))) k [] (parts b e .entries-good) (omega (arith, length-table (lineCount (b .table)) (slotAt 0 100 (b .entries))))))
+      ∙ all-at goodEntry (table (lineCount (b .table)) (slotAt 0 100 (b .entries))) k [] (whole-entries b e) (omega (arith, length-table (lineCount (b .table)) (slotAt 0 100 (b .entries))))))
 
   module _ (before : List Filed) (q : files ≡ before ++ (f ∷ [])) where
     abbrev entries : List Entry
@@ -164,10 +165,10 @@ module _ (b : Buffers) (e : isReadable b ≡ true) (f : Filed) where
 
   still-long : longEnough with ≡ true
   unfolding longEnough renewedEntries
-  still-long = rw (length-overlay (b .entries) 0 (flatMap (λ (s : List ℕ). s) slots)) (parts b e .long)
+  still-long = rw (length-overlay (b .entries) 0 (flatMap (λ (s : List ℕ). s) slots)) (whole-long b e)
 
   pub renewed-readable : isReadable with ≡ true
-  renewed-readable = let w = parts b e in sym (read-entries with still-long (w .table-good) (w .files-good) (w .records-good) (lineCount (b .table)) refl) ∙ renewed-good
+  renewed-readable = sym (read-entries with still-long (whole-table b e) (whole-files b e) (whole-records b e) (lineCount (b .table)) refl) ∙ renewed-good
 
   pub renewed-reads : (before : List Filed) → files ≡ before ++ (f ∷ [])
       → reads with ≡ some (record { lines = lines; files = before ++ (f ∷ []); entries = zipWith (renewed rules before f) lines (held b .entries) })

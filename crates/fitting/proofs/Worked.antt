@@ -4,7 +4,7 @@
 --     worked-fits     so over the first files, as many as are asked for, and each line of the table
 --     all-fits        and over all files
 use mathlib.Core.Path.{_≡_, refl, sym, ap, subst, _∙_}
-use mathlib.Core.Bool.{Bool, true, _&&_}
+use mathlib.Core.Bool.{true, _&&_}
 use mathlib.Core.List.{List, [], _∷_, _++_, List·Memᴰ, List·Memᴰ·head, List·Memᴰ·tail, List·Memᴰ·not-nil}
 use Prim.Native.Nat.{ℕ, zero, suc, _+_, _≤_, _<_}
 use native.Mathlib.Omega.{arith}
@@ -12,30 +12,28 @@ use borrow.Author.Tests.{leb-true, eq-eqb}
 use lib.Dec.{leb}
 use lib.ListN.{length, getD, take}
 use lib.Seq.{take-length}
-use Rattle.laws.specs.Lists.{table, all, keep, noneTwice}
-use Rattle.laws.specs.Slots.{slotAt}
+use Rattle.laws.specs.Lists.{table, keep}
 use Rattle.laws.proofs.Lists.{mem-keep}
 use Rattle.laws.proofs.Order.{mem-inOrder}
 use Rattle.laws.proofs.Tables.{length-table, getD-table, all-at}
-use Rattle.laws.proofs.Tests.{and-left, and-right}
+use Rattle.laws.proofs.Tests.{and-left}
 use Rattle.calendar.specs.Dates.{inCalendar}
-use Rattle.fields.specs.Number.{sameNumber}
 use Rattle.fields.specs.declared.number.Number.{Number}
 use Rattle.entries.specs.Entry.{firstEntry}
 use Rattle.model.specs.Rules.{TableLine, Event}
 use Rattle.model.specs.Model.{Filed, eventAt, events, journal, about, notLater, history, entryOver}
 use Rattle.model.proofs.Files.{journal-file}
 use Rattle.rules.specs.Rules.{rules, recordOf, lineBy}
-use Rattle.journals.specs.Files.{fileCount, fileAt, filesOf, goodFile, sameFile, recordsIn, recordsOf}
+use Rattle.journals.specs.Files.{fileCount, fileAt, filesOf, goodFile, recordsIn, recordsOf}
 use Rattle.journals.specs.Reads.{recordsAt, filedAfter, filedIn, firstFiles, readFiles}
 use Rattle.journals.specs.declared.files.File.{File}
 use Rattle.journals.proofs.Keys.{good-day}
-use Rattle.numbers.specs.Lines.{lineCount, lineAt, linesOf, numberAt, goodLine}
+use Rattle.numbers.specs.Lines.{lineCount, lineAt, linesOf, goodLine}
 use Rattle.numbers.proofs.Fitting.{good-owner}
-use Rattle.entry_slots.specs.Entries.{goodEntry}
 use Rattle.entry_slots.proofs.Back.{FineEntry, first-fine}
-use Rattle.store.specs.Reads.{Buffers, tableLine, longEnough, goodTable, goodFiles, goodRecords, isReadable}
+use Rattle.store.specs.Reads.{Buffers, tableLine, goodTable, goodFiles, isReadable}
 use Rattle.store.proofs.Checks.{few-reports, few-corrections}
+use Rattle.store.proofs.Whole.{whole-table, whole-files, lines-good, files-good}
 use Rattle.fitting.proofs.Lists.{mem-below, mem-take, all-mem, total-mem}
 use Rattle.fitting.proofs.Steps.{FineRecord, fine-along}
 use Rattle.fitting.proofs.Records.{says-fine}
@@ -75,16 +73,9 @@ filed-from r before (g ∷ gs) (List·Memᴰ·head e) = (
 filed-from r before (g ∷ gs) (List·Memᴰ·tail m) = let w = filed-from r (before ++ (g ∷ [])) gs m in (w .0, List·Memᴰ·tail (w .1), w .2, w .3)
 
 module _ (files : List ℕ) (e : goodFiles files ≡ true) where
-  abbrev others : Bool
-  others = noneTwice sameFile (filesOf files) && (leb (recordsOf 0 (filesOf files)) 8192 && leb (recordsOf 1 (filesOf files)) 2048)
-
-  each-good : all goodFile (filesOf files) ≡ true
-  unfolding goodFiles
-  each-good = and-left (all goodFile (filesOf files)) others (and-right (leb (fileCount files) 1024) (all goodFile (filesOf files) && others) e)
-
   module _ (g : File) (m : List·Memᴰ g (filesOf files)) where
     good : goodFile g ≡ true
-    good = all-mem goodFile (filesOf files) each-good m
+    good = all-mem goodFile (filesOf files) (files-good files e) m
 
     kind-good : g .kind ≤ 1
     unfolding goodFile
@@ -110,47 +101,18 @@ module _ (files : List ℕ) (e : goodFiles files ≡ true) where
 
 -- ---- the lines of the table
 owner-in : (t : List ℕ) → goodTable t ≡ true → (k : ℕ) → k < lineCount t → lineAt t k .owner .0 ≤ 999
-unfolding goodTable linesOf
-owner-in t e k h = good-owner (lineAt t k) (ap goodLine (sym (getD-table (lineCount t) k (lineAt t) (lineAt t k) h)) ∙ all-at goodLine (linesOf t) k (lineAt t k) lines (omega (arith, length-table (lineCount t) (lineAt t))))
-  where
-    lines : all goodLine (table (lineCount t) (lineAt t)) ≡ true
-    lines =
-        and-left (all goodLine (table (lineCount t) (lineAt t))) (noneTwice sameNumber (table (lineCount t) (numberAt t)))
-        (and-right (leb (lineCount t) 1024) (all goodLine (table (lineCount t) (lineAt t)) && noneTwice sameNumber (table (lineCount t) (numberAt t))) e)
+unfolding linesOf
+owner-in t e k h =
+    good-owner (lineAt t k)
+    (ap goodLine (sym (getD-table (lineCount t) k (lineAt t) (lineAt t k) h))
+    ∙ all-at goodLine (linesOf t) k (lineAt t k) (lines-good t e) (omega (arith, length-table (lineCount t) (lineAt t))))
 
 -- ---- the store
-pub record Parts (b : Buffers) : Type 0 where
-  pub long : longEnough b ≡ true
-  pub table-good : goodTable (b .table) ≡ true
-  pub files-good : goodFiles (b .files) ≡ true
-  pub records-good : goodRecords (b .files) (b .regular) (b .corrections) ≡ true
-  pub entries-good : all goodEntry (table (lineCount (b .table)) (slotAt 0 100 (b .entries))) ≡ true
-
-pub parts : (b : Buffers) → isReadable b ≡ true → Parts b
-unfolding isReadable
-parts b e =
-    let l : Bool = longEnough b in
-    let t : Bool = goodTable (b .table) in
-    let f : Bool = goodFiles (b .files) in
-    let r : Bool = goodRecords (b .files) (b .regular) (b .corrections) in
-    let n : Bool = all goodEntry (table (lineCount (b .table)) (slotAt 0 100 (b .entries))) in
-    let e₁ = and-right l (t && (f && (r && n))) e in
-    let e₂ = and-right t (f && (r && n)) e₁ in
-    let e₃ = and-right f (r && n) e₂ in
-    record {
-      long = and-left l (t && (f && (r && n))) e;
-      table-good = and-left t (f && (r && n)) e₁;
-      files-good = and-left f (r && n) e₂;
-      records-good = and-left r n e₃;
-      entries-good = and-right r n e₃;
-    }
-
 module _ (b : Buffers) (e : isReadable b ≡ true) (k : ℕ) (h : k < lineCount (b .table)) where
   pub worked-fits : (n : ℕ) → FineEntry (entryOver rules (take n (readFiles (b .files) (b .regular) (b .corrections))) (tableLine (lineAt (b .table) k)))
   worked-fits n =
-      let w = parts b e in
-      worked-fine (take n (readFiles (b .files) (b .regular) (b .corrections))) (tableLine (lineAt (b .table) k)) (owner-in (b .table) (w .table-good) k h)
-      (λ f m. filed-fine (b .files) (w .files-good) (b .regular) (b .corrections) f (mem-take n (readFiles (b .files) (b .regular) (b .corrections)) m))
+      worked-fine (take n (readFiles (b .files) (b .regular) (b .corrections))) (tableLine (lineAt (b .table) k)) (owner-in (b .table) (whole-table b e) k h)
+      (λ f m. filed-fine (b .files) (whole-files b e) (b .regular) (b .corrections) f (mem-take n (readFiles (b .files) (b .regular) (b .corrections)) m))
 
   pub all-fits : FineEntry (entryOver rules (readFiles (b .files) (b .regular) (b .corrections)) (tableLine (lineAt (b .table) k)))
   all-fits =
