@@ -175,13 +175,20 @@ last-small (On d) f = omega arith
 abbrev flat : Entry → List ℕ
 flat e = flatMap placeSlot (e .places)
 
+-- an entry with eight places takes 100 bytes, whatever it holds
+places-length : (e : Entry) → length (e .places) ≡ 8 → length (flat e) ≡ 96
+places-length e eight = length-flat 12 placeSlot length-place (e .places) ∙ ap (λ (n : ℕ). n * 12) eight
+
+pub slot-length : (e : Entry) → length (e .places) ≡ 8 → length (entrySlot e) ≡ 100
+unfolding entrySlot lowFirst
+slot-length e eight = omega (arith, places-length e eight)
+
 module _ (e : Entry) (f : FineEntry e) where
   flat-length : length (flat e) ≡ 96
-  flat-length = length-flat 12 placeSlot length-place (e .places) ∙ ap (λ (n : ℕ). n * 12) (f .eight)
+  flat-length = places-length e (f .eight)
 
   pub length-entry : length (entrySlot e) ≡ 100
-  unfolding entrySlot lowFirst
-  length-entry = omega (arith, flat-length)
+  length-entry = slot-length e (f .eight)
 
   places-part : part (entrySlot e) 4 96 ≡ (flat e)
   unfolding entrySlot lowFirst part

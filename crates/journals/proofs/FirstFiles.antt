@@ -2,25 +2,13 @@
 use mathlib.Core.Path.{_≡_, refl, sym, ap, _∙_}
 use mathlib.Core.List.{List, [], _∷_, _++_, append-assoc, append-nil}
 use Prim.Native.Nat.{ℕ, zero, suc, _≤_}
-use native.Mathlib.Decide.{ℕ-discrete}
-use native.Mathlib.Omega.{arith}
-use lib.ListN.{length, take, length-append}
-use lib.Seq.{take-all, take-append-le}
+use lib.ListN.{take}
 use Rattle.laws.specs.Lists.{table}
-use Rattle.laws.proofs.Tables.{length-table}
+use Rattle.laws.proofs.Tables.{take-table}
 use Rattle.model.specs.Model.{Filed}
 use Rattle.journals.specs.Files.{fileAt, fileCount}
 use Rattle.journals.specs.declared.files.File.{File}
 use Rattle.journals.specs.Reads.{recordsAt, filedAfter, filedIn, firstFiles, readFiles}
-
--- the first elements of a table
-take-table : {A : Type 0} (n m : ℕ) (f : ℕ → A) → n ≤ m → take n (table m f) ≡ table n f
-unfolding table
-take-table n zero f h = let e : n ≡ 0 = omega arith in rw e
-take-table n (suc m) f h = elim (ℕ-discrete n (suc m)) [
-  | yes e ↦ rw e (take-all (suc m) (table m f ++ (f m ∷ [])) (omega (arith, length-append (table m f) (f m ∷ []), length-table m f)))
-  | no ne ↦ take-append-le n (table m f) (f m ∷ []) (omega (arith, length-table m f)) ∙ take-table n m f (omega arith)
-]
 
 -- one file more
 pub filed-end : (r : ℕ → ℕ → List ℕ) (before fs : List File) (f : File) → filedIn r before (fs ++ (f ∷ [])) ≡ filedIn r before fs ++ (filedAfter r (before ++ fs) f ∷ [])

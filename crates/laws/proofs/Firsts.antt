@@ -1,12 +1,14 @@
 -- The first element that passes a test (`firstAt`). Assumes nothing.
 --     any-first       some element passes exactly if the first that does has a place in the list
 --     first-passes    and it stands there
+--     first-before    none before it passes
+--     first-within    it stands in the list, or its place is the list's length
 --     none-at         where no element passes, none at any place does
 --     none-set        nor after a store of one that does not
 use mathlib.Core.Path.{_≡_, sym, refl, _∙_}
 use mathlib.Core.Bool.{Bool, true, false, cond, _||_}
 use mathlib.Core.List.{List, [], _∷_}
-use Prim.Native.Nat.{ℕ, zero, suc, _<_}
+use Prim.Native.Nat.{ℕ, zero, suc, _≤_, _<_}
 use native.Mathlib.Omega.{arith}
 use borrow.Author.Tests.{lt-ltb}
 use lib.Dec.{ltb}
@@ -32,6 +34,23 @@ module _ {A : Type 0} (p : A → Bool) where
       go : (t : Bool) → p x ≡ t → (t || any p l) ≡ true → (any p l ≡ true → p (getD l (firstAt p l) d) ≡ true) → p (getD (x ∷ l) (cond t 0 (suc (firstAt p l))) d) ≡ true
       go true e h ih = e
       go false e h ih = ih h
+
+  pub first-before : (l : List A) (i : ℕ) (d : A) → i < firstAt p l → p (getD l i d) ≡ false
+  first-before [] i d h = absurd (omega arith)
+  first-before (x ∷ l) i d h = go (p x) refl i h (λ j. first-before l j d)
+    where
+      go : (t : Bool) → p x ≡ t → (i : ℕ) → i < cond t 0 (suc (firstAt p l)) → ((j : ℕ) → j < firstAt p l → p (getD l j d) ≡ false) → p (getD (x ∷ l) i d) ≡ false
+      go true e i h ih = absurd (omega arith)
+      go false e zero h ih = e
+      go false e (suc i) h ih = ih i (omega arith)
+
+  pub first-within : (l : List A) → firstAt p l ≤ length l
+  first-within [] = omega arith
+  first-within (x ∷ l) = go (p x) (first-within l)
+    where
+      go : (t : Bool) → firstAt p l ≤ length l → cond t 0 (suc (firstAt p l)) ≤ suc (length l)
+      go true ih = omega arith
+      go false ih = omega arith
 
   pub none-at : (l : List A) (i : ℕ) (d : A) → i < length l → any p l ≡ false → p (getD l i d) ≡ false
   unfolding any

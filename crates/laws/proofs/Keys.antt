@@ -32,6 +32,13 @@ module _ {A : Type 0} (R : A → A → Type 0) where
     onward-end l z (o .1) (λ y m. h y (List·Memᴰ·tail m)),
   )
 
+  pub onward-append : (l m : List A) → Onward R l → Onward R m → ((x y : A) → List·Memᴰ x l → List·Memᴰ y m → R x y) → Onward R (l ++ m)
+  onward-append [] m o p h = p
+  onward-append (x ∷ l) m o p h = (
+    (λ y i. ⊎-elim (o .0 y) (h x y (List·Memᴰ·head refl)) (List·Memᴰ·append-cases l i)),
+    onward-append l m (o .1) p (λ a b i j. h a b (List·Memᴰ·tail i) j),
+  )
+
   pub onward-keep : (p : A → Bool) (l : List A) → Onward R l → Onward R (keep p l)
   unfolding keep
   onward-keep p [] o = tt
@@ -56,6 +63,12 @@ module _ {A B : Type 0} (f : A → B) (le : A → A → Bool) (le′ : B → B �
   unfolding inOrder
   map-onward [] o = refl
   map-onward (x ∷ l) o = map-put x (inOrder le l) (λ y m. o .0 y (mem-inOrder le l m)) ∙ ap (put le′ (f x)) (map-onward l (o .1))
+
+-- one relation for another, where the elements keep what is needed for it
+pub onward-both : {A : Type 0} (P : A → Type 0) (R S : A → A → Type 0) → ((x y : A) → P x → P y → R x y → S x y) → (l : List A) → ((x : A) → List·Memᴰ x l → P x) → Onward R l → Onward S l
+onward-both P R S h [] p o = tt
+onward-both P R S h (x ∷ l) p o =
+    ((λ y m. h x y (p x (List·Memᴰ·head refl)) (p y (List·Memᴰ·tail m)) (o .0 y m)), onward-both P R S h l (λ y m. p y (List·Memᴰ·tail m)) (o .1))
 
 pub onward-other : {A : Type 0} (R S : A → A → Type 0) → ((x y : A) → R x y → S x y) → (l : List A) → Onward R l → Onward S l
 onward-other R S h [] o = tt

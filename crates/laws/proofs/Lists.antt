@@ -93,10 +93,15 @@ module _ {A : Type 0} where
       go false false e ih = ih
 
   -- ---- members
-  pub mem-table : {a : A} (n : ℕ) (f : ℕ → A) → List·Memᴰ a (table n f) → (i : ℕ) × (a ≡ f i)
+  pub mem-below : {a : A} (n : ℕ) (f : ℕ → A) → List·Memᴰ a (table n f) → (i : ℕ) × (i < n) × (a ≡ f i)
   unfolding table
-  mem-table zero f m = absurd (List·Memᴰ·not-nil m)
-  mem-table {a} (suc n) f m = ⊎-elim (mem-table n f) (λ k. (n, List·Memᴰ·eq-of-singleton k)) (List·Memᴰ·append-cases (table n f) m)
+  mem-below zero f m = absurd (List·Memᴰ·not-nil m)
+  mem-below (suc n) f m =
+      ⊎-elim (λ k. let w = mem-below n f k in (w .0, omega (arith, w .1), w .2)) (λ k. (n, omega arith, List·Memᴰ·eq-of-singleton k))
+      (List·Memᴰ·append-cases (table n f) m)
+
+  pub mem-table : {a : A} (n : ℕ) (f : ℕ → A) → List·Memᴰ a (table n f) → (i : ℕ) × (a ≡ f i)
+  mem-table n f m = let w = mem-below n f m in (w .0, w .2)
 
   pub mem-keep : {a : A} (p : A → Bool) (l : List A) → List·Memᴰ a (keep p l) → List·Memᴰ a l
   unfolding keep

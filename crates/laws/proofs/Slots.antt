@@ -3,14 +3,14 @@ use mathlib.Core.Path.{_≡_, refl, sym, ap, ap₂, _∙_}
 use mathlib.Core.List.{List, [], _∷_, _++_, append-assoc, append-nil, flatMap}
 use Prim.Native.Nat.{ℕ, zero, suc, _+_, _-_, _*_, _≤_, _<_}
 use native.Mathlib.Numerals.{add-one}
-use native.Mathlib.Nat.{suc-mul, zero-mul, mul-le-mul-right}
+use native.Mathlib.Nat.{zero-add, suc-mul, zero-mul, mul-le-mul-right}
 use native.Mathlib.Decide.{decLe}
 use native.Mathlib.Omega.{arith}
-use lib.ListN.{length, take, drop, getD, set, replicate, length-append, length-replicate, length-take}
-use lib.Seq.{take-at, drop-at, take-suc, take-take, take-all, length-take-le, drop-cons}
+use lib.ListN.{length, take, drop, getD, set, replicate, length-append, length-replicate, length-take, take-append-drop}
+use lib.Seq.{take-add, take-at, drop-at, drop-append-add, take-suc, take-take, take-all, length-take-le, drop-cons}
 use Rattle.laws.specs.Overlay.{overlay, part}
 use Rattle.laws.specs.Slots.{slotAt, slotOf, heldIn}
-use Rattle.laws.proofs.Overlay.{part-same, part-before, part-after, overlay-append, overlay-none}
+use Rattle.laws.proofs.Overlay.{part-same, part-before, part-after, overlay-append, overlay-none, overlay-parts}
 use Rattle.laws.proofs.Lists.{flat-append}
 
 -- a lower slot ends before a higher one begins
@@ -127,3 +127,46 @@ module _ {A : Type 0} (width : ℕ) (f : A → List ℕ) (each : (x : A) → len
   pub flat-none : (xs : List ℕ) (at : ℕ) (l : List A) → xs ≡ overlay xs at (flatMap f (take 0 l))
   unfolding flatMap
   flat-none xs at l = overlay-none xs at
+
+-- ---- two lists whose first n slots are equal, and what stands behind these
+take-slots : (width : ℕ) (a b : List ℕ) (n : ℕ) → ((k : ℕ) → k < n → slotAt 0 width a k ≡ slotAt 0 width b k) → take (n * width) a ≡ take (n * width) b
+unfolding slotAt part
+take-slots width a b zero h = rw zero-mul
+take-slots width a b (suc n) h =
+    let split : (l : List ℕ) → take (suc n * width) l ≡ take (n * width) l ++ take width (drop (n * width) l) =
+    λ l. ap (λ (m : ℕ). take m l) (suc-mul n width) ∙ take-add (n * width) width l in
+    let one : take width (drop (n * width) a) ≡ take width (drop (n * width) b) = rw zero-add at (h n (omega arith)) in
+    split a ∙ ap₂ (λ (l m : List ℕ). l ++ m) (take-slots width a b n (λ k u. h k (omega arith))) one ∙ sym (split b)
+
+pub same-slots : (width : ℕ) (a b : List ℕ) (n : ℕ) → ((k : ℕ) → k < n → slotAt 0 width a k ≡ slotAt 0 width b k) → drop (n * width) a ≡ drop (n * width) b → a ≡ b
+same-slots width a b n h e =
+    sym (take-append-drop (n * width) a) ∙ ap₂ (λ (l m : List ℕ). l ++ m) (take-slots width a b n h) e ∙ take-append-drop (n * width) b
+
+-- ---- slots given as a list, each of the width, laid from the start on: each is read at its place
+abbrev joined : List (List ℕ) → List ℕ
+joined l = flatMap (λ (s : List ℕ). s) l
+
+module _ (width : ℕ) where
+  pub length-joined : (l : List (List ℕ)) → ((k : ℕ) → k < length l → length (getD l k []) ≡ width) → length (joined l) ≡ length l * width
+  unfolding flatMap
+  length-joined [] each = sym (zero-mul width)
+  length-joined (x ∷ l) each =
+      omega (arith, length-append x (joined l), each 0 (omega arith), length-joined l (λ k h. each (suc k) (omega arith)), suc-mul (length l) width)
+
+  slot-joined : (l : List (List ℕ)) (rest : List ℕ) → ((k : ℕ) → k < length l → length (getD l k []) ≡ width) → (i : ℕ) → i < length l → slotAt 0 width (joined l ++ rest) i ≡ getD l i []
+  unfolding slotAt part flatMap
+  slot-joined [] rest each i h = absurd (omega arith)
+  slot-joined (x ∷ l) rest each zero h =
+      ap₂ (λ (k : ℕ) (r : List ℕ). take width (drop k r)) (zero-add (0 * width) ∙ zero-mul width) (append-assoc x (joined l) rest)
+      ∙ take-at x (joined l ++ rest) width (each 0 (omega arith))
+  slot-joined (x ∷ l) rest each (suc i) h =
+      let on : 0 + suc i * width ≡ length x + (0 + i * width) = omega (arith, suc-mul i width, each 0 (omega arith)) in
+      ap₂ (λ (k : ℕ) (r : List ℕ). take width (drop k r)) on (append-assoc x (joined l) rest)
+      ∙ ap (take width) (drop-append-add x (joined l ++ rest) (0 + i * width))
+      ∙ slot-joined l rest (λ k u. each (suc k) (omega arith)) i (omega arith)
+
+  pub slot-laid : (xs : List ℕ) (l : List (List ℕ)) → ((k : ℕ) → k < length l → length (getD l k []) ≡ width) → length l * width ≤ length xs → (i : ℕ) → i < length l
+      → slotAt 0 width (overlay xs 0 (joined l)) i ≡ getD l i []
+  slot-laid xs l each fits i h =
+      ap (λ (r : List ℕ). slotAt 0 width r i) (overlay-parts xs 0 (joined l) (omega (arith, length-joined l each)))
+      ∙ slot-joined l (drop (0 + length (joined l)) xs) each i h

@@ -12,7 +12,7 @@ use Prim.Native.Nat.{ℕ, zero, suc, _+_, _≤_, _<_}
 use native.Mathlib.Numerals.{add-one}
 use native.Mathlib.Omega.{arith}
 use lib.ListN.{length, take, drop, getD, set, length-append, drop-of-length-le, List·getD-append}
-use lib.Seq.{drop-cons, getD-at, take-suc-set, ext-getD}
+use lib.Seq.{drop-cons, getD-at, take-all, take-append-le, take-suc-set, ext-getD}
 use Rattle.laws.specs.Lists.{table, any, all}
 use Rattle.laws.proofs.Tests.{and-left, and-right}
 
@@ -119,6 +119,15 @@ module _ {A : Type 0} where
 
   pub drop-none : (n i : ℕ) (f : ℕ → A) → n ≤ i → drop i (table n f) ≡ []
   drop-none n i f h = drop-of-length-le (table n f) {i = i} (omega (arith, length-table n f))
+
+  -- the first elements of a table
+  pub take-table : (n m : ℕ) (f : ℕ → A) → n ≤ m → take n (table m f) ≡ table n f
+  unfolding table
+  take-table n zero f h = let e : n ≡ 0 = omega arith in rw e
+  take-table n (suc m) f h = elim (ℕ-discrete n (suc m)) [
+    | yes e ↦ rw e (take-all (suc m) (table m f ++ (f m ∷ [])) (omega (arith, length-append (table m f) (f m ∷ []), length-table m f)))
+    | no ne ↦ take-append-le n (table m f) (f m ∷ []) (omega (arith, length-table m f)) ∙ take-table n m f (omega arith)
+  ]
 
   -- a loop that lays a table down in a list, one element a turn
   pub lay-none : (f : ℕ → A) (xs : List A) → take 0 xs ≡ table 0 f

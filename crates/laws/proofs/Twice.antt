@@ -3,7 +3,7 @@
 use mathlib.Core.Path.{_≡_, refl, sym, ap, _∙_}
 use mathlib.Core.Bool.{Bool, true, false, cond, not, _&&_}
 use mathlib.Core.List.{List, [], _∷_, map}
-use Prim.Native.Nat.{ℕ, suc, _+_, _≤_, _<_}
+use Prim.Native.Nat.{ℕ, zero, suc, _+_, _≤_, _<_}
 use native.Mathlib.Numerals.{add-one}
 use native.Mathlib.Omega.{arith}
 use lib.ListN.{length, getD, drop, drop-of-length-le}
@@ -13,6 +13,7 @@ use borrow.Author.Tests.{eqb-true, eqb-false, eq-eqb}
 use Rattle.laws.specs.Lists.{any, all, noneTwice}
 use Rattle.laws.specs.Order.{sorted, rising, count}
 use Rattle.laws.proofs.Tests.{and-left, and-right, and-true}
+use Rattle.laws.proofs.Firsts.{none-at}
 use Rattle.laws.proofs.Rising.{count-here, count-nil, count-other, count-sorted, distinct-rising, rising-distinct}
 
 false≢true : false ≡ true → ⊥
@@ -91,6 +92,14 @@ module _ {A : Type 0} (same : A → A → Bool) (key : A → ℕ) where
         go false false p q = refl
         go true false p q = sym (rising-once level l p) ∙ q
         go false true p q = sym p ∙ once-rising l a q
+
+-- ---- of two places of a list where no element is there twice
+pub once-apart : {A : Type 0} (same : A → A → Bool) (l : List A) (i j : ℕ) (d : A) → noneTwice same l ≡ true → i < j → j < length l → same (getD l i d) (getD l j d) ≡ false
+unfolding noneTwice
+once-apart same [] i j d e h b = absurd (omega arith)
+once-apart same (x ∷ l) i zero d e h b = absurd (omega arith)
+once-apart same (x ∷ l) zero (suc j) d e h b = none-at (same x) l j d (omega arith) (not-yes (any (same x) l) (and-left (not (any (same x) l)) (noneTwice same l) e))
+once-apart same (x ∷ l) (suc i) (suc j) d e h b = once-apart same l i j d (and-right (not (any (same x) l)) (noneTwice same l) e) (omega arith) (omega arith)
 
 -- ---- a loop that looks behind each element, with the invariant `noneTwice same (drop i xs) ≡ noneTwice same xs`
 module _ {A : Type 0} (same : A → A → Bool) (d : A) (xs : List A) (i : ℕ) where

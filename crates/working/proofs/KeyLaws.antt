@@ -1,7 +1,7 @@
 -- The keys: each gives its record back, and sorted they are the history. Assumes nothing.
 use mathlib.Core.Path.{_≡_, refl, sym, ap, _∙_}
 use mathlib.Core.Bool.{Bool, cond}
-use mathlib.Core.List.{List, [], _∷_, map, foldl, List·Memᴰ, List·Memᴰ·head, List·Memᴰ·tail}
+use mathlib.Core.List.{List, [], _∷_, map, foldl, List·Memᴰ}
 use Prim.Native.Nat.{ℕ, zero, suc, _+_, _*_, _/_, _%_, _≤_, _<_}
 use native.Mathlib.Omega.{arith}
 use borrow.Author.Tests.{eq-eqb, ne-eqb, lt-ltb}
@@ -13,7 +13,7 @@ use Rattle.laws.specs.Keys.{packed, Fits}
 use Rattle.laws.proofs.Lists.{keep-map, mem-keep}
 use Rattle.laws.proofs.Order.{mem-inOrder, length-inOrder}
 use Rattle.laws.proofs.Folds.{fold-map, fold-agree}
-use Rattle.laws.proofs.Keys.{Onward, onward-keep, map-onward, map-inOrder, packed-order, tagged-order}
+use Rattle.laws.proofs.Keys.{Onward, onward-keep, onward-both, map-onward, map-inOrder, packed-order, tagged-order}
 use Rattle.fields.specs.declared.number.Number.{Number}
 use Rattle.model.specs.Rules.{Event}
 use Rattle.model.specs.Model.{journal, about, notLater, history}
@@ -64,12 +64,6 @@ pub record Bounded (r : ℕ → ℕ → List ℕ) (s : Slip) : Type 0 where
   pub publishers : s .publisher < 1024
   pub places : s .place < 8192
   pub indices : s .index + 6144 * s .kind < 8192
-
--- each in order, where the elements keep what is needed for it
-onward-both : {A : Type 0} (P : A → Type 0) (R S : A → A → Type 0) → ((x y : A) → P x → P y → R x y → S x y) → (l : List A) → ((x : A) → List·Memᴰ x l → P x) → Onward R l → Onward S l
-onward-both P R S h [] p o = tt
-onward-both P R S h (x ∷ l) p o =
-    ((λ y m. h x y (p x (List·Memᴰ·head refl)) (p y (List·Memᴰ·tail m)) (o .0 y m)), onward-both P R S h l (λ y m. p y (List·Memᴰ·tail m)) (o .1))
 
 -- days, classes, publishers, places in a file, places in a journal
 abbrev bounds : List ℕ

@@ -1,16 +1,16 @@
 -- The slips stand for the journal's records, each in its bounds, and rise along each journal. Assumes nothing.
 use mathlib.Core.Path.{_≡_, refl, sym, ap, subst, _∙_}
 use mathlib.Core.Logic.{⊎-elim}
-use mathlib.Core.List.{List, [], _∷_, _++_, map, map-append, append-nil, flatMap, List·Memᴰ, List·Memᴰ·head, List·Memᴰ·tail, List·Memᴰ·append-cases, List·Memᴰ·eq-of-singleton, List·Memᴰ·not-nil}
+use mathlib.Core.List.{List, [], _∷_, _++_, map, map-append, append-nil, flatMap, List·Memᴰ, List·Memᴰ·append-cases, List·Memᴰ·not-nil}
 use Prim.Native.Nat.{ℕ, zero, suc, _+_, _≤_, _<_}
 use native.Mathlib.Decide.{ℕ-discrete}
 use native.Mathlib.Omega.{arith}
 use borrow.Author.Tests.{eq-eqb, ne-eqb}
 use lib.ListN.{length, length-append}
 use Rattle.laws.specs.Lists.{table, total}
-use Rattle.laws.proofs.Lists.{flat-append}
+use Rattle.laws.proofs.Lists.{flat-append, mem-below}
 use Rattle.laws.proofs.Tables.{length-table, getD-table, table-cong, map-table}
-use Rattle.laws.proofs.Keys.{Onward, onward-end}
+use Rattle.laws.proofs.Keys.{Onward, onward-end, onward-append}
 use Rattle.model.specs.Rules.{Event}
 use Rattle.model.specs.Model.{eventAt, events, journal}
 use Rattle.journals.specs.Files.{recordsIn, recordsOf}
@@ -20,21 +20,6 @@ use Rattle.rules.specs.Records.{classIn}
 use Rattle.journals.specs.Reads.{filedAfter, filedIn}
 use Rattle.working.specs.Slips.{Slip, slipAt, slipsOf, slips}
 use Rattle.journals.proofs.FirstFiles.{filed-end}
-
--- ---- lists
-mem-below : {A : Type 0} {a : A} (n : ℕ) (f : ℕ → A) → List·Memᴰ a (table n f) → (i : ℕ) × (i < n) × (a ≡ f i)
-unfolding table
-mem-below zero f m = absurd (List·Memᴰ·not-nil m)
-mem-below (suc n) f m =
-    ⊎-elim (λ k. let w = mem-below n f k in (w .0, omega (arith, w .1), w .2)) (λ k. (n, omega arith, List·Memᴰ·eq-of-singleton k))
-    (List·Memᴰ·append-cases (table n f) m)
-
-onward-append : {A : Type 0} (R : A → A → Type 0) (l m : List A) → Onward R l → Onward R m → ((x y : A) → List·Memᴰ x l → List·Memᴰ y m → R x y) → Onward R (l ++ m)
-onward-append R [] m o p h = p
-onward-append R (x ∷ l) m o p h = (
-  (λ y i. ⊎-elim (o .0 y) (h x y (List·Memᴰ·head refl)) (List·Memᴰ·append-cases l i)),
-  onward-append R l m (o .1) p (λ a b i j. h a b (List·Memᴰ·tail i) j),
-)
 
 -- ---- how many records the files of a kind have
 pub own-records : (f : File) (kind : ℕ) → f .kind ≡ kind → recordsIn kind f ≡ f .count

@@ -1,7 +1,7 @@
 -- Working out: the fold over the sorted keys is the one over the history. Assumes nothing.
-use mathlib.Core.Path.{_≡_, sym, ap, _∙_}
+use mathlib.Core.Path.{_≡_, refl, sym, ap, _∙_}
 use mathlib.Core.List.{List, [], _++_, map, foldl}
-use Prim.Native.Nat.{ℕ, _+_, _<_}
+use Prim.Native.Nat.{ℕ, _+_, _≤_, _<_}
 use lib.ListN.{length, take, drop, getD}
 use Rattle.laws.specs.Lists.{table}
 use Rattle.laws.specs.Order.{sorted}
@@ -21,7 +21,7 @@ use Rattle.working.specs.Slips.{keysOf}
 use Rattle.working.specs.Working.{tableLine, Sound, Gathered, standBehind, WorkedAfresh}
 use Rattle.journals.proofs.FirstFiles.{first-of-all}
 use Rattle.working.proofs.KeyLaws.{fold-keys, keys-count}
-use Rattle.working.proofs.GatherLaws.{ranged}
+use Rattle.working.proofs.GatherLaws.{ranged, room-all}
 
 -- a turn of the fold
 pub fold-turn : (line : Line) (regular corrections keys : List ℕ) (s t : Standing) (i : ℕ) → i < length keys
@@ -31,6 +31,25 @@ fold-turn line regular corrections keys s t i h e q =
     q ∙ ap (λ (u : Standing). standBehind line regular corrections u (getD keys i 0)) e
     ∙ sym (fold-more (standBehind line regular corrections) (firstStanding line) 0 keys i h)
 
+-- ---- how many records name the number
+module _ (n : ℕ) (files regular corrections : List ℕ) (number : Number) (sound : Sound n files regular corrections) where
+  counted : length (keysOf (recordsAt regular corrections) number (fileAt files) n) ≡ length (history rules (firstFiles n files regular corrections) number)
+  unfolding firstFiles
+  counted =
+      keys-count regular corrections (sound .regularRoom) (sound .correctionRoom) (fileAt files) n (ranged n files regular corrections sound) (sound .reports) (sound .objections) number
+
+  -- what gathering counts is the length of the history
+  pub gathered-count : (keys : List ℕ) (r : ℕ) → Gathered n files regular corrections number keys r → r ≡ length (history rules (take n (readFiles files regular corrections)) number)
+  gathered-count keys r g =
+      g .counted ∙ counted ∙ ap (λ (fs : List Filed). length (history rules fs number)) (first-of-all n files regular corrections (sound .filed))
+
+  -- which is at most as long as both journals
+  pub history-few : length (history rules (take n (readFiles files regular corrections)) number) ≤ 10240
+  history-few =
+      rw (← (counted ∙ ap (λ (fs : List Filed). length (history rules fs number)) (first-of-all n files regular corrections (sound .filed))))
+      (room-all n files regular corrections sound number (length (keysOf (recordsAt regular corrections) number (fileAt files) n)) refl)
+
+-- ---- where it stands
 module _ (n : ℕ) (files regular corrections : List ℕ) (number : Number) (line : Line) (sound : Sound n files regular corrections) where
   folded : foldl (standBehind line regular corrections) (firstStanding line) (sorted (keysOf (recordsAt regular corrections) number (fileAt files) n)) ≡ entryOver standings (firstFiles n files regular corrections) (tableLine number line)
   unfolding standBehind entryOver firstFiles
@@ -38,11 +57,6 @@ module _ (n : ℕ) (files regular corrections : List ℕ) (number : Number) (lin
       fold-keys regular corrections (sound .regularRoom) (sound .correctionRoom) (fileAt files) n (ranged n files regular corrections sound) (sound .reports) (sound .objections) number
       (λ (t : Standing) (e : Event). standOn line t (recordOf e)) (firstStanding line)
       ∙ ap (foldl (λ (t : Standing) (e : Event). standOn line t (recordOf e)) (firstStanding line)) (sym (same-history (filedIn (recordsAt regular corrections) [] (table n (fileAt files))) number))
-
-  counted : length (keysOf (recordsAt regular corrections) number (fileAt files) n) ≡ length (history rules (firstFiles n files regular corrections) number)
-  unfolding firstFiles
-  counted =
-      keys-count regular corrections (sound .regularRoom) (sound .correctionRoom) (fileAt files) n (ranged n files regular corrections sound) (sound .reports) (sound .objections) number
 
   pub answer : (keys after : List ℕ) (r : ℕ) (s : Standing) → Gathered n files regular corrections number keys r → after ≡ sorted (take r keys) ++ drop r keys
       → s ≡ foldl (standBehind line regular corrections) (firstStanding line) (take r after) → WorkedAfresh n files regular corrections number line s r
@@ -54,7 +68,7 @@ module _ (n : ℕ) (files regular corrections : List ℕ) (number : Number) (lin
       ∙ ap (λ (fs : List Filed). entryOver standings fs (tableLine number line)) read in record {
         stands = stands;
         entry = ap (λ (t : Standing). t .entry) stands ∙ standing-entry (take n (readFiles files regular corrections)) (tableLine number line);
-        counted = g .counted ∙ counted ∙ ap (λ (fs : List Filed). length (history rules fs number)) read;
+        counted = gathered-count n files regular corrections number sound keys r g;
       }
 
 -- what is worked out over the first files is what the stored entries were when only these had arrived

@@ -17,7 +17,7 @@ ghost use Rattle.working.specs.Slips.{slipAt, keyBy, keyOf, keysIn, keys
 ghost use Rattle.working.specs.Working.{Sound, Stored, InFile, Behind, Gathered};
 
 // The bytes of the record at a place of the journal of a kind.
-fn record_at<'a>(regular: &'a [u8], corrections: &'a [u8], kind: u8, place: usize) -> &'a [u8]
+pub fn record_at<'a>(regular: &'a [u8], corrections: &'a [u8], kind: u8, place: usize) -> &'a [u8]
     requires { ⌜ Stored (now regular) (now corrections) kind place ⌝ }
     ensures { λ r. ⌜ now r ≡ recordsAt (now (regular .entry)) (now (corrections .entry)) kind place ⌝ }
 {
