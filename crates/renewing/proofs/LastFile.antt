@@ -1,0 +1,40 @@
+-- The file that came last, as the code finds it in the list of files. Assumes nothing.
+use mathlib.Core.Path.{_≡_, refl, sym, ap, _∙_}
+use mathlib.Core.List.{List, [], _∷_, _++_}
+use Prim.Native.Nat.{ℕ, zero, suc, _+_, _-_, _≤_, _<_}
+use native.Mathlib.Omega.{arith}
+use lib.ListN.{length, take, length-append}
+use lib.Seq.{getD-at}
+use Rattle.laws.specs.Lists.{table}
+use Rattle.model.specs.Model.{Filed}
+use Rattle.journals.specs.Files.{fileAt, fileCount, recordsOf}
+use Rattle.journals.specs.declared.files.File.{File}
+use Rattle.journals.specs.Reads.{recordsAt, filedAfter, filedIn, firstFiles, readFiles}
+use Rattle.journals.proofs.FirstFiles.{filed-end, first-of-all}
+use Rattle.renewing.specs.Renewing.{lastFiled}
+use Rattle.renewing.specs.Turns.{filedFrom}
+
+-- one file behind others is the last
+pub last-end : (fs : List Filed) (f : Filed) → lastFiled (fs ++ (f ∷ [])) ≡ f
+unfolding lastFiled
+last-end fs f =
+    let n : length fs ≡ length (fs ++ (f ∷ [])) - 1 = omega (arith, length-append fs (f ∷ [])) in
+    getD-at fs f [] (record { kind = 0; publisher = 0; day = 0; records = [] }) (length (fs ++ (f ∷ [])) - 1) n
+
+last-of : (r : ℕ → ℕ → List ℕ) (file : ℕ → File) (n m : ℕ) → n ≡ suc m → lastFiled (filedIn r [] (table n file)) ≡ filedFrom r (file m) (recordsOf (file m .kind) (table m file))
+unfolding table filedFrom filedAfter
+last-of r file n m e =
+    ap (λ (k : ℕ). lastFiled (filedIn r [] (table k file))) e ∙ ap lastFiled (filed-end r [] (table m file) (file m))
+    ∙ last-end (filedIn r [] (table m file)) (filedAfter r (table m file) (file m))
+
+module _ (files regular corrections : List ℕ) where
+  pub last-read : (f : File) (start m : ℕ) → 0 < fileCount files → m + 1 ≡ fileCount files → f ≡ fileAt files m → start ≡ recordsOf (f .kind) (table m (fileAt files))
+      → lastFiled (readFiles files regular corrections) ≡ filedFrom (recordsAt regular corrections) f start
+  unfolding firstFiles
+  last-read f start m h n e q =
+      rw (q, e) (last-of (recordsAt regular corrections) (fileAt files) (fileCount files) m (omega arith))
+
+  -- as many files as there are, are all
+  pub all-files : (n : ℕ) → n ≡ fileCount files → take n (readFiles files regular corrections) ≡ readFiles files regular corrections
+  all-files n e =
+      ap (λ (k : ℕ). take k (readFiles files regular corrections)) e ∙ sym (first-of-all (fileCount files) files regular corrections (omega arith))

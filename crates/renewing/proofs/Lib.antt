@@ -1,0 +1,6 @@
+pub mod Stages
+pub mod Writing
+pub mod LastFile
+pub mod Renewed
+pub mod Steps
+pub mod Loop

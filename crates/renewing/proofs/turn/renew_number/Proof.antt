@@ -1,0 +1,56 @@
+-- `renewing::turn::renew_number` meets its contract: with a line of the table, or without one. Assumes nothing.
+use Rattle.renewing.proofs.Steps.{with-line, without-line}
+use borrow.Author.Needs.{needs}
+use Rattle.renewing.proofs.turn.renew_number.Statement.{statement}
+use Rattle.renewing.proofs.turn.renew_number.Tie as tie
+
+line-count-requires : tie.Need-line-count-requires
+line-count-requires c κs = search needs
+
+line-of-requires : tie.Need-line-of-requires
+line-of-requires c κs = search needs
+
+renew-line-requires : tie.Need-renew-line-requires
+renew-line-requires c κs = search needs
+
+same-length : tie.Need-same-length
+same-length c = search needs
+
+returns : tie.Need-returns
+returns c =
+    let chosen = c .before .before .before .before in
+    let found = chosen .before in
+    let counted = found .before in
+    let start = counted .before .before .before .before .before .before in
+    let args = start .args in
+    let w = c .before .before .renew-line in
+    with-line (args .lines .now) (args .files .now) (args .regular .now) (args .corrections .now) (args .entries .now) (start .pre) (args .number) (counted .line-count .result) (found .line-of .result) (counted .line-count .ensures .0) (found .line-of .ensures) _ (w .result) (chosen .if1 .taken) (w .ensures)
+
+file-count-requires : tie.Need-file-count-requires
+file-count-requires c κs = search needs
+
+count-all-requires : tie.Need-count-all-requires
+count-all-requires c κs =
+    rw (c .file-count .ensures .0) (c .before .before .before .before .before .before .before .before .before .pre .sound)
+
+returns-2 : tie.Need-returns-2
+returns-2 c =
+    let filed = c .before in
+    let found = filed .before .before in
+    let counted = found .before in
+    let start = counted .before .before .before .before .before .before in
+    let args = start .args in
+    without-line (args .lines .now) (args .files .now) (args .regular .now) (args .corrections .now) (args .entries .now) (start .pre) (args .number) (counted .line-count .result) (found .line-of .result) (counted .line-count .ensures .0) (found .line-of .ensures) (filed .file-count .result) (c .count-all .result) (filed .before .if1 .left) (filed .file-count .ensures .0) (c .count-all .ensures)
+
+pub renew-number-spec : {M : Type 1} → statement M
+renew-number-spec =
+    tie.close
+    (tie.spec
+    line-count-requires
+    line-of-requires
+    renew-line-requires
+    same-length
+    returns
+    file-count-requires
+    count-all-requires
+    returns-2)
