@@ -1,1 +1,4 @@
 pub mod CheckLaws
+pub mod Stored
+pub mod Limits
+pub mod Deciding

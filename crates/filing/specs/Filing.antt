@@ -18,6 +18,8 @@ use Rattle.entering.specs.declared.kind.Filable.{Filable}
 use Rattle.entering.specs.Entering.{fileKind, filedAs}
 use Rattle.filing.specs.declared.answer.Answer.{Answer}
 use Rattle.filing.specs.declared.answer.Answer.the-variants.{Unreadable, NoCode, NoDay, FiledAlready, Full}
+use Rattle.filing.specs.declared.check.Checked.{Checked}
+use Rattle.filing.specs.declared.check.Checked.the-variants.{Refused, Passed}
 
 -- ---- the limits
 -- the records that the journal of a kind holds: the regular journal that of kind 0, the correction journal that of kind 1
@@ -53,3 +55,8 @@ publishedTo files kind (CodeRead.Code c) day text = cond (inCalendar day) (newTo
 -- 44
 unfoldable pub decide : Buffers → Filable → List ℕ → ℕ → List ℕ → Decision
 decide b kind publisher day text = cond (isReadable b) (publishedTo (held b .files) kind (codeOf publisher) day text) (Refuse Unreadable)
+
+-- ---- the same, as the code checks it over the list of files: what it comes to stands for a decision
+abbrev pub decisionOf : Filable → ℕ → List ℕ → Checked → Decision
+decisionOf kind day text (Refused a) = Refuse a
+decisionOf kind day text (Passed c m) = Accept (filedAs kind (c .0) day text)

@@ -1,0 +1,141 @@
+-- The limits of the journals, found out by counting records and files alone. Assumes nothing.
+--     within-few      where each record is short enough, the byte limit follows from the record limit
+--     room-limits     a file of m records keeps to all limits exactly where there is a slot for it and room for m records
+use mathlib.Core.Path.{_≡_, refl, sym, ap, ap₂, _∙_}
+use mathlib.Core.Logic.{⊎-elim}
+use mathlib.Core.Bool.{Bool, true, false, cond, _&&_, and-true}
+use mathlib.Core.List.{List, [], _∷_, _++_, append-nil}
+use Prim.Native.Nat.{ℕ, zero, suc, _+_, _*_, _≤_, _<_}
+use native.Mathlib.Nat.{add-zero, suc-mul, add-mul, mul-le-mul-right}
+use native.Mathlib.Omega.{arith}
+use lib.Dec.{eqb, ltb, leb}
+use lib.ListN.{length, length-append}
+use borrow.Author.Tests.{lt-ltb, le-ltb, le-leb, lt-leb}
+use Rattle.laws.specs.Lists.{table, all, total}
+use Rattle.laws.proofs.Tests.{le-or-lt, and-left, and-right}
+use Rattle.laws.proofs.Tables.{length-table, table-cong}
+use Rattle.files.specs.Judged.{judgedFile}
+use Rattle.files.specs.Judged.{recordsOf as textsOf}
+use Rattle.files.specs.declared.judge.Judged.the-variants.{Records}
+use Rattle.model.specs.Model.{Filed}
+use Rattle.journals.specs.Files.{fileCount, filesOf, recordsOf}
+use Rattle.journals.specs.Records.{recordAt}
+use Rattle.journals.specs.Reads.{recordsAt, readFiles}
+use Rattle.store.specs.Reads.{Buffers, held, isReadable, goodFiles}
+use Rattle.store.proofs.Checks.{few-reports, few-corrections}
+use Rattle.store.proofs.Limits.{bytes-below}
+use Rattle.entering.specs.declared.kind.Filable.{Filable}
+use Rattle.entering.specs.declared.kind.Filable.the-variants.{Default, Correction}
+use Rattle.entering.specs.Entering.{kindNumber, fileKind, most, filedAs, shorter}
+use Rattle.entering.proofs.Journals.{is-shorter}
+use Rattle.entering.proofs.Writing.{slotWidth, records-count, records-short}
+use Rattle.entering.proofs.Entered.{parts}
+use Rattle.filing.specs.Checks.{hasRoom}
+use Rattle.filing.specs.Filing.{stored, within, withinLimits}
+use Rattle.filing.proofs.Stored.{held-count, held-records, stored-end}
+
+-- ---- records with at most w bytes each, on the whole
+abbrev Narrow : ℕ → List (List ℕ) → Type 0
+Narrow w l = total length l ≤ length l * w
+
+narrow-short : (w : ℕ) (l : List (List ℕ)) → all (shorter (suc w)) l ≡ true → Narrow w l
+unfolding all total
+narrow-short w [] e = omega arith
+narrow-short w (x ∷ l) e =
+    omega (
+      arith,
+      is-shorter (suc w) x (and-left (shorter (suc w) x) (all (shorter (suc w)) l) e),
+      narrow-short w l (and-right (shorter (suc w) x) (all (shorter (suc w)) l) e),
+      suc-mul (length l) w,
+    )
+
+total-append : {A : Type 0} (g : A → ℕ) (xs ys : List A) → total g (xs ++ ys) ≡ total g xs + total g ys
+unfolding total
+total-append g [] ys = omega arith
+total-append g (x ∷ xs) ys = omega (arith, total-append g xs ys)
+
+narrow-append : (w : ℕ) (l m : List (List ℕ)) → Narrow w l → Narrow w m → Narrow w (l ++ m)
+narrow-append w l m p q = rw (length-append l m) (omega (arith, total-append length l m, add-mul (length l) (length m) w))
+
+pub within-few : (w records bytes : ℕ) (l : List (List ℕ)) → Narrow w l → records * w ≤ bytes → within records bytes l ≡ leb (length l) records
+unfolding within
+within-few w records bytes l n b =
+    ⊎-elim
+    (λ (h : length l ≤ records). rw (le-leb (length l) records h, le-leb (total length l) bytes (omega (arith, mul-le-mul-right w h))))
+    (λ (h : records < length l). rw (lt-leb (length l) records h))
+    (le-or-lt (length l) records)
+
+-- ---- the journal of a kind, with more records behind those that the store holds
+module _ (w : ℕ) (kind : ℕ) (journal : List ℕ) (n : ℕ) (r : ℕ → List ℕ) (is : (place : ℕ) → r place ≡ recordAt (suc w) journal place) where
+  held-narrow : Narrow w (table n r)
+  held-narrow = rw (length-table n r) (rw (sym (table-cong n r (recordAt (suc w) journal) (λ k h. is k))) at (bytes-below w n journal))
+
+next-leb : (n limit : ℕ) → leb (n + 1) limit ≡ ltb n limit
+next-leb n limit =
+    ⊎-elim
+    (λ (h : limit ≤ n). rw (lt-leb (n + 1) limit (omega arith), le-ltb n limit h))
+    (λ (h : n < limit). rw (le-leb (n + 1) limit (omega arith), lt-ltb n limit h))
+    (le-or-lt limit n)
+
+-- the records of a kind behind a new file
+module _ (b : Buffers) (f : Filed) where
+  abbrev files : List Filed
+  files = readFiles (b .files) (b .regular) (b .corrections)
+
+  abbrev count : ℕ → ℕ
+  count kind = recordsOf kind (filesOf (b .files))
+
+  abbrev all-of : ℕ → List (List ℕ)
+  all-of kind = table (count kind) (recordsAt (b .regular) (b .corrections) kind) ++ cond (eqb (f .kind) kind) (f .records) []
+
+  all-stored : (kind : ℕ) → stored kind (files ++ (f ∷ [])) ≡ all-of kind
+  all-stored kind = stored-end kind files f ∙ ap (λ (l : List (List ℕ)). l ++ cond (eqb (f .kind) kind) (f .records) []) (held-records kind (b .files) (b .regular) (b .corrections))
+
+  all-count : (kind : ℕ) → length (all-of kind) ≡ count kind + length (cond (eqb (f .kind) kind) (f .records) [])
+  all-count kind =
+      length-append (table (count kind) (recordsAt (b .regular) (b .corrections) kind)) (cond (eqb (f .kind) kind) (f .records) [])
+      ∙ ap (λ (n : ℕ). n + length (cond (eqb (f .kind) kind) (f .records) [])) (length-table (count kind) (recordsAt (b .regular) (b .corrections) kind))
+
+  regular-within : Narrow 44 (cond (eqb (f .kind) 0) (f .records) []) → within 8192 1048576 (stored 0 (files ++ (f ∷ []))) ≡ leb (count 0 + length (cond (eqb (f .kind) 0) (f .records) [])) 8192
+  regular-within n =
+      ap (within 8192 1048576) (all-stored 0)
+      ∙ within-few 44 8192 1048576 (all-of 0)
+      (narrow-append 44 (table (count 0) (recordsAt (b .regular) (b .corrections) 0)) (cond (eqb (f .kind) 0) (f .records) [])
+      (held-narrow 44 0 (b .regular) (count 0) (recordsAt (b .regular) (b .corrections) 0) (λ place. unfold recordsAt in refl)) n) (omega arith)
+      ∙ ap (λ (k : ℕ). leb k 8192) (all-count 0)
+
+  correction-within : Narrow 97 (cond (eqb (f .kind) 1) (f .records) []) → within 2048 262144 (stored 1 (files ++ (f ∷ []))) ≡ leb (count 1 + length (cond (eqb (f .kind) 1) (f .records) [])) 2048
+  correction-within n =
+      ap (within 2048 262144) (all-stored 1)
+      ∙ within-few 97 2048 262144 (all-of 1)
+      (narrow-append 97 (table (count 1) (recordsAt (b .regular) (b .corrections) 1)) (cond (eqb (f .kind) 1) (f .records) [])
+      (held-narrow 97 1 (b .corrections) (count 1) (recordsAt (b .regular) (b .corrections) 1) (λ place. unfold recordsAt in refl)) n) (omega arith)
+      ∙ ap (λ (k : ℕ). leb k 2048) (all-count 1)
+
+  files-within : leb (length (files ++ (f ∷ []))) 1024 ≡ ltb (fileCount (b .files)) 1024
+  files-within =
+      ap (λ (k : ℕ). leb k 1024) (length-append files (f ∷ []) ∙ ap (λ (k : ℕ). k + 1) (held-count (b .files) (b .regular) (b .corrections)))
+      ∙ next-leb (fileCount (b .files)) 1024
+
+  -- all of them together
+  limits : Narrow 44 (cond (eqb (f .kind) 0) (f .records) []) → Narrow 97 (cond (eqb (f .kind) 1) (f .records) [])
+      → withinLimits (files ++ (f ∷ []))
+      ≡ (ltb (fileCount (b .files)) 1024
+      && (leb (count 0 + length (cond (eqb (f .kind) 0) (f .records) [])) 8192 && leb (count 1 + length (cond (eqb (f .kind) 1) (f .records) [])) 2048))
+  unfolding withinLimits
+  limits n k = ap₂ _&&_ files-within (ap₂ _&&_ (regular-within n) (correction-within k))
+
+-- ---- a file that is filed
+module _ (b : Buffers) (e : isReadable b ≡ true) (publisher day : ℕ) (text : List ℕ) (m : ℕ) where
+  good : goodFiles (b .files) ≡ true
+  good = parts b e .good-files
+
+  pub room-limits : (kind : Filable) → judgedFile (fileKind kind) text ≡ Records m → withinLimits (held b .files ++ (filedAs kind publisher day text ∷ [])) ≡ hasRoom (b .files) kind m
+  unfolding held filedAs hasRoom total
+  room-limits Default j =
+      limits b (filedAs Default publisher day text) (narrow-short 44 (textsOf (fileKind Default) text) (records-short Default text m j)) (omega arith)
+      ∙ rw (records-count Default text m j, add-zero (recordsOf 1 (filesOf (b .files))), le-leb (recordsOf 1 (filesOf (b .files))) 2048 (few-corrections (b .files) good))
+      (ap (λ (t : Bool). ltb (fileCount (b .files)) 1024 && t) (and-true (leb (recordsOf 0 (filesOf (b .files)) + m) 8192)))
+  room-limits Correction j =
+      limits b (filedAs Correction publisher day text) (omega arith) (narrow-short 97 (textsOf (fileKind Correction) text) (records-short Correction text m j))
+      ∙ rw (records-count Correction text m j, add-zero (recordsOf 0 (filesOf (b .files))), le-leb (recordsOf 0 (filesOf (b .files))) 8192 (few-reports (b .files) good))
