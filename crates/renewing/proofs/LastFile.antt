@@ -11,7 +11,7 @@ use Rattle.journals.specs.Files.{fileAt, fileCount, recordsOf}
 use Rattle.journals.specs.declared.files.File.{File}
 use Rattle.journals.specs.Reads.{recordsAt, filedAfter, filedIn, firstFiles, readFiles}
 use Rattle.journals.proofs.FirstFiles.{filed-end, first-of-all}
-use Rattle.renewing.specs.Renewing.{lastFiled}
+use Rattle.fitting.specs.Renewing.{lastFiled}
 use Rattle.renewing.specs.Turns.{filedFrom}
 
 -- one file behind others is the last

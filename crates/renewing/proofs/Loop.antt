@@ -19,7 +19,7 @@ use Rattle.store.proofs.Whole.{whole-long, whole-table, numbers-once}
 use Rattle.working.specs.Working.{InFile}
 use Rattle.working.proofs.GatherLaws.{in-turn}
 use Rattle.working.proofs.Readable.{readable-sound}
-use Rattle.renewing.specs.Renewing.{lastFiled, renewedEntries}
+use Rattle.fitting.specs.Renewing.{lastFiled, renewedEntries}
 use Rattle.renewing.specs.Turns.{filedFrom, namedTo, newAt, countTo, Workable, Redone, RecordRenewed}
 use Rattle.renewing.proofs.LastFile.{last-read}
 use Rattle.renewing.proofs.Renewed.{redone-all}

@@ -21,7 +21,7 @@ use Rattle.numbers.specs.Lines.{lineCount, lineAt, linesOf, numberAt}
 use Rattle.entry_slots.specs.Entries.{entrySlot}
 use Rattle.rules.specs.Rules.{rules}
 use Rattle.store.specs.Reads.{tableLine}
-use Rattle.renewing.specs.Renewing.{renewedSlot, renewedEntries}
+use Rattle.fitting.specs.Renewing.{renewedSlot, renewedEntries}
 use Rattle.renewing.specs.Turns.{slotAfresh, Redone}
 use Rattle.renewing.proofs.Writing.{worked-length}
 

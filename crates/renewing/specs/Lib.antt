@@ -1,2 +1,1 @@
-pub mod Renewing
 pub mod Turns

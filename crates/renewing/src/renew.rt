@@ -12,7 +12,7 @@ ghost use Rattle.journals.specs.Reads.{readFiles};
 ghost use Rattle.numbers.specs.Lines.{linesOf};
 ghost use Rattle.store.specs.Reads.{lent, isReadable, tableLine};
 ghost use Rattle.rules.specs.Rules.{rules};
-ghost use Rattle.renewing.specs.Renewing.{lastFiled, renewedEntries};
+ghost use Rattle.fitting.specs.Renewing.{lastFiled, renewedEntries};
 
 // Works out afresh, over all files, the entries of the numbers that the last file names, and answers how many records these
 // numbers have in both journals.

@@ -13,10 +13,10 @@ use Rattle.journals.specs.Files.{fileCount, filesOf, sameFile, recordsOf}
 use Rattle.journals.specs.declared.files.File.{File}
 use Rattle.entering.specs.declared.kind.Filable.{Filable}
 use Rattle.entering.specs.Entering.{kindNumber, most}
-use Rattle.filing.specs.declared.answer.Answer.{Answer}
-use Rattle.filing.specs.declared.answer.Answer.the-variants.{NoCode, NoDay, FiledAlready, Full}
-use Rattle.filing.specs.declared.check.Checked.{Checked}
-use Rattle.filing.specs.declared.check.Checked.the-variants.{Refused, Passed}
+use Rattle.checking.specs.declared.answer.Answer.{Answer}
+use Rattle.checking.specs.declared.answer.Answer.the-variants.{NoCode, NoDay, FiledAlready, Full}
+use Rattle.checking.specs.declared.check.Checked.{Checked}
+use Rattle.checking.specs.declared.check.Checked.the-variants.{Refused, Passed}
 
 -- a slot for one more file, and room for its records in their journal
 unfoldable pub hasRoom : List ℕ → Filable → ℕ → Bool

@@ -1,8 +1,8 @@
--- `filing::check::check_room` meets its contract. Assumes nothing.
+-- `checking::check::check_room` meets its contract. Assumes nothing.
 use borrow.Author.Needs.{needs}
 use mathlib.Core.Path.{_≡_, sym, _∙_}
-use Rattle.filing.proofs.check.check_room.Statement.{statement}
-use Rattle.filing.proofs.check.check_room.Tie as tie
+use Rattle.checking.proofs.check.check_room.Statement.{statement}
+use Rattle.checking.proofs.check.check_room.Tie as tie
 
 has-room-requires : tie.Need-has-room-requires
 has-room-requires c κs = search needs

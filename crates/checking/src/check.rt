@@ -20,7 +20,7 @@ ghost use Rattle.files.specs.Judged.{judgedFile};
 ghost use Rattle.journals.specs.Files.{filesOf, sameFile};
 ghost use Rattle.entering.specs.Entering.{fileKind};
 ghost use Rattle.store.specs.Reads.{goodFiles};
-ghost use Rattle.filing.specs.Checks.{hasRoom, roomChecked, textChecked, dayChecked, checked};
+ghost use Rattle.checking.specs.Checks.{hasRoom, roomChecked, textChecked, dayChecked, checked};
 
 // What the checks come to: a refusal, or the publisher's code and the count of the file's records.
 pub enum Checked {

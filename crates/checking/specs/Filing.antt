@@ -16,10 +16,10 @@ use Rattle.rules.specs.Rules.{rules}
 use Rattle.store.specs.Reads.{Buffers, Held, held, isReadable}
 use Rattle.entering.specs.declared.kind.Filable.{Filable}
 use Rattle.entering.specs.Entering.{fileKind, filedAs}
-use Rattle.filing.specs.declared.answer.Answer.{Answer}
-use Rattle.filing.specs.declared.answer.Answer.the-variants.{Unreadable, NoCode, NoDay, FiledAlready, Full}
-use Rattle.filing.specs.declared.check.Checked.{Checked}
-use Rattle.filing.specs.declared.check.Checked.the-variants.{Refused, Passed}
+use Rattle.checking.specs.declared.answer.Answer.{Answer}
+use Rattle.checking.specs.declared.answer.Answer.the-variants.{Unreadable, NoCode, NoDay, FiledAlready, Full}
+use Rattle.checking.specs.declared.check.Checked.{Checked}
+use Rattle.checking.specs.declared.check.Checked.the-variants.{Refused, Passed}
 
 -- ---- the limits
 -- the records that the journal of a kind holds: the regular journal that of kind 0, the correction journal that of kind 1

@@ -1,4 +1,4 @@
--- `filing::check::has_room` meets its contract. Assumes nothing.
+-- `checking::check::has_room` meets its contract. Assumes nothing.
 use denote.Ref.{now}
 use native.Mathlib.Omega.{arith}
 use borrow.Author.Needs.{needs}
@@ -6,9 +6,9 @@ use mathlib.Core.Path.{ap, _∙_}
 use Prim.Native.Nat.{ℕ}
 use Rattle.journals.specs.Files.{fileAt, recordsOf}
 use Rattle.laws.specs.Lists.{table}
-use Rattle.filing.proofs.CheckLaws.{used-fits, room-left, room-none}
-use Rattle.filing.proofs.check.has_room.Statement.{statement}
-use Rattle.filing.proofs.check.has_room.Tie as tie
+use Rattle.checking.proofs.CheckLaws.{used-fits, room-left, room-none}
+use Rattle.checking.proofs.check.has_room.Statement.{statement}
+use Rattle.checking.proofs.check.has_room.Tie as tie
 
 file-count-requires : tie.Need-file-count-requires
 file-count-requires c κs = search needs

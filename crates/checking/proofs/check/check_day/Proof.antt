@@ -1,13 +1,13 @@
--- `filing::check::check_day` meets its contract. Assumes nothing.
+-- `checking::check::check_day` meets its contract. Assumes nothing.
 use denote.Ref.{now}
 use borrow.Author.Needs.{needs}
 use borrow.Author.Tests.{not-true, not-false}
 use mathlib.Core.Path.{sym, _∙_}
 use Rattle.files.specs.Judged.{judgedFile}
 use Rattle.entering.specs.Entering.{fileKind}
-use Rattle.filing.proofs.CheckLaws.{day-outside, day-alike, day-new}
-use Rattle.filing.proofs.check.check_day.Statement.{statement}
-use Rattle.filing.proofs.check.check_day.Tie as tie
+use Rattle.checking.proofs.CheckLaws.{day-outside, day-alike, day-new}
+use Rattle.checking.proofs.check.check_day.Statement.{statement}
+use Rattle.checking.proofs.check.check_day.Tie as tie
 
 in-calendar-requires : tie.Need-in-calendar-requires
 in-calendar-requires c κs = search needs

@@ -21,7 +21,7 @@ use Rattle.journals.specs.declared.files.File.{File}
 use Rattle.journals.proofs.Counting.{records-end}
 use Rattle.journals.proofs.FirstFiles.{filed-end}
 use Rattle.entering.specs.Entering.{fileIn}
-use Rattle.filing.specs.Filing.{stored}
+use Rattle.checking.specs.Filing.{stored}
 
 -- ---- files alike
 turned : (p d k : Bool) → (p && (d && k)) ≡ (k && (p && d))

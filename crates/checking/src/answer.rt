@@ -1,6 +1,6 @@
 // What filing answers.
 ghost use mathlib.Core.Path.{_≡_};
-ghost use Rattle.filing.specs.Answers.{answerNumber};
+ghost use Rattle.checking.specs.Answers.{answerNumber};
 
 // Filed, with the count of the journal records whose number the file names; or a refusal: the buffers don't read as a store, the publisher
 // is no network code, the day is outside the calendar, a file alike is filed, a record breaks its layout at a place, a limit would be passed.

@@ -1,11 +1,11 @@
--- `filing::check::check_text` meets its contract. Assumes nothing.
+-- `checking::check::check_text` meets its contract. Assumes nothing.
 use denote.Ref.{now}
 use borrow.Author.Needs.{needs}
 use mathlib.Core.Path.{sym, ap, _∙_}
 use Rattle.names.specs.declared.kind.FileKind.{FileKind}
 use Rattle.files.specs.Judged.{judgedFile}
-use Rattle.filing.proofs.check.check_text.Statement.{statement}
-use Rattle.filing.proofs.check.check_text.Tie as tie
+use Rattle.checking.proofs.check.check_text.Statement.{statement}
+use Rattle.checking.proofs.check.check_text.Tie as tie
 
 file-kind-requires : tie.Need-file-kind-requires
 file-kind-requires c κs = search needs

@@ -30,9 +30,9 @@ use Rattle.entering.specs.Entering.{kindNumber, fileKind, most, filedAs, shorte
 use Rattle.entering.proofs.Journals.{is-shorter}
 use Rattle.entering.proofs.Writing.{slotWidth, records-count, records-short}
 use Rattle.entering.proofs.Entered.{parts}
-use Rattle.filing.specs.Checks.{hasRoom}
-use Rattle.filing.specs.Filing.{stored, within, withinLimits}
-use Rattle.filing.proofs.Stored.{held-count, held-records, stored-end}
+use Rattle.checking.specs.Checks.{hasRoom}
+use Rattle.checking.specs.Filing.{stored, within, withinLimits}
+use Rattle.checking.proofs.Stored.{held-count, held-records, stored-end}
 
 -- ---- records with at most w bytes each, on the whole
 abbrev Narrow : ℕ → List (List ℕ) → Type 0

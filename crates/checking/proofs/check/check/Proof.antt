@@ -1,8 +1,8 @@
--- `filing::check::check` meets its contract. Assumes nothing.
+-- `checking::check::check` meets its contract. Assumes nothing.
 use borrow.Author.Needs.{needs}
 use mathlib.Core.Path.{sym, _∙_}
-use Rattle.filing.proofs.check.check.Statement.{statement}
-use Rattle.filing.proofs.check.check.Tie as tie
+use Rattle.checking.proofs.check.check.Statement.{statement}
+use Rattle.checking.proofs.check.check.Tie as tie
 
 read-requires : tie.Need-read-requires
 read-requires c κs = search needs

@@ -19,10 +19,10 @@ use Rattle.store.proofs.Checks.{few-reports, few-corrections, counted}
 use Rattle.entering.specs.declared.kind.Filable.{Filable}
 use Rattle.entering.specs.declared.kind.Filable.the-variants.{Default, Correction}
 use Rattle.entering.specs.Entering.{kindNumber, most}
-use Rattle.filing.specs.declared.answer.Answer.the-variants.{NoDay, FiledAlready}
-use Rattle.filing.specs.declared.check.Checked.{Checked}
-use Rattle.filing.specs.declared.check.Checked.the-variants.{Refused}
-use Rattle.filing.specs.Checks.{hasRoom, textChecked, sought, dayChecked}
+use Rattle.checking.specs.declared.answer.Answer.the-variants.{NoDay, FiledAlready}
+use Rattle.checking.specs.declared.check.Checked.{Checked}
+use Rattle.checking.specs.declared.check.Checked.the-variants.{Refused}
+use Rattle.checking.specs.Checks.{hasRoom, textChecked, sought, dayChecked}
 
 -- ---- the room
 

@@ -24,15 +24,15 @@ use Rattle.journals.specs.declared.files.File.{File}
 use Rattle.store.specs.Reads.{Buffers, held, isReadable}
 use Rattle.entering.specs.declared.kind.Filable.{Filable}
 use Rattle.entering.specs.Entering.{kindNumber, fileKind, most, filedAs, fileIn, Enterable}
-use Rattle.filing.specs.declared.answer.Answer.{Answer}
-use Rattle.filing.specs.declared.check.Checked.{Checked}
-use Rattle.filing.specs.declared.check.Checked.the-variants.{Refused, Passed}
-use Rattle.filing.specs.Answers.{answerNumber}
-use Rattle.filing.specs.Checks.{hasRoom, roomChecked, textChecked, sought, dayChecked, checked}
-use Rattle.filing.specs.Filing.{withinLimits, Decision, judgedTo, newTo, publishedTo, decide, decisionOf}
-use Rattle.filing.specs.Filing.Decision.{Refuse, Accept}
-use Rattle.filing.proofs.Stored.{already-alike}
-use Rattle.filing.proofs.Limits.{room-limits}
+use Rattle.checking.specs.declared.answer.Answer.{Answer}
+use Rattle.checking.specs.declared.check.Checked.{Checked}
+use Rattle.checking.specs.declared.check.Checked.the-variants.{Refused, Passed}
+use Rattle.checking.specs.Answers.{answerNumber}
+use Rattle.checking.specs.Checks.{hasRoom, roomChecked, textChecked, sought, dayChecked, checked}
+use Rattle.checking.specs.Filing.{withinLimits, Decision, judgedTo, newTo, publishedTo, decide, decisionOf}
+use Rattle.checking.specs.Filing.Decision.{Refuse, Accept}
+use Rattle.checking.proofs.Stored.{already-alike}
+use Rattle.checking.proofs.Limits.{room-limits}
 
 -- the file that is looked for and the file that is filed: neither's count of records is looked at
 sought-same : (kind : Filable) (publisher day : ℕ) (text : List ℕ) (fs : List File)

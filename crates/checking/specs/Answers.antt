@@ -1,7 +1,7 @@
 -- The paper's number of each answer of filing. Assumes nothing: these are definitions.
 use Prim.Native.Nat.{ℕ}
-use Rattle.filing.specs.declared.answer.Answer.{Answer}
-use Rattle.filing.specs.declared.answer.Answer.the-variants.{Unreadable, NoCode, NoDay, FiledAlready, Fault, Full}
+use Rattle.checking.specs.declared.answer.Answer.{Answer}
+use Rattle.checking.specs.declared.answer.Answer.the-variants.{Unreadable, NoCode, NoDay, FiledAlready, Fault, Full}
 
 abbrev pub answerNumber : Answer → ℕ
 answerNumber (Answer.Filed count) = 0

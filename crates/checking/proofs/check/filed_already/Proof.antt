@@ -1,4 +1,4 @@
--- `filing::check::filed_already` meets its contract. Assumes nothing.
+-- `checking::check::filed_already` meets its contract. Assumes nothing.
 use denote.Ref.{now}
 use native.Mathlib.Omega.{arith}
 use borrow.Author.Needs.{needs}
@@ -9,8 +9,8 @@ use Rattle.laws.specs.Lists.{table, any}
 use Rattle.laws.proofs.Tables.{any-none, any-next, any-here}
 use Rattle.journals.specs.Files.{fileAt, filesOf, fileCount, sameFile}
 use Rattle.store.proofs.Checks.{few-files}
-use Rattle.filing.proofs.check.filed_already.Statement.{statement}
-use Rattle.filing.proofs.check.filed_already.Tie as tie
+use Rattle.checking.proofs.check.filed_already.Statement.{statement}
+use Rattle.checking.proofs.check.filed_already.Tie as tie
 
 abbrev Inv-loop : tie.InvT-loop
 Inv-loop files sought n k₀ k = (k ≤ n) × (n ≤ 1024) × (any (sameFile sought) (table k (fileAt files)) ≡ false)
