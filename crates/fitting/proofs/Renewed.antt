@@ -10,13 +10,13 @@ use mathlib.Core.List.{List, [], _∷_, _++_, map, flatMap, zipWith}
 use mathlib.Core.Option.{some}
 use Prim.Native.Nat.{ℕ, _+_, _-_, _*_, _≤_, _<_}
 use native.Mathlib.Omega.{arith}
-use lib.ListN.{length, getD, drop, length-append, length-take, length-drop, length-map, List·getD-map}
+use lib.ListN.{length, getD, length-append, length-map, List·getD-map}
 use lib.Seq.{getD-at}
 use Rattle.laws.specs.Lists.{table, all}
-use Rattle.laws.specs.Overlay.{part}
 use Rattle.laws.specs.Slots.{slotAt}
-use Rattle.laws.proofs.Lists.{zip-at}
-use Rattle.laws.proofs.Overlay.{length-overlay, overlay-parts}
+use Rattle.laws.proofs.Lists.{zip-at, zip-length}
+use Rattle.laws.proofs.Overlay.{length-overlay, length-part}
+use Rattle.laws.proofs.Slots.{slot-laid}
 use Rattle.laws.proofs.Tables.{length-table, getD-table, table-cong, table-self, all-at, all-each}
 use Rattle.fields.specs.declared.number.Number.{Number}
 use Rattle.entries.specs.declared.entry.Entry.{Entry}
@@ -31,7 +31,6 @@ use Rattle.store.specs.Reads.{Buffers, lent, tableLine, held, longEnough, isRea
 use Rattle.store.proofs.Checks.{long, few-lines, read-entries, reads-some}
 use Rattle.store.proofs.Whole.{whole-long, whole-table, whole-files, whole-records, whole-entries}
 use Rattle.fitting.specs.Renewing.{renewedSlot, renewedEntries, noFile, lastFiled}
-use Rattle.fitting.proofs.Lists.{zip-length, slot-among, length-among}
 use Rattle.fitting.proofs.Worked.{all-fits}
 
 -- ---- the file that came last
@@ -64,11 +63,6 @@ module _ (files : List Filed) (f : Filed) (line : TableLine Number) (slot : List
       go : (t : Bool) → entryOf (cond t (entrySlot (entryOver rules files line)) slot) ≡ cond t (entryOver rules files line) (entryOf slot)
       go true = entry-back (entryOver rules files line) fine
       go false = refl
-
--- a slot within the buffer has its width
-slot-whole : (xs : List ℕ) (k : ℕ) → k * 100 + 100 ≤ length xs → length (slotAt 0 100 xs k) ≡ 100
-unfolding slotAt part
-slot-whole xs k h = omega (arith, length-take 100 (drop (0 + k * 100) xs), length-drop (0 + k * 100) xs)
 
 -- ---- all slots
 module _ (b : Buffers) (e : isReadable b ≡ true) (f : Filed) where
@@ -109,21 +103,22 @@ module _ (b : Buffers) (e : isReadable b ≡ true) (f : Filed) where
   room : lineCount (b .table) * 100 ≤ length (b .entries)
   room = omega (arith, few-lines (b .table) (whole-table b e), long b (whole-long b e) .long-entries)
 
+  whole : (k : ℕ) → k * 100 + 100 ≤ length (b .entries) → length (slotAt 0 100 (b .entries) k) ≡ 100
+  unfolding slotAt
+  whole k h = length-part (b .entries) (0 + k * 100) 100 (omega arith)
+
   slot-width : (k : ℕ) → k < length slots → length (getD slots k []) ≡ 100
   slot-width k h =
       let n = slots-count in
       let below : k < lineCount (b .table) = omega arith in
       ap length (slot-at k below)
-      ∙ slot-long files f (line k) (slotAt 0 100 (b .entries) k) (all-fits b e k below) (slot-whole (b .entries) k (omega (arith, room)))
+      ∙ slot-long files f (line k) (slotAt 0 100 (b .entries) k) (all-fits b e k below) (whole k (omega (arith, room)))
 
   -- the slot of a line, read in the buffer
   slot-of : (k : ℕ) → k < lineCount (b .table) → slotAt 0 100 after k ≡ renewedSlot files f (line k) (slotAt 0 100 (b .entries) k)
   unfolding renewedEntries
   slot-of k h =
-      let own : List ℕ → List ℕ = λ (s : List ℕ). s in
-      let size : length (flatMap own slots) ≡ length slots * 100 = length-among 100 own [] slots slot-width in
-      ap (λ (l : List ℕ). slotAt 0 100 l k) (overlay-parts (b .entries) 0 (flatMap own slots) (omega (arith, room, slots-count)))
-      ∙ slot-among 100 own [] [] slots (drop (0 + length (flatMap own slots)) (b .entries)) k slot-width (omega (arith, slots-count))
+      slot-laid 100 (b .entries) slots slot-width (omega (arith, room, slots-count)) k (omega (arith, slots-count))
       ∙ slot-at k h
 
   pub renewed-good : all goodEntry (table (lineCount (b .table)) (slotAt 0 100 after)) ≡ true

@@ -13,7 +13,7 @@ use lib.Dec.{leb}
 use lib.ListN.{length, getD, take}
 use lib.Seq.{take-length}
 use Rattle.laws.specs.Lists.{table, keep}
-use Rattle.laws.proofs.Lists.{mem-keep}
+use Rattle.laws.proofs.Lists.{mem-below, mem-keep, mem-take, all-mem, total-mem}
 use Rattle.laws.proofs.Order.{mem-inOrder}
 use Rattle.laws.proofs.Tables.{length-table, getD-table, all-at}
 use Rattle.laws.proofs.Tests.{and-left}
@@ -34,7 +34,6 @@ use Rattle.entry_slots.proofs.Back.{FineEntry, first-fine}
 use Rattle.store.specs.Reads.{Buffers, tableLine, goodTable, goodFiles, isReadable}
 use Rattle.store.proofs.Checks.{few-reports, few-corrections}
 use Rattle.store.proofs.Whole.{whole-table, whole-files, lines-good, files-good}
-use Rattle.fitting.proofs.Lists.{mem-below, mem-take, all-mem, total-mem}
 use Rattle.fitting.proofs.Steps.{FineRecord, fine-along}
 use Rattle.fitting.proofs.Records.{says-fine}
 

@@ -5,8 +5,9 @@ use mathlib.Core.Bool.{Bool, true, false, cond, not, _&&_, _||_, true≢false}
 use mathlib.Core.List.{List, [], _∷_, _++_, append-nil, append-assoc, map, flatMap, zipWith, List·Memᴰ, List·Memᴰ·head, List·Memᴰ·tail, List·Memᴰ·not-nil, List·Memᴰ·cases-cons, List·Memᴰ·append-cases, List·Memᴰ·eq-of-singleton, List·Permᴰ, List·Permᴰ·nil, List·Permᴰ·cons, List·Permᴰ·swap, List·Permᴰ·trans, Permᴰ·refl, Permᴰ·symm, Permᴰ·append-left, Permᴰ·middle}
 use Prim.Native.Nat.{ℕ, zero, suc, _+_, _≤_, _<_}
 use native.Mathlib.Omega.{arith}
-use lib.ListN.{length, getD, length-append}
-use Rattle.laws.specs.Lists.{table, keep, any, total}
+use lib.ListN.{length, getD, take, length-append}
+use Rattle.laws.specs.Lists.{table, keep, any, all, total}
+use Rattle.laws.proofs.Tests.{and-left, and-right}
 
 module _ {A : Type 0} where
   pub keep-yes : (p : A → Bool) (x : A) (xs : List A) → p x ≡ true → keep p (x ∷ xs) ≡ x ∷ keep p xs
@@ -139,6 +140,20 @@ module _ {A : Type 0} where
       go true e h ih = cc
       go false e h ih = ⊎-elim (λ q. ap p q ∙ e) (ih h) (List·Memᴰ·cases-cons m)
 
+  -- where each element passes, this one does
+  pub all-mem : {a : A} (p : A → Bool) (l : List A) → all p l ≡ true → List·Memᴰ a l → p a ≡ true
+  unfolding all
+  all-mem p [] e m = absurd (List·Memᴰ·not-nil m)
+  all-mem p (x ∷ l) e (List·Memᴰ·head q) = ap p q ∙ and-left (p x) (all p l) e
+  all-mem p (x ∷ l) e (List·Memᴰ·tail m) = all-mem p l (and-right (p x) (all p l) e) m
+
+  -- the first elements are elements
+  pub mem-take : {a : A} (n : ℕ) (l : List A) → List·Memᴰ a (take n l) → List·Memᴰ a l
+  mem-take zero l m = absurd (List·Memᴰ·not-nil m)
+  mem-take (suc n) [] m = m
+  mem-take (suc n) (x ∷ l) (List·Memᴰ·head e) = List·Memᴰ·head e
+  mem-take (suc n) (x ∷ l) (List·Memᴰ·tail m) = List·Memᴰ·tail (mem-take n l m)
+
   -- the elements of a permutation are those of the list
   pub mem-perm : {a : A} {l m : List A} → List·Permᴰ l m → List·Memᴰ a m → List·Memᴰ a l
   mem-perm List·Permᴰ·nil k = k
@@ -188,6 +203,13 @@ module _ {A : Type 0} where
   total-end f [] x = omega arith
   total-end f (y ∷ l) x = omega (arith, total-end f l x)
 
+  -- and of one element of a list
+  pub total-mem : {a : A} (f : A → ℕ) (l : List A) → List·Memᴰ a l → f a ≤ total f l
+  unfolding total
+  total-mem f [] m = absurd (List·Memᴰ·not-nil m)
+  total-mem f (x ∷ l) (List·Memᴰ·head q) = rw q (omega arith)
+  total-mem f (x ∷ l) (List·Memᴰ·tail m) = omega (arith, total-mem f l m)
+
   -- two lists in front change places
   perm-front : (a b l : List A) → List·Permᴰ (a ++ (b ++ l)) (b ++ (a ++ l))
   perm-front [] b l = Permᴰ·refl (b ++ l)
@@ -232,3 +254,9 @@ module _ {A B : Type 0} where
   zip-at f (x ∷ l) [] i a b c h k = absurd (omega arith)
   zip-at f (x ∷ l) (y ∷ m) zero a b c h k = refl
   zip-at f (x ∷ l) (y ∷ m) (suc i) a b c h k = zip-at f l m i a b c (omega arith) (omega arith)
+
+  pub zip-length : {C : Type 0} (f : A → B → C) (l : List A) (m : List B) → length l ≡ length m → length (zipWith f l m) ≡ length l
+  unfolding zipWith
+  zip-length f [] m e = refl
+  zip-length f (x ∷ l) [] e = absurd (omega arith)
+  zip-length f (x ∷ l) (y ∷ m) e = ap suc (zip-length f l m (omega arith))

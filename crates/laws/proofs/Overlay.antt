@@ -6,7 +6,7 @@ use Prim.Native.Nat.{ℕ, zero, suc, _+_, _≤_, _<_}
 use native.Mathlib.Numerals.{add-one}
 use native.Mathlib.Nat.{add-zero, suc-add, zero-add}
 use native.Mathlib.Omega.{arith}
-use lib.ListN.{length, take, drop, getD, set, replicate, length-append, length-set, length-replicate, replicate-append-replicate}
+use lib.ListN.{length, take, drop, getD, set, replicate, length-append, length-set, length-drop, length-replicate, replicate-append-replicate}
 use lib.Seq.{getD-set-same, getD-set-other, set-comm, take-set-le, drop-set-lt, length-take-le, sets, sets-eq, take-at, drop-at, take-nil, take-suc, getD-take, getD-drop, take-take, drop-drop}
 use Rattle.laws.specs.Overlay.{overlay, part, Laid}
 
@@ -137,6 +137,11 @@ fill-more xs at y i =
 pub part-at : (xs : List ℕ) (at n i : ℕ) → i < n → getD (part xs at n) i 0 ≡ getD xs (at + i) 0
 unfolding part
 part-at xs at n i h = rw (getD-take, getD-drop)
+
+-- a part within the list has its length
+pub length-part : (xs : List ℕ) (at n : ℕ) → at + n ≤ length xs → length (part xs at n) ≡ n
+unfolding part
+length-part xs at n h = length-take-le n (drop at xs) (omega (arith, length-drop at xs))
 
 -- a part of a part
 pub part-part : (xs : List ℕ) (at n i k : ℕ) → i + k ≤ n → part (part xs at n) i k ≡ part xs (at + i) k
