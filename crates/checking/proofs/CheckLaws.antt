@@ -1,11 +1,13 @@
 -- What the checks come to, as the code finds out. Assumes nothing.
-use mathlib.Core.Path.{_≡_, refl, sym, ap, _∙_}
+--     used-fits, room-left, room-none     whether there is room
+--     day-outside, day-alike, day-new     the day, then the files alike
+use mathlib.Core.Path.{_≡_, sym, ap, _∙_}
 use mathlib.Core.Logic.{⊎-elim}
-use mathlib.Core.Bool.{Bool, true, false, cond, _&&_}
+use mathlib.Core.Bool.{Bool, true, false}
 use mathlib.Core.List.{List}
 use Prim.Native.Nat.{ℕ, _+_, _-_, _≤_, _<_}
 use native.Mathlib.Omega.{arith}
-use lib.Dec.{ltb, leb}
+use lib.Dec.{leb}
 use borrow.Author.Tests.{lt-ltb, le-ltb, le-leb, lt-leb}
 use Rattle.laws.specs.Lists.{table, any}
 use Rattle.laws.proofs.Tests.{le-or-lt}
@@ -13,7 +15,6 @@ use Rattle.calendar.specs.Dates.{inCalendar}
 use Rattle.fields.specs.declared.code.Code.{Code}
 use Rattle.files.specs.declared.judge.Judged.{Judged}
 use Rattle.journals.specs.Files.{fileAt, fileCount, filesOf, sameFile, recordsOf}
-use Rattle.journals.specs.declared.files.File.{File}
 use Rattle.store.specs.Reads.{goodFiles}
 use Rattle.store.proofs.Checks.{few-reports, few-corrections, counted}
 use Rattle.entering.specs.declared.kind.Filable.{Filable}

@@ -1,5 +1,6 @@
 -- The checks over the list of files come to what `decide` says of the store. Assumes nothing.
 --     decided             what they come to stands for the store's decision
+--     decided-unreadable  where the buffers don't read as a store, that is 44
 --     passed-enterable    a file that passes may be entered
 --     refused-number      a refusal behind 44 is one of 1 to 5; so it is never the answer of a file that was filed (refused-not-filed)
 use mathlib.Core.Path.{_≡_, refl, sym, ap, _∙_}
@@ -79,6 +80,7 @@ module _ (b : Buffers) (e : isReadable b ≡ true) (kind : Filable) (day : ℕ) 
       day-decided c (inCalendar day) (cond there (Refused Answer.FiledAlready) rest) (newTo (held b .files) (file c) j)
       (new-decided c (any (alike (file c)) (held b .files)) there (alike-decided c) rest (judgedTo (held b .files) (file c) j) (text-decided c j refl))
 
+  -- this is what the checks come to where the buffers read as a store; else the answer is 44 (`decided-unreadable`)
   pub decided : (publisher : List ℕ) → decide b kind publisher day text ≡ decisionOf kind day text (checked (b .files) kind (codeOf publisher) day (judgedFile (fileKind kind) text))
   unfolding decide
   decided publisher = rw e (published-decided (codeOf publisher))
@@ -145,6 +147,10 @@ module _ (b : Buffers) (e : isReadable b ≡ true) (kind : Filable) (day : ℕ) 
           slot = ltb-true (fileCount (b .files)) 1024 (and-left slot? room? (w .room));
           room = leb-true (recordsOf (kindNumber kind) (filesOf (b .files)) + m) (most kind) (and-right slot? room? (w .room));
         }
+
+pub decided-unreadable : (b : Buffers) (kind : Filable) (publisher : List ℕ) (day : ℕ) (text : List ℕ) → isReadable b ≡ false → decide b kind publisher day text ≡ Refuse Answer.Unreadable
+unfolding decide
+decided-unreadable b kind publisher day text e = rw e
 
 -- ---- a refusal is a refusal
 -- one of the paper's numbers 1 to 5

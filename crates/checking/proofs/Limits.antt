@@ -3,9 +3,9 @@
 --     room-limits     a file of m records keeps to all limits exactly where there is a slot for it and room for m records
 use mathlib.Core.Path.{_≡_, refl, sym, ap, ap₂, _∙_}
 use mathlib.Core.Logic.{⊎-elim}
-use mathlib.Core.Bool.{Bool, true, false, cond, _&&_, and-true}
-use mathlib.Core.List.{List, [], _∷_, _++_, append-nil}
-use Prim.Native.Nat.{ℕ, zero, suc, _+_, _*_, _≤_, _<_}
+use mathlib.Core.Bool.{Bool, true, cond, _&&_, and-true}
+use mathlib.Core.List.{List, [], _∷_, _++_}
+use Prim.Native.Nat.{ℕ, suc, _+_, _*_, _≤_, _<_}
 use native.Mathlib.Nat.{add-zero, suc-mul, add-mul, mul-le-mul-right}
 use native.Mathlib.Omega.{arith}
 use lib.Dec.{eqb, ltb, leb}
@@ -26,9 +26,9 @@ use Rattle.store.proofs.Checks.{few-reports, few-corrections}
 use Rattle.store.proofs.Limits.{bytes-below}
 use Rattle.entering.specs.declared.kind.Filable.{Filable}
 use Rattle.entering.specs.declared.kind.Filable.the-variants.{Default, Correction}
-use Rattle.entering.specs.Entering.{kindNumber, fileKind, most, filedAs, shorter}
+use Rattle.entering.specs.Entering.{fileKind, filedAs, shorter}
 use Rattle.entering.proofs.Journals.{is-shorter}
-use Rattle.entering.proofs.Writing.{slotWidth, records-count, records-short}
+use Rattle.entering.proofs.Writing.{records-count, records-short}
 use Rattle.entering.proofs.Entered.{parts}
 use Rattle.checking.specs.Checks.{hasRoom}
 use Rattle.checking.specs.Filing.{stored, within, withinLimits}
@@ -65,11 +65,11 @@ within-few w records bytes l n b =
     (λ (h : records < length l). rw (lt-leb (length l) records h))
     (le-or-lt (length l) records)
 
--- ---- the journal of a kind, with more records behind those that the store holds
-module _ (w : ℕ) (kind : ℕ) (journal : List ℕ) (n : ℕ) (r : ℕ → List ℕ) (is : (place : ℕ) → r place ≡ recordAt (suc w) journal place) where
-  held-narrow : Narrow w (table n r)
-  held-narrow = rw (length-table n r) (rw (sym (table-cong n r (recordAt (suc w) journal) (λ k h. is k))) at (bytes-below w n journal))
+-- the records that a journal of slots holds
+held-narrow : (w : ℕ) (journal : List ℕ) (n : ℕ) (r : ℕ → List ℕ) → ((place : ℕ) → r place ≡ recordAt (suc w) journal place) → Narrow w (table n r)
+held-narrow w journal n r is = rw (length-table n r) (rw (sym (table-cong n r (recordAt (suc w) journal) (λ k h. is k))) at (bytes-below w n journal))
 
+-- one more
 next-leb : (n limit : ℕ) → leb (n + 1) limit ≡ ltb n limit
 next-leb n limit =
     ⊎-elim
@@ -77,53 +77,46 @@ next-leb n limit =
     (λ (h : n < limit). rw (le-leb (n + 1) limit (omega arith), lt-ltb n limit h))
     (le-or-lt limit n)
 
--- the records of a kind behind a new file
+-- ---- the store with a file more
 module _ (b : Buffers) (f : Filed) where
   abbrev files : List Filed
   files = readFiles (b .files) (b .regular) (b .corrections)
 
+  -- of a kind: how many records the store holds, these records, and those of the file
   abbrev count : ℕ → ℕ
   count kind = recordsOf kind (filesOf (b .files))
 
-  abbrev all-of : ℕ → List (List ℕ)
-  all-of kind = table (count kind) (recordsAt (b .regular) (b .corrections) kind) ++ cond (eqb (f .kind) kind) (f .records) []
+  abbrev old : ℕ → List (List ℕ)
+  old kind = table (count kind) (recordsAt (b .regular) (b .corrections) kind)
 
-  all-stored : (kind : ℕ) → stored kind (files ++ (f ∷ [])) ≡ all-of kind
-  all-stored kind = stored-end kind files f ∙ ap (λ (l : List (List ℕ)). l ++ cond (eqb (f .kind) kind) (f .records) []) (held-records kind (b .files) (b .regular) (b .corrections))
+  abbrev new : ℕ → List (List ℕ)
+  new kind = cond (eqb (f .kind) kind) (f .records) []
 
-  all-count : (kind : ℕ) → length (all-of kind) ≡ count kind + length (cond (eqb (f .kind) kind) (f .records) [])
-  all-count kind =
-      length-append (table (count kind) (recordsAt (b .regular) (b .corrections) kind)) (cond (eqb (f .kind) kind) (f .records) [])
-      ∙ ap (λ (n : ℕ). n + length (cond (eqb (f .kind) kind) (f .records) [])) (length-table (count kind) (recordsAt (b .regular) (b .corrections) kind))
+  all-stored : (kind : ℕ) → stored kind (files ++ (f ∷ [])) ≡ old kind ++ new kind
+  all-stored kind = stored-end kind files f ∙ ap (λ (l : List (List ℕ)). l ++ new kind) (held-records kind (b .files) (b .regular) (b .corrections))
 
-  regular-within : Narrow 44 (cond (eqb (f .kind) 0) (f .records) []) → within 8192 1048576 (stored 0 (files ++ (f ∷ []))) ≡ leb (count 0 + length (cond (eqb (f .kind) 0) (f .records) [])) 8192
-  regular-within n =
-      ap (within 8192 1048576) (all-stored 0)
-      ∙ within-few 44 8192 1048576 (all-of 0)
-      (narrow-append 44 (table (count 0) (recordsAt (b .regular) (b .corrections) 0)) (cond (eqb (f .kind) 0) (f .records) [])
-      (held-narrow 44 0 (b .regular) (count 0) (recordsAt (b .regular) (b .corrections) 0) (λ place. unfold recordsAt in refl)) n) (omega arith)
-      ∙ ap (λ (k : ℕ). leb k 8192) (all-count 0)
+  all-count : (kind : ℕ) → length (old kind ++ new kind) ≡ count kind + length (new kind)
+  all-count kind = length-append (old kind) (new kind) ∙ ap (λ (n : ℕ). n + length (new kind)) (length-table (count kind) (recordsAt (b .regular) (b .corrections) kind))
 
-  correction-within : Narrow 97 (cond (eqb (f .kind) 1) (f .records) []) → within 2048 262144 (stored 1 (files ++ (f ∷ []))) ≡ leb (count 1 + length (cond (eqb (f .kind) 1) (f .records) [])) 2048
-  correction-within n =
-      ap (within 2048 262144) (all-stored 1)
-      ∙ within-few 97 2048 262144 (all-of 1)
-      (narrow-append 97 (table (count 1) (recordsAt (b .regular) (b .corrections) 1)) (cond (eqb (f .kind) 1) (f .records) [])
-      (held-narrow 97 1 (b .corrections) (count 1) (recordsAt (b .regular) (b .corrections) 1) (λ place. unfold recordsAt in refl)) n) (omega arith)
-      ∙ ap (λ (k : ℕ). leb k 2048) (all-count 1)
+  journal-within : (kind w records bytes : ℕ) (journal : List ℕ) → ((place : ℕ) → recordsAt (b .regular) (b .corrections) kind place ≡ recordAt (suc w) journal place)
+      → records * w ≤ bytes → Narrow w (new kind) → within records bytes (stored kind (files ++ (f ∷ []))) ≡ leb (count kind + length (new kind)) records
+  journal-within kind w records bytes journal is h n =
+      ap (within records bytes) (all-stored kind)
+      ∙ within-few w records bytes (old kind ++ new kind)
+      (narrow-append w (old kind) (new kind) (held-narrow w journal (count kind) (recordsAt (b .regular) (b .corrections) kind) is) n) h
+      ∙ ap (λ (k : ℕ). leb k records) (all-count kind)
 
   files-within : leb (length (files ++ (f ∷ []))) 1024 ≡ ltb (fileCount (b .files)) 1024
   files-within =
       ap (λ (k : ℕ). leb k 1024) (length-append files (f ∷ []) ∙ ap (λ (k : ℕ). k + 1) (held-count (b .files) (b .regular) (b .corrections)))
       ∙ next-leb (fileCount (b .files)) 1024
 
-  -- all of them together
-  limits : Narrow 44 (cond (eqb (f .kind) 0) (f .records) []) → Narrow 97 (cond (eqb (f .kind) 1) (f .records) [])
-      → withinLimits (files ++ (f ∷ []))
-      ≡ (ltb (fileCount (b .files)) 1024
-      && (leb (count 0 + length (cond (eqb (f .kind) 0) (f .records) [])) 8192 && leb (count 1 + length (cond (eqb (f .kind) 1) (f .records) [])) 2048))
-  unfolding withinLimits
-  limits n k = ap₂ _&&_ files-within (ap₂ _&&_ (regular-within n) (correction-within k))
+  limits : Narrow 44 (new 0) → Narrow 97 (new 1)
+      → withinLimits (files ++ (f ∷ [])) ≡ (ltb (fileCount (b .files)) 1024 && (leb (count 0 + length (new 0)) 8192 && leb (count 1 + length (new 1)) 2048))
+  unfolding withinLimits recordsAt
+  limits n k =
+      ap₂ _&&_ files-within
+      (ap₂ _&&_ (journal-within 0 44 8192 1048576 (b .regular) (λ place. refl) (omega arith) n) (journal-within 1 97 2048 262144 (b .corrections) (λ place. refl) (omega arith) k))
 
 -- ---- a file that is filed
 module _ (b : Buffers) (e : isReadable b ≡ true) (publisher day : ℕ) (text : List ℕ) (m : ℕ) where

@@ -1,6 +1,6 @@
 -- `checking::check::check_room` meets its contract. Assumes nothing.
 use borrow.Author.Needs.{needs}
-use mathlib.Core.Path.{_≡_, sym, _∙_}
+use mathlib.Core.Path.{sym, _∙_}
 use Rattle.checking.proofs.check.check_room.Statement.{statement}
 use Rattle.checking.proofs.check.check_room.Tie as tie
 
