@@ -14,7 +14,7 @@ use lib.ListN.{length, getD, length-append, length-map, List·getD-map}
 use lib.Seq.{getD-at}
 use Rattle.laws.specs.Lists.{table, all}
 use Rattle.laws.specs.Slots.{slotAt}
-use Rattle.laws.proofs.Lists.{zip-at, zip-length}
+use Rattle.laws.proofs.Lists.{zip-at, length-zip}
 use Rattle.laws.proofs.Overlay.{length-overlay, length-part}
 use Rattle.laws.proofs.Slots.{slot-laid}
 use Rattle.laws.proofs.Tables.{length-table, getD-table, table-cong, table-self, all-at, all-each}
@@ -87,7 +87,7 @@ module _ (b : Buffers) (e : isReadable b ≡ true) (f : Filed) where
 
   slots-count : length slots ≡ lineCount (b .table)
   slots-count =
-      zip-length (renewedSlot files f) lines (table (length lines) (slotAt 0 100 (b .entries))) (sym (length-table (length lines) (slotAt 0 100 (b .entries))))
+      length-zip (renewedSlot files f) lines (table (length lines) (slotAt 0 100 (b .entries))) (sym (length-table (length lines) (slotAt 0 100 (b .entries))))
       ∙ lines-count
 
   line-at : (k : ℕ) → k < lineCount (b .table) → getD lines k (line k) ≡ line k
@@ -136,7 +136,7 @@ module _ (b : Buffers) (e : isReadable b ≡ true) (f : Filed) where
     next = zipWith (renewed rules before f) lines entries
 
     next-count : length next ≡ lineCount (b .table)
-    next-count = zip-length (renewed rules before f) lines entries (lines-count ∙ sym (length-table (lineCount (b .table)) (entryAt (b .entries)))) ∙ lines-count
+    next-count = length-zip (renewed rules before f) lines entries (lines-count ∙ sym (length-table (lineCount (b .table)) (entryAt (b .entries)))) ∙ lines-count
 
     next-at : (k : ℕ) (d : Entry) → k < lineCount (b .table) → getD next k d ≡ cond (named rules f (line k .number)) (entryOver rules files (line k)) (entryAt (b .entries) k)
     next-at k d h =

@@ -255,8 +255,8 @@ module _ {A B : Type 0} where
   zip-at f (x ∷ l) (y ∷ m) zero a b c h k = refl
   zip-at f (x ∷ l) (y ∷ m) (suc i) a b c h k = zip-at f l m i a b c (omega arith) (omega arith)
 
-  pub zip-length : {C : Type 0} (f : A → B → C) (l : List A) (m : List B) → length l ≡ length m → length (zipWith f l m) ≡ length l
+  pub length-zip : {C : Type 0} (f : A → B → C) (l : List A) (m : List B) → length l ≡ length m → length (zipWith f l m) ≡ length l
   unfolding zipWith
-  zip-length f [] m e = refl
-  zip-length f (x ∷ l) [] e = absurd (omega arith)
-  zip-length f (x ∷ l) (y ∷ m) e = ap suc (zip-length f l m (omega arith))
+  length-zip f [] m e = refl
+  length-zip f (x ∷ l) [] e = absurd (omega arith)
+  length-zip f (x ∷ l) (y ∷ m) e = ap suc (length-zip f l m (omega arith))

@@ -6,7 +6,7 @@ use native.Mathlib.Numerals.{add-one}
 use native.Mathlib.Nat.{zero-add, suc-mul, zero-mul, mul-le-mul-right}
 use native.Mathlib.Decide.{decLe}
 use native.Mathlib.Omega.{arith}
-use lib.ListN.{length, take, drop, getD, set, replicate, length-append, length-replicate, length-take, take-append-drop}
+use lib.ListN.{length, take, drop, getD, set, replicate, length-append, length-replicate, length-take, length-drop, take-append-drop}
 use lib.Seq.{take-add, take-at, drop-at, drop-append-add, take-suc, take-take, take-all, length-take-le, drop-cons}
 use Rattle.laws.specs.Overlay.{overlay, part}
 use Rattle.laws.specs.Slots.{slotAt, slotOf, heldIn}
@@ -16,6 +16,11 @@ use Rattle.laws.proofs.Lists.{flat-append}
 -- a lower slot ends before a higher one begins
 pub slots-apart : (width : ℕ) {j k : ℕ} → j < k → j * width + width ≤ k * width
 slots-apart width {j} {k} h = omega (arith, suc-mul j width, mul-le-mul-right width h)
+
+-- a slot within the list is as long as the slots are wide
+pub slot-whole : (head width : ℕ) (xs : List ℕ) (k : ℕ) → head + k * width + width ≤ length xs → length (slotAt head width xs k) ≡ width
+unfolding slotAt part
+slot-whole head width xs k h = length-take-le width (drop (head + k * width) xs) (rw length-drop (omega arith))
 
 -- what was written in a slot is read there
 pub slot-same : (head width : ℕ) (xs : List ℕ) (k : ℕ) (ys : List ℕ) → head + k * width + width ≤ length xs → length ys ≡ width

@@ -7,7 +7,7 @@ use Prim.Native.Nat.{ℕ, _+_, _≤_, _<_}
 use native.Mathlib.Omega.{arith}
 use borrow.Author.Tests.{lt-ltb, le-ltb}
 use lib.ListN.{length, getD}
-use Rattle.laws.specs.Lists.{table, any, firstAt, noneTwice}
+use Rattle.laws.specs.Lists.{table, firstAt, noneTwice}
 use Rattle.laws.proofs.Firsts.{any-first, first-passes, first-before, none-at}
 use Rattle.laws.proofs.Loops.{Searched, search-on, search-here, search-none}
 use Rattle.laws.proofs.Tables.{length-table, getD-table}

@@ -1,8 +1,8 @@
 -- The loop over the records of the last file: what holds before the record at j, a turn, and the end. Assumes nothing.
 use mathlib.Core.Path.{_≡_, refl, sym, ap, _∙_}
-use mathlib.Core.Bool.{Bool, true, false, _||_}
+use mathlib.Core.Bool.{true, _||_}
 use mathlib.Core.List.{List, map}
-use Prim.Native.Nat.{ℕ, _+_, _*_, _≤_, _<_}
+use Prim.Native.Nat.{ℕ, _+_, _*_, _≤_}
 use native.Mathlib.Omega.{arith}
 use lib.ListN.{length}
 use Rattle.laws.specs.Lists.{table}
@@ -58,11 +58,12 @@ module _ (all : List Filed) (f : Filed) (lines before : List ℕ) where
 
 -- ---- what a store that reads as one gives
 module _ (lines files regular corrections entries : List ℕ) (whole : isReadable (lent lines files regular corrections entries) ≡ true) where
-  pub workable : (now : List ℕ) → length now ≡ length entries → Workable lines files regular corrections now
-  workable now e =
+  pub workable : (n : ℕ) (now : List ℕ) → n ≡ fileCount files → length now ≡ length entries → Workable n lines files regular corrections now
+  workable n now c e =
       let b = lent lines files regular corrections entries in
       let room = long b (whole-long b whole) in record {
-        sound = readable-sound lines files regular corrections entries (fileCount files) whole (omega arith);
+        counted = c;
+        sound = readable-sound lines files regular corrections entries n whole (omega arith);
         lineRoom = room .long-table;
         fewLines = few-lines lines (whole-table b whole);
         once = numbers-once lines (whole-table b whole);
@@ -85,7 +86,7 @@ module _ (lines files regular corrections entries : List ℕ) (whole : isReadabl
 
       pub renewed-last : after ≡ renewedEntries (readFiles files regular corrections) (lastFiled (readFiles files regular corrections)) (map tableLine (linesOf lines)) entries
       renewed-last =
-          let able = workable entries refl in
+          let able = workable (fileCount files) entries refl refl in
           rw last
           (staged-entries (readFiles files regular corrections) (filedFrom (recordsAt regular corrections) f start) lines entries after j sum s (all-read (recordsAt regular corrections) f start ∙ d)
           (omega (arith, able .fewLines, able .entryRoom)))

@@ -1,18 +1,15 @@
 -- When the entries of all numbers that a file names are worked out afresh, the buffer is what the definition says. Assumes nothing.
 use mathlib.Core.Path.{_≡_, refl, sym, ap, _∙_}
 use mathlib.Core.Bool.{Bool, true, false, cond}
-use mathlib.Core.List.{List, [], _∷_, map, flatMap, zipWith}
-use Prim.Native.Nat.{ℕ, zero, suc, _+_, _*_, _≤_, _<_}
-use native.Mathlib.Nat.{zero-add}
+use mathlib.Core.List.{List, [], map, flatMap, zipWith}
+use Prim.Native.Nat.{ℕ, _*_, _≤_, _<_}
 use native.Mathlib.Omega.{arith}
-use lib.ListN.{length, getD, take, drop, length-map, length-drop}
-use lib.Seq.{length-take-le}
+use lib.ListN.{length, getD, drop, length-map}
 use Rattle.laws.specs.Lists.{table}
-use Rattle.laws.specs.Overlay.{overlay, part}
 use Rattle.laws.specs.Slots.{slotAt}
-use Rattle.laws.proofs.Lists.{zip-at}
+use Rattle.laws.proofs.Lists.{zip-at, length-zip}
 use Rattle.laws.proofs.Overlay.{drop-overlay}
-use Rattle.laws.proofs.Slots.{slots-apart, length-joined, slot-laid, same-slots}
+use Rattle.laws.proofs.Slots.{slots-apart, slot-whole, length-joined, slot-laid, same-slots}
 use Rattle.laws.proofs.Tables.{length-table, getD-table, map-table}
 use Rattle.fields.specs.declared.number.Number.{Number}
 use Rattle.model.specs.Rules.{TableLine}
@@ -24,16 +21,6 @@ use Rattle.store.specs.Reads.{tableLine}
 use Rattle.fitting.specs.Renewing.{renewedSlot, renewedEntries}
 use Rattle.renewing.specs.Turns.{slotAfresh, Redone}
 use Rattle.renewing.proofs.Writing.{worked-length}
-
-length-zip : {A B C : Type 0} (f : A → B → C) (l : List A) (m : List B) → length l ≡ length m → length (zipWith f l m) ≡ length l
-unfolding zipWith
-length-zip f [] m e = refl
-length-zip f (x ∷ l) [] e = absurd (omega arith)
-length-zip f (x ∷ l) (y ∷ m) e = ap suc (length-zip f l m (omega arith))
-
-slot-whole : (entries : List ℕ) (k : ℕ) → k * 100 + 100 ≤ length entries → length (slotAt 0 100 entries k) ≡ 100
-unfolding slotAt part
-slot-whole entries k h = length-take-le 100 (drop (0 + k * 100) entries) (rw length-drop (omega arith))
 
 module _ (all : List Filed) (f : Filed) (lines entries : List ℕ) (room : lineCount lines * 100 ≤ length entries) where
   abbrev lined : List (TableLine Number)
@@ -73,7 +60,7 @@ module _ (all : List Filed) (f : Filed) (lines entries : List ℕ) (room : lineC
   each : (k : ℕ) → k < length renewed → length (getD renewed k []) ≡ 100
   each k h =
       let b : k < n = omega (arith, renewed-length) in
-      ap length (renewed-at k b) ∙ slot-100 (tableLine (lineAt lines k)) (slotAt 0 100 entries k) (slot-whole entries k (omega (arith, slots-apart 100 b)))
+      ap length (renewed-at k b) ∙ slot-100 (tableLine (lineAt lines k)) (slotAt 0 100 entries k) (slot-whole 0 100 entries k (omega (arith, slots-apart 100 b)))
 
   size : length renewed * 100 ≡ n * 100
   size = ap (λ (k : ℕ). k * 100) renewed-length

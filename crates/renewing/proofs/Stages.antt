@@ -1,11 +1,10 @@
 -- The numbers that the first records of a file name, and the records that these numbers have, one record after the other. Assumes nothing.
 use mathlib.Core.Path.{_≡_, refl, sym, ap, _∙_}
 use mathlib.Core.Bool.{Bool, true, false, not, _&&_, _||_, or-comm}
-use mathlib.Core.List.{List, [], _∷_, _++_}
-use Prim.Native.Nat.{ℕ, _+_, _<_, _≤_}
+use mathlib.Core.List.{List, []}
+use Prim.Native.Nat.{ℕ, _+_, _<_}
 use native.Mathlib.Omega.{arith}
-use lib.Dec.{eqb}
-use lib.ListN.{length, getD}
+use lib.ListN.{length}
 use Rattle.laws.specs.Lists.{table, any, keep}
 use Rattle.laws.proofs.Lists.{keep-none, keep-same, length-either}
 use Rattle.laws.proofs.Order.{length-inOrder}

@@ -1,5 +1,5 @@
 -- What the callees' contracts say, put together: a line, a number, a record of the file. Assumes nothing.
-use mathlib.Core.Path.{_≡_, refl, sym, ap, _∙_}
+use mathlib.Core.Path.{_≡_, sym, ap, _∙_}
 use mathlib.Core.Bool.{true, false}
 use mathlib.Core.List.{List}
 use Prim.Native.Nat.{ℕ, _+_, _*_, _≤_, _<_}
@@ -19,7 +19,7 @@ use Rattle.numbers.specs.declared.lines.Line.{Line}
 use Rattle.entry_slots.specs.Entries.{entrySlot}
 use Rattle.rules.specs.Rules.{rules}
 use Rattle.store.specs.Reads.{tableLine}
-use Rattle.working.specs.Working.{Sound, WorkedAfresh}
+use Rattle.working.specs.Working.{WorkedAfresh}
 use Rattle.working.proofs.WorkLaws.{history-few}
 use Rattle.renewing.specs.Turns.{numberFrom, namedTo, newAt, countTo, Workable, LineRenewed, NumberRenewed, RecordRenewed}
 use Rattle.renewing.proofs.LastFile.{all-files}
@@ -28,11 +28,11 @@ use Rattle.renewing.proofs.Writing.{line-renewed, number-counted, redon
 
 module _ (lines files regular corrections : List ℕ) where
   -- the line k
-  pub line-worked : (before after : List ℕ) (k n : ℕ) (l : Line) (s : Standing) (r : ℕ) → n ≡ fileCount files → l ≡ lineAt lines k
+  pub line-worked : (before after : List ℕ) (n k : ℕ) (l : Line) (s : Standing) (r : ℕ) → n ≡ fileCount files → l ≡ lineAt lines k
       → WorkedAfresh n files regular corrections (l .number) (record { owner = l .owner; setup = l .setup }) s r → after ≡ overlay before (k * 100) (entrySlot (s .entry))
       → LineRenewed (readFiles files regular corrections) lines before after k r
   unfolding numberAt
-  line-worked before after k n l s r en el w e =
+  line-worked before after n k l s r en el w e =
       let all = readFiles files regular corrections in
       let read = all-files files regular corrections n en in record {
         written =
@@ -42,7 +42,7 @@ module _ (lines files regular corrections : List ℕ) where
         counted = w .counted ∙ (λ i. length (history rules (read i) (el i .number)));
       }
 
-  module _ (entries : List ℕ) (able : Workable lines files regular corrections entries) (number : Number) (n k : ℕ) (en : n ≡ lineCount lines)
+  module _ (entries : List ℕ) (m : ℕ) (able : Workable m lines files regular corrections entries) (number : Number) (n k : ℕ) (en : n ≡ lineCount lines)
       (ek : k ≡ firstAt (sameNumber number) (table n (numberAt lines))) where
     -- a number that has a line
     pub with-line : (after : List ℕ) (r : ℕ) → k < n → LineRenewed (readFiles files regular corrections) lines entries after k r
@@ -51,14 +51,14 @@ module _ (lines files regular corrections : List ℕ) where
         line-renewed (readFiles files regular corrections) lines number entries after (omega (arith, able .fewLines, able .entryRoom)) (able .once) k (rw en at ek) (rw en at h) r w
 
     -- and one that has none
-    pub without-line : (m r : ℕ) → n ≤ k → m ≡ fileCount files → r ≡ length (history rules (take m (readFiles files regular corrections)) number)
+    pub without-line : (r : ℕ) → n ≤ k → r ≡ length (history rules (take m (readFiles files regular corrections)) number)
         → NumberRenewed (readFiles files regular corrections) number lines entries entries r
-    without-line m r h em er =
+    without-line r h er =
         number-counted (readFiles files regular corrections) lines number entries k r (rw en at ek) (rw en at h)
-        (er ∙ ap (λ (fs : List Filed). length (history rules fs number)) (all-files files regular corrections m em))
+        (er ∙ ap (λ (fs : List Filed). length (history rules fs number)) (all-files files regular corrections m (able .counted)))
 
   -- ---- the record at j of the file f
-  module _ (entries : List ℕ) (able : Workable lines files regular corrections entries) (f : Filed) (j : ℕ) (number : Number) (e : number ≡ numberFrom f j) where
+  module _ (entries : List ℕ) (m : ℕ) (able : Workable m lines files regular corrections entries) (f : Filed) (j : ℕ) (number : Number) (e : number ≡ numberFrom f j) where
     pub seen-before : true ≡ namedTo f j number → RecordRenewed (readFiles files regular corrections) f j lines entries entries 0
     seen-before s =
         let seen : namedTo f j (numberFrom f j) ≡ true = ap (namedTo f j) (sym e) ∙ sym s in record {
@@ -79,7 +79,7 @@ module _ (lines files regular corrections : List ℕ) where
               omega (
                 arith,
                 w .counted,
-                ap (λ (fs : List Filed). length (history rules fs number)) (all-files files regular corrections (fileCount files) refl),
-                history-few (fileCount files) files regular corrections number (able .sound),
+                ap (λ (fs : List Filed). length (history rules fs number)) (all-files files regular corrections m (able .counted)),
+                history-few m files regular corrections number (able .sound),
               );
         }

@@ -1,7 +1,7 @@
 -- Entries written one after the other: what is worked out afresh, and that every other byte stays. Assumes nothing.
 use mathlib.Core.Path.{_≡_, refl, sym, ap, _∙_}
 use mathlib.Core.Bool.{Bool, true, false, cond, _||_}
-use mathlib.Core.List.{List, [], _∷_, map, foldl}
+use mathlib.Core.List.{List, map}
 use Prim.Native.Nat.{ℕ, _+_, _*_, _≤_, _<_}
 use native.Mathlib.Decide.{ℕ-discrete}
 use native.Mathlib.Nat.{zero-add}
@@ -19,7 +19,7 @@ use Rattle.fields.proofs.NumberLaws.{same-itself}
 use Rattle.entries.specs.Entry.{firstEntry}
 use Rattle.verdict.specs.Step.{entryAfter}
 use Rattle.verdict.proofs.Laws.{tidy}
-use Rattle.model.specs.Rules.{TableLine, Event}
+use Rattle.model.specs.Rules.{TableLine}
 use Rattle.model.specs.Model.{Filed, history, entryOver}
 use Rattle.numbers.specs.Lines.{lineCount, lineAt, numberAt}
 use Rattle.numbers.proofs.Finding.{found-none, found-here, found-other}

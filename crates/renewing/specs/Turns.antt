@@ -39,9 +39,10 @@ newAt f j n = not (namedTo f j (numberFrom f j)) && sameNumber (numberFrom f j) 
 unfoldable pub countTo : List Filed → Filed → ℕ → ℕ
 countTo all f j = length (keep (λ (e : Event). namedTo f j (numberOf rules e)) (journal all))
 
--- what is asked of the buffers: a store that reads as one gives this, and writing entries keeps it
-pub record Workable (lines files regular corrections entries : List ℕ) : Type 0 where
-  pub sound : Sound (fileCount files) files regular corrections
+-- what is asked of the buffers and the number of files: a store that reads as one gives this, and writing entries keeps it
+pub record Workable (n : ℕ) (lines files regular corrections entries : List ℕ) : Type 0 where
+  pub counted : n ≡ fileCount files
+  pub sound : Sound n files regular corrections
   pub lineRoom : 14338 ≤ length lines
   pub fewLines : lineCount lines ≤ 1024
   pub once : noneTwice sameNumber (table (lineCount lines) (numberAt lines)) ≡ true

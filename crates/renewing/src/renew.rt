@@ -28,14 +28,15 @@ pub fn renew<'a>(
     ensures { λ r. ⌜ r ≡ countOf rules (readFiles (now (files .entry)) (now (regular .entry)) (now (corrections .entry))) (lastFiled (readFiles (now (files .entry)) (now (regular .entry)) (now (corrections .entry)))) ⌝ }
     ensures { λ r. ⌜ now (entries .exit) ≡ renewedEntries (readFiles (now (files .entry)) (now (regular .entry)) (now (corrections .entry))) (lastFiled (readFiles (now (files .entry)) (now (regular .entry)) (now (corrections .entry)))) (map tableLine (linesOf (now (table .entry)))) (now (entries .entry)) ⌝ }
 {
-    let last = files::file_count(files) - 1;
+    let n = files::file_count(files);
+    let last = n - 1;
     let f = files::file_at(files, last);
     let start = sums::records_of(files, last, f.kind);
     let count = f.count as usize;
     let mut sum = 0;
     let mut j = 0;
     while j < count {
-        sum += turn::renew_record(table, files, regular, corrections, entries, f, start, j);
+        sum += turn::renew_record(table, files, n, regular, corrections, entries, f, start, j);
         j += 1;
     }
     sum

@@ -2,7 +2,6 @@
 use entries::entry::Line;
 use entry_slots::entry;
 use fields::number::Number;
-use journals::files;
 use journals::files::File;
 use numbers::find;
 use numbers::lines;
@@ -12,7 +11,6 @@ ghost use mathlib.Core.Path.{_≡_};
 ghost use Prim.Native.Nat.{_+_, _≤_, _<_};
 ghost use lib.ListN.{length, take};
 ghost use Rattle.model.specs.Model.{history};
-ghost use Rattle.journals.specs.Files.{fileCount};
 ghost use Rattle.journals.specs.Reads.{recordsAt, readFiles};
 ghost use Rattle.numbers.specs.Lines.{lineCount};
 ghost use Rattle.rules.specs.Rules.{rules};
@@ -74,20 +72,20 @@ fn count_all<'a>(
     gather::gather_all(files, n, regular, corrections, number, &mut keys)
 }
 
-// Works out the entry of the line k over all files, writes it, and answers how many records name its number.
+// Works out the entry of the line k over all n files, writes it, and answers how many records name its number.
 fn renew_line<'a>(
     lines: &'a [u8],
     files: &'a [u8],
+    n: usize,
     regular: &'a [u8],
     corrections: &'a [u8],
     entries: &mut [u8],
     k: usize,
 ) -> usize
-    requires { ⌜ Workable (now lines) (now files) (now regular) (now corrections) (now entries) ⌝ }
+    requires { ⌜ Workable n (now lines) (now files) (now regular) (now corrections) (now entries) ⌝ }
     requires { ⌜ k < lineCount (now lines) ⌝ }
     ensures { λ r. ⌜ LineRenewed (readFiles (now (files .entry)) (now (regular .entry)) (now (corrections .entry))) (now (lines .entry)) (now (entries .entry)) (now (entries .exit)) k r ⌝ }
 {
-    let n = files::file_count(files);
     let l = lines::line_at(lines, k);
     let number = l.number;
     let owner = l.owner;
@@ -100,31 +98,32 @@ fn renew_line<'a>(
     w.count
 }
 
-// Works out the number over all files: writes the entry of its line, where it has one, and answers how many records name it.
+// Works out the number over all n files: writes the entry of its line, where it has one, and answers how many records name it.
 fn renew_number<'a>(
     lines: &'a [u8],
     files: &'a [u8],
+    n: usize,
     regular: &'a [u8],
     corrections: &'a [u8],
     entries: &mut [u8],
     number: Number,
 ) -> usize
-    requires { ⌜ Workable (now lines) (now files) (now regular) (now corrections) (now entries) ⌝ }
+    requires { ⌜ Workable n (now lines) (now files) (now regular) (now corrections) (now entries) ⌝ }
     ensures { λ r. ⌜ NumberRenewed (readFiles (now (files .entry)) (now (regular .entry)) (now (corrections .entry))) number (now (lines .entry)) (now (entries .entry)) (now (entries .exit)) r ⌝ }
 {
-    let n = lines::line_count(lines);
-    let k = find::line_of(lines, n, number);
-    if k < n {
-        return renew_line(lines, files, regular, corrections, entries, k);
+    let count = lines::line_count(lines);
+    let k = find::line_of(lines, count, number);
+    if k < count {
+        return renew_line(lines, files, n, regular, corrections, entries, k);
     }
-    let m = files::file_count(files);
-    count_all(files, m, regular, corrections, number)
+    count_all(files, n, regular, corrections, number)
 }
 
 // The turn for the record at j: nothing where an earlier record of the file names its number.
 pub fn renew_record<'a>(
     lines: &'a [u8],
     files: &'a [u8],
+    n: usize,
     regular: &'a [u8],
     corrections: &'a [u8],
     entries: &mut [u8],
@@ -132,7 +131,7 @@ pub fn renew_record<'a>(
     start: usize,
     j: usize,
 ) -> usize
-    requires { ⌜ Workable (now lines) (now files) (now regular) (now corrections) (now entries) ⌝ }
+    requires { ⌜ Workable n (now lines) (now files) (now regular) (now corrections) (now entries) ⌝ }
     requires { ⌜ InFile (now regular) (now corrections) f start (f .count) ⌝ }
     requires { ⌜ j < f .count ⌝ }
     ensures { λ r. ⌜ RecordRenewed (readFiles (now (files .entry)) (now (regular .entry)) (now (corrections .entry))) (filedFrom (recordsAt (now (regular .entry)) (now (corrections .entry))) f start) j (now (lines .entry)) (now (entries .entry)) (now (entries .exit)) r ⌝ }
@@ -141,5 +140,5 @@ pub fn renew_record<'a>(
     if named_before(regular, corrections, f, start, j, number) {
         return 0;
     }
-    renew_number(lines, files, regular, corrections, entries, number)
+    renew_number(lines, files, n, regular, corrections, entries, number)
 }

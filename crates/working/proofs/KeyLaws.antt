@@ -13,7 +13,7 @@ use Rattle.laws.specs.Keys.{packed, Fits}
 use Rattle.laws.proofs.Lists.{keep-map, mem-keep}
 use Rattle.laws.proofs.Order.{mem-inOrder, length-inOrder}
 use Rattle.laws.proofs.Folds.{fold-map, fold-agree}
-use Rattle.laws.proofs.Keys.{Onward, onward-keep, onward-both, map-onward, map-inOrder, packed-order, tagged-order}
+use Rattle.laws.proofs.Keys.{onward-keep, onward-both, map-onward, map-inOrder, packed-order, tagged-order}
 use Rattle.fields.specs.declared.number.Number.{Number}
 use Rattle.model.specs.Rules.{Event}
 use Rattle.model.specs.Model.{journal, about, notLater, history}

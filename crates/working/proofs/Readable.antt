@@ -2,12 +2,11 @@
 use mathlib.Core.Path.{_≡_, sym, ap, _∙_}
 use mathlib.Core.Bool.{true}
 use mathlib.Core.List.{List}
-use Prim.Native.Nat.{ℕ, _+_, _*_, _≤_, _<_}
+use Prim.Native.Nat.{ℕ, _≤_}
 use native.Mathlib.Omega.{arith}
-use lib.ListN.{length}
 use Rattle.laws.specs.Lists.{table, all}
 use Rattle.laws.proofs.Tables.{length-table, getD-table, all-at, all-each}
-use Rattle.journals.specs.Files.{fileAt, fileCount, filesOf, goodFile, recordsOf}
+use Rattle.journals.specs.Files.{fileAt, fileCount, filesOf, goodFile}
 use Rattle.store.specs.Reads.{lent, isReadable}
 use Rattle.store.proofs.Checks.{few-files, few-reports, few-corrections, long}
 use Rattle.store.proofs.Whole.{whole-long, whole-files, files-good}

@@ -1,6 +1,6 @@
 -- `renewing::renew::renew` meets its contract: before the record at j the numbers of the first j records are done (`Staged`). Assumes nothing.
 use mathlib.Core.Path.{_≡_, refl}
-use Prim.Native.Nat.{ℕ, _+_, _*_, _-_, _≤_}
+use Prim.Native.Nat.{_+_, _-_, _≤_}
 use native.Mathlib.Omega.{arith}
 use lib.ListN.{length}
 use Rattle.journals.specs.Files.{fileCount}
@@ -12,18 +12,18 @@ use Rattle.renewing.proofs.renew.renew.Statement.{statement}
 use Rattle.renewing.proofs.renew.renew.Tie as tie
 
 abbrev Inv-loop : tie.InvT-loop
-Inv-loop table files regular corrections entries₀ last f start count sum₀ j₀ entries sum j =
+Inv-loop table files regular corrections entries₀ n last f start count sum₀ j₀ entries sum j =
     (j ≤ count) × (length entries ≡ length entries₀)
     × Staged (readFiles files regular corrections) (filedFrom (recordsAt regular corrections) f start) j table entries₀ entries sum
 
 abbrev μ-loop : tie.MeasureT-loop
-μ-loop table files regular corrections entries₀ last f start count sum₀ j₀ entries sum j = count - j
+μ-loop table files regular corrections entries₀ n last f start count sum₀ j₀ entries sum j = count - j
 
 file-count-requires : tie.Need-file-count-requires Inv-loop μ-loop
 file-count-requires c κs =
     let start = c .before .before .before .before .before in
     let a = start .args in
-    let able = workable (a .table .now) (a .files .now) (a .regular .now) (a .corrections .now) (a .entries .now) (start .pre .0) (a .entries .now) refl in
+    let able = workable (a .table .now) (a .files .now) (a .regular .now) (a .corrections .now) (a .entries .now) (start .pre .0) (fileCount (a .files .now)) (a .entries .now) refl refl in
     omega (arith, able .sound .listed)
 
 sub-last : tie.Need-sub-last Inv-loop μ-loop
@@ -35,7 +35,7 @@ file-at-requires : tie.Need-file-at-requires Inv-loop μ-loop
 file-at-requires c κs =
     let start = c .before .before .before .before .before .before in
     let a = start .args in
-    let able = workable (a .table .now) (a .files .now) (a .regular .now) (a .corrections .now) (a .entries .now) (start .pre .0) (a .entries .now) refl in
+    let able = workable (a .table .now) (a .files .now) (a .regular .now) (a .corrections .now) (a .entries .now) (start .pre .0) (fileCount (a .files .now)) (a .entries .now) refl refl in
     omega (arith, able .sound .listed, start .pre .1, c .file-count .ensures .0)
 
 records-of-requires : tie.Need-records-of-requires Inv-loop μ-loop
@@ -43,7 +43,7 @@ records-of-requires c κs =
     let counted = c .before in
     let start = counted .before .before .before .before .before .before in
     let a = start .args in
-    let able = workable (a .table .now) (a .files .now) (a .regular .now) (a .corrections .now) (a .entries .now) (start .pre .0) (a .entries .now) refl in
+    let able = workable (a .table .now) (a .files .now) (a .regular .now) (a .corrections .now) (a .entries .now) (start .pre .0) (fileCount (a .files .now)) (a .entries .now) refl refl in
     (omega (arith, able .sound .listed, start .pre .1, counted .file-count .ensures .0), omega (arith, able .sound .few, start .pre .1, counted .file-count .ensures .0))
 
 cast-count : tie.Need-cast-count Inv-loop μ-loop
@@ -69,7 +69,7 @@ renew-record-requires c κs =
     let a = start .args in
     let whole = start .pre .0 in
     let n : counted .file-count .result - 1 + 1 ≡ fileCount (a .files .now) = omega (arith, start .pre .1, counted .file-count .ensures .0) in (
-      workable (a .table .now) (a .files .now) (a .regular .now) (a .corrections .now) (a .entries .now) whole (at-loop .loop .entries) (at-loop .loop .inv .1),
+      workable (a .table .now) (a .files .now) (a .regular .now) (a .corrections .now) (a .entries .now) whole (counted .file-count .result) (at-loop .loop .entries) (counted .file-count .ensures .0) (at-loop .loop .inv .1),
       (
         in-last (a .table .now) (a .files .now) (a .regular .now) (a .corrections .now) (a .entries .now) whole (counted .file-count .result - 1) (read .file-at .result) (sums .records-of .result) (read .file-at .ensures .0) (sums .records-of .ensures) n,
         search needs,

@@ -4,16 +4,11 @@ use borrow.Author.Needs.{needs}
 use Rattle.renewing.proofs.turn.renew_line.Statement.{statement}
 use Rattle.renewing.proofs.turn.renew_line.Tie as tie
 
-file-count-requires : tie.Need-file-count-requires
-file-count-requires c κs = search needs
-
 line-at-requires : tie.Need-line-at-requires
 line-at-requires c κs = search needs
 
 work-out-requires : tie.Need-work-out-requires
-work-out-requires c κs =
-    let counted = c .before .before .before .before in
-    rw (counted .file-count .ensures .0) (counted .before .before .before .before .before .before .pre .0 .sound)
+work-out-requires c κs = search needs
 
 put-entry-requires : tie.Need-put-entry-requires
 put-entry-requires c κs = search needs
@@ -24,16 +19,15 @@ same-length c = search needs
 returns : tie.Need-returns
 returns c =
     let worked = c .before .before .before .before .before .before in
-    let counted = worked .before .before .before .before .before in
-    let args = counted .before .before .before .before .before .before .args in
-    let l = worked .before .before .before .before .line-at in
-    line-worked (args .lines .now) (args .files .now) (args .regular .now) (args .corrections .now) _ _ (args .k) (counted .file-count .result) (l .result) (worked .work-out .result .standing) (worked .work-out .result .count) (counted .file-count .ensures .0) (l .ensures) (worked .work-out .ensures) (c .before .before .put-entry .ensures)
+    let read = worked .before .before .before .before in
+    let start = read .before .before .before .before .before .before in
+    let args = start .args in
+    line-worked (args .lines .now) (args .files .now) (args .regular .now) (args .corrections .now) _ _ (args .n) (args .k) (read .line-at .result) (worked .work-out .result .standing) (worked .work-out .result .count) (start .pre .0 .counted) (read .line-at .ensures) (worked .work-out .ensures) (c .before .before .put-entry .ensures)
 
 pub renew-line-spec : {M : Type 1} → statement M
 renew-line-spec =
     tie.close
     (tie.spec
-    file-count-requires
     line-at-requires
     work-out-requires
     put-entry-requires

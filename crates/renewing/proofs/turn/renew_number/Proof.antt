@@ -24,23 +24,19 @@ returns c =
     let start = counted .before .before .before .before .before .before in
     let args = start .args in
     let w = c .before .before .renew-line in
-    with-line (args .lines .now) (args .files .now) (args .regular .now) (args .corrections .now) (args .entries .now) (start .pre) (args .number) (counted .line-count .result) (found .line-of .result) (counted .line-count .ensures .0) (found .line-of .ensures) _ (w .result) (chosen .if1 .taken) (w .ensures)
-
-file-count-requires : tie.Need-file-count-requires
-file-count-requires c κs = search needs
+    with-line (args .lines .now) (args .files .now) (args .regular .now) (args .corrections .now) (args .entries .now) (args .n) (start .pre) (args .number) (counted .line-count .result) (found .line-of .result) (counted .line-count .ensures .0) (found .line-of .ensures) _ (w .result) (chosen .if1 .taken) (w .ensures)
 
 count-all-requires : tie.Need-count-all-requires
-count-all-requires c κs =
-    rw (c .file-count .ensures .0) (c .before .before .before .before .before .before .before .before .before .pre .sound)
+count-all-requires c κs = search needs
 
 returns-2 : tie.Need-returns-2
 returns-2 c =
-    let filed = c .before in
-    let found = filed .before .before in
+    let left = c .before in
+    let found = left .before in
     let counted = found .before in
     let start = counted .before .before .before .before .before .before in
     let args = start .args in
-    without-line (args .lines .now) (args .files .now) (args .regular .now) (args .corrections .now) (args .entries .now) (start .pre) (args .number) (counted .line-count .result) (found .line-of .result) (counted .line-count .ensures .0) (found .line-of .ensures) (filed .file-count .result) (c .count-all .result) (filed .before .if1 .left) (filed .file-count .ensures .0) (c .count-all .ensures)
+    without-line (args .lines .now) (args .files .now) (args .regular .now) (args .corrections .now) (args .entries .now) (args .n) (start .pre) (args .number) (counted .line-count .result) (found .line-of .result) (counted .line-count .ensures .0) (found .line-of .ensures) (c .count-all .result) (left .if1 .left) (c .count-all .ensures)
 
 pub renew-number-spec : {M : Type 1} → statement M
 renew-number-spec =
@@ -51,6 +47,5 @@ renew-number-spec =
     renew-line-requires
     same-length
     returns
-    file-count-requires
     count-all-requires
     returns-2)

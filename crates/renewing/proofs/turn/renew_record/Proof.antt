@@ -19,7 +19,7 @@ returns c =
     let read = named .before in
     let start = read .before .before .before .before .before .before in
     let args = start .args in
-    seen-before (args .lines .now) (args .files .now) (args .regular .now) (args .corrections .now) (args .entries .now) (start .pre .0) (filedFrom (recordsAt (args .regular .now) (args .corrections .now)) (args .f) (args .start)) (args .j) (read .number-at .result) (read .number-at .ensures) (sym (c .if1 .taken) ∙ named .named-before .ensures)
+    seen-before (args .lines .now) (args .files .now) (args .regular .now) (args .corrections .now) (args .entries .now) (args .n) (start .pre .0) (filedFrom (recordsAt (args .regular .now) (args .corrections .now)) (args .f) (args .start)) (args .j) (read .number-at .result) (read .number-at .ensures) (sym (c .if1 .taken) ∙ named .named-before .ensures)
 
 renew-number-requires : tie.Need-renew-number-requires
 renew-number-requires c κs = search needs
@@ -35,7 +35,7 @@ returns-2 c =
     let read = named .before in
     let start = read .before .before .before .before .before .before in
     let args = start .args in
-    seen-first (args .lines .now) (args .files .now) (args .regular .now) (args .corrections .now) (args .entries .now) (start .pre .0) (filedFrom (recordsAt (args .regular .now) (args .corrections .now)) (args .f) (args .start)) (args .j) (read .number-at .result) (read .number-at .ensures) _ (done .renew-number .result) (sym (left .if1 .left) ∙ named .named-before .ensures) (done .renew-number .ensures)
+    seen-first (args .lines .now) (args .files .now) (args .regular .now) (args .corrections .now) (args .entries .now) (args .n) (start .pre .0) (filedFrom (recordsAt (args .regular .now) (args .corrections .now)) (args .f) (args .start)) (args .j) (read .number-at .result) (read .number-at .ensures) _ (done .renew-number .result) (sym (left .if1 .left) ∙ named .named-before .ensures) (done .renew-number .ensures)
 
 pub renew-record-spec : {M : Type 1} → statement M
 renew-record-spec =
