@@ -12,6 +12,7 @@ use lib.Dec.{eqb, ltb, leb}
 use lib.ListN.{length, length-append}
 use borrow.Author.Tests.{lt-ltb, le-ltb, le-leb, lt-leb}
 use Rattle.laws.specs.Lists.{table, all, total}
+use Rattle.laws.proofs.Lists.{total-append}
 use Rattle.laws.proofs.Tests.{le-or-lt, and-left, and-right}
 use Rattle.laws.proofs.Tables.{length-table, table-cong}
 use Rattle.files.specs.Judged.{judgedFile}
@@ -48,11 +49,6 @@ narrow-short w (x ∷ l) e =
       narrow-short w l (and-right (shorter (suc w) x) (all (shorter (suc w)) l) e),
       suc-mul (length l) w,
     )
-
-total-append : {A : Type 0} (g : A → ℕ) (xs ys : List A) → total g (xs ++ ys) ≡ total g xs + total g ys
-unfolding total
-total-append g [] ys = omega arith
-total-append g (x ∷ xs) ys = omega (arith, total-append g xs ys)
 
 narrow-append : (w : ℕ) (l m : List (List ℕ)) → Narrow w l → Narrow w m → Narrow w (l ++ m)
 narrow-append w l m p q = rw (length-append l m) (omega (arith, total-append length l m, add-mul (length l) (length m) w))

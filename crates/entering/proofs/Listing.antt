@@ -13,6 +13,7 @@ use lib.ListN.{length, getD}
 use Rattle.laws.specs.Lists.{table, any, all, noneTwice, total}
 use Rattle.laws.specs.Overlay.{overlay}
 use Rattle.laws.specs.Words.{lowFirst}
+use Rattle.laws.proofs.Lists.{total-append}
 use Rattle.laws.proofs.Overlay.{length-overlay}
 use Rattle.laws.proofs.Tables.{table-more, table-cong, table-self, any-more, all-more}
 use Rattle.laws.proofs.Tests.{and-left, and-right, and-true, or-left, or-right, eqb-comm, eqb-refl}
@@ -126,11 +127,6 @@ module _ (files : List ℕ) (f : File) (fits : Roomy f) (slot : fileCount files 
   }
 
 -- ---- the model's files
-total-append : {A : Type 0} (g : A → ℕ) (xs ys : List A) → total g (xs ++ ys) ≡ total g xs + total g ys
-unfolding total
-total-append g [] ys = omega arith
-total-append g (x ∷ xs) ys = omega (arith, total-append g xs ys)
-
 -- the records of a file stand before the end of its journal
 place-below : (before : List File) (f : File) (after : List File) (i : ℕ) → i < f .count → recordsOf (f .kind) before + i < recordsOf (f .kind) (before ++ (f ∷ after))
 unfolding recordsOf recordsIn total

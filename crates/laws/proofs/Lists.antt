@@ -203,6 +203,11 @@ module _ {A : Type 0} where
   total-end f [] x = omega arith
   total-end f (y ∷ l) x = omega (arith, total-end f l x)
 
+  pub total-append : (f : A → ℕ) (l m : List A) → total f (l ++ m) ≡ total f l + total f m
+  unfolding total
+  total-append f [] m = omega arith
+  total-append f (x ∷ l) m = omega (arith, total-append f l m)
+
   -- and of one element of a list
   pub total-mem : {a : A} (f : A → ℕ) (l : List A) → List·Memᴰ a l → f a ≤ total f l
   unfolding total
