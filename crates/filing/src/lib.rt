@@ -1,0 +1,2 @@
+// Filing: a file into the store, or a refusal that changes no byte.
+pub mod file;
