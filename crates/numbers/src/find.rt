@@ -7,6 +7,13 @@ ghost use lib.ListN.{length};
 ghost use Rattle.laws.specs.Lists.{table, firstAt};
 ghost use Rattle.fields.specs.Number.{sameNumber};
 ghost use Rattle.numbers.specs.Lines.{numberAt};
+ghost use Rattle.numbers.specs.Find.{foundLine};
+
+// Where a number has its line, or that it has none.
+pub enum FoundLine {
+    At(usize),
+    Unknown,
+}
 
 // The place of the first of n lines that has the number; n where none has it.
 pub fn line_of(lines: &[u8], n: usize, number: Number) -> usize
@@ -23,4 +30,22 @@ pub fn line_of(lines: &[u8], n: usize, number: Number) -> usize
         i += 1;
     }
     i
+}
+
+// The line of a number. A table that is cut off before its last line has none.
+pub fn find_line(table: &[u8], number: Number) -> FoundLine
+    ensures { λ r. ⌜ r ≡ foundLine (now (table .entry)) number ⌝ }
+{
+    if table.len() < lines::HEAD {
+        return FoundLine::Unknown;
+    }
+    let n = lines::line_count(table);
+    if table.len() < lines::HEAD + n * lines::LINE {
+        return FoundLine::Unknown;
+    }
+    let i = line_of(table, n, number);
+    if i < n {
+        return FoundLine::At(i);
+    }
+    FoundLine::Unknown
 }
