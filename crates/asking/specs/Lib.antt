@@ -1,0 +1,4 @@
+pub mod Numbers
+pub mod Showable
+pub mod Items
+pub mod Standing

@@ -1,0 +1,5 @@
+// What a store is asked.
+pub mod answer;
+pub mod entry;
+pub mod showable;
+pub mod stand;
