@@ -1,3 +1,5 @@
 pub mod Showing
 pub mod Lines
 pub mod Standings
+pub mod Starts
+pub mod Whys

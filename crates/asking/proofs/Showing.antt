@@ -151,3 +151,8 @@ module _ (t f r c : List ℕ) where
     unfolding isShowable
     show-files k n e m =
         rw (le-leb 14338 (length t) h, le-leb 8194 (length f) i, le-leb 368640 (length r) j, le-leb 200704 (length c) k, ← e, le-leb n 1024 m)
+
+-- the reports of all files, counted by the code
+pub reports-first : (f : List ℕ) (n : ℕ) → InRange f → n ≡ fileCount f → recordsOf 0 (table n (fileAt f)) ≤ 8192
+unfolding filesOf
+reports-first f n r e = let m : recordsOf 0 (table (fileCount f) (fileAt f)) ≤ 8192 = r .reports in rw e m

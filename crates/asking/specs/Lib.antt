@@ -2,3 +2,4 @@ pub mod Numbers
 pub mod Showable
 pub mod Items
 pub mod Standing
+pub mod Why

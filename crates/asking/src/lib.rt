@@ -3,3 +3,4 @@ pub mod answer;
 pub mod entry;
 pub mod showable;
 pub mod stand;
+pub mod why;

@@ -8,7 +8,7 @@ ghost use Rattle.laws.specs.Lists.{table};
 ghost use Rattle.journals.specs.Files.{fileAt, recordsIn, recordsOf};
 
 // What a file adds to the records of a kind.
-fn records_in(f: File, kind: u8) -> usize
+pub fn records_in(f: File, kind: u8) -> usize
     ensures { λ r. ⌜ (r ≡ recordsIn kind f) × (r ≤ f .count) ⌝ }
 {
     if f.kind == kind { f.count as usize } else { 0 }
