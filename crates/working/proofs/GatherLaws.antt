@@ -159,6 +159,18 @@ module _ (n : ℕ) (files regular corrections : List ℕ) (s : Sound n files reg
   pub in-turn : (k : ℕ) (f : File) (start : ℕ) → k < n → f ≡ fileAt files k → start ≡ recordsOf (f .kind) (table k (fileAt files)) → InFile regular corrections f start (f .count)
   in-turn k f start h e q = rw (q, e) (in-file k h)
 
+  -- what the record at a place of the file k asks
+  pub in-place : (k : ℕ) (f : File) (start place : ℕ) → k < n → f ≡ fileAt files k → start ≡ recordsOf (f .kind) (table k (fileAt files)) → place < fileAt files k .count → InFile regular corrections f start (place + 1)
+  in-place k f start place h e q b =
+      let w = in-turn k f start h e q in
+      let c : f .count ≡ fileAt files k .count = ap (λ (g : File). g .count) e in record {
+        kinds = w .kinds;
+        publishers = w .publishers;
+        within = omega (arith, w .within);
+        regularRoom = w .regularRoom;
+        correctionRoom = w .correctionRoom;
+      }
+
   pub room : (number : Number) (k : ℕ) → k < n → length (keysOf (recordsAt regular corrections) number (fileAt files) k) + fileAt files k .count ≤ 10240
   room number k h =
       let r = recordsAt regular corrections in

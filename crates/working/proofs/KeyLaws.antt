@@ -1,10 +1,11 @@
 -- The keys: each gives its record back, and sorted they are the history. Assumes nothing.
 use mathlib.Core.Path.{_≡_, refl, sym, ap, _∙_}
-use mathlib.Core.Bool.{Bool, cond}
-use mathlib.Core.List.{List, [], _∷_, map, foldl, List·Memᴰ}
+use mathlib.Core.Logic.{⊎-elim}
+use mathlib.Core.Bool.{Bool, cond, not}
+use mathlib.Core.List.{List, [], _∷_, map, foldl, List·Memᴰ, List·Memᴰ·head, List·Memᴰ·tail}
 use Prim.Native.Nat.{ℕ, zero, suc, _+_, _*_, _/_, _%_, _≤_, _<_}
 use native.Mathlib.Omega.{arith}
-use borrow.Author.Tests.{eq-eqb, ne-eqb, lt-ltb}
+use borrow.Author.Tests.{eq-eqb, ne-eqb, lt-ltb, le-ltb, le-leb, lt-leb}
 use lib.Dec.{eqb, leb, ltb}
 use lib.ListN.{length, getD, length-map}
 use Rattle.laws.specs.Lists.{table, keep}
@@ -12,11 +13,12 @@ use Rattle.laws.specs.Order.{inOrder, sorted, notAfter}
 use Rattle.laws.specs.Keys.{packed, Fits}
 use Rattle.laws.proofs.Lists.{keep-map, mem-keep}
 use Rattle.laws.proofs.Order.{mem-inOrder, length-inOrder}
-use Rattle.laws.proofs.Folds.{fold-map, fold-agree}
-use Rattle.laws.proofs.Keys.{onward-keep, onward-both, map-onward, map-inOrder, packed-order, tagged-order}
+use Rattle.laws.proofs.Folds.{fold-map, fold-agree, fold-keep}
+use Rattle.laws.proofs.Tests.{le-or-lt}
+use Rattle.laws.proofs.Keys.{Onward, onward-keep, onward-both, map-onward, map-inOrder, packed-order, tagged-order}
 use Rattle.fields.specs.declared.number.Number.{Number}
 use Rattle.model.specs.Rules.{Event}
-use Rattle.model.specs.Model.{journal, about, notLater, history}
+use Rattle.model.specs.Model.{journal, about, notLater, history, before}
 use Rattle.journals.specs.Files.{recordsOf}
 use Rattle.journals.specs.Records.{recordAt, recordIn, shownIn}
 use Rattle.journals.specs.declared.files.File.{File}
@@ -25,7 +27,7 @@ use Rattle.rules.specs.Records.{classIn}
 use Rattle.rules.specs.Rules.{rules}
 use Rattle.rules.proofs.Lawful.{lawful, class-of-reports, class-of-corrections}
 use Rattle.journals.specs.Reads.{recordsAt, filedIn}
-use Rattle.working.specs.Slips.{Slip, slips, aboutSlip, keyBy, keyOf, keysOf, classBehind, kindBehind, journalBehind, eventBehind}
+use Rattle.working.specs.Slips.{Slip, slipAt, slips, aboutSlip, keyBy, keyOf, keysOf, classBehind, kindBehind, journalBehind, eventBehind}
 use Rattle.working.proofs.SlipLaws.{Ranged, Kept, Rise, eventOf, kept, rise, slips-journal}
 
 -- ---- numbers in a key
@@ -146,6 +148,24 @@ module _ (regular corrections : List ℕ) (long : 368640 ≤ length regular) (wi
       (λ e. q (lawful .class-kind (s .kind) (t .kind) (r (s .kind) (s .index)) (r (t .kind) (t .index)) (sym (b .classes) ∙ ap (λ (l : List ℕ). getD l 1 0) e ∙ c .classes)))
       ∙ (λ j. notAfter (s .day ∷ b .classes j ∷ s .publisher ∷ s .place ∷ []) (t .day ∷ c .classes j ∷ t .publisher ∷ t .place ∷ [])))
 
+  -- without the place in the journal the key is that of the processing order
+  front : (s : Slip) → s .index < 8192 → keyOf s / 8192 ≡ packed (32768 ∷ 16 ∷ 1024 ∷ 8192 ∷ []) (s .day ∷ s .class ∷ s .publisher ∷ s .place ∷ [])
+  unfolding keyBy
+  front s h = omega arith
+
+  not-leb : (a b : ℕ) → not (leb a b) ≡ ltb b a
+  not-leb a b = ⊎-elim (λ (h : a ≤ b). rw (le-leb a b h, le-ltb b a h)) (λ (h : b < a). rw (lt-leb a b h, lt-ltb b a h)) (le-or-lt a b)
+
+  key-before : (s m : Slip) → Bounded r s → Bounded r m → ltb (keyOf s / 8192) (keyOf m / 8192) ≡ not (notLater rules (eventOf r m) (eventOf r s))
+  key-before s m b c =
+      let bs : List ℕ = 32768 ∷ 16 ∷ 1024 ∷ 8192 ∷ [] in
+      let xs : List ℕ = s .day ∷ s .class ∷ s .publisher ∷ s .place ∷ [] in
+      let ys : List ℕ = m .day ∷ m .class ∷ m .publisher ∷ m .place ∷ [] in
+      (λ j. ltb (front s (omega (arith, b .indices)) j) (front m (omega (arith, c .indices)) j))
+      ∙ sym (not-leb (packed bs ys) (packed bs xs))
+      ∙ ap not (packed-order bs ys xs (c .days, (c .low, (c .publishers, (c .places, tt)))) (b .days, (b .low, (b .publishers, (b .places, tt))))
+      ∙ (λ j. notAfter (m .day ∷ c .classes j ∷ m .publisher ∷ m .place ∷ []) (s .day ∷ b .classes j ∷ s .publisher ∷ s .place ∷ [])))
+
   module _ (file : ℕ → File) (n : ℕ) (ranged : (j : ℕ) → j < n → Ranged (file j)) (reports : recordsOf 0 (table n file) ≤ 8192) (objections : recordsOf 1 (table n file) ≤ 2048) where
     limit : (s : Slip) → Kept r file n s → (kind : ℕ) → s .kind ≡ kind → s .index + 6144 * kind < 8192
     limit s w zero e = let h : s .index < recordsOf 0 (table n file) = rw e at (w .stored) in omega arith
@@ -161,6 +181,18 @@ module _ (regular corrections : List ℕ) (long : 368640 ≤ length regular) (wi
       publishers = w .publishers;
       places = omega (arith, w .places, limit s w (s .kind) refl);
       indices = limit s w (s .kind) refl;
+    }
+
+    -- a slip of a file in its bounds
+    pub bounded-at : (k i : ℕ) → k < n → i < file k .count → recordsOf (file k .kind) (table k file) + file k .count + 6144 * file k .kind ≤ 8192 → Bounded r (slipAt r (file k) (recordsOf (file k .kind) (table k file)) i)
+    bounded-at k i h b w = record {
+      kinds = ranged k h .kinds;
+      days = ranged k h .days;
+      classes = refl;
+      low = class-below (file k .kind) (r (file k .kind) (recordsOf (file k .kind) (table k file) + i)) (ranged k h .kinds);
+      publishers = ranged k h .publishers;
+      places = omega (arith, w);
+      indices = omega (arith, w);
     }
 
     module _ (number : Number) where
@@ -208,3 +240,28 @@ module _ (regular corrections : List ℕ) (long : 368640 ≤ length regular) (wi
       unfolding keysOf
       keys-count =
           length-map found keyOf ∙ sym (length-inOrder later found) ∙ sym (length-map ordered (eventOf r)) ∙ ap length history-slips
+
+      -- what is folded over those sorted keys that come before that of a record is folded over the history before it
+      module _ (m : Slip) (bm : Bounded r m) where
+        abbrev isBefore : ℕ → Bool
+        isBefore key = ltb (key / 8192) (keyOf m / 8192)
+
+        before-slip : (s : Slip) → List·Memᴰ s ordered → not (notLater rules (eventOf r m) (eventOf r s)) ≡ isBefore (keyOf s)
+        before-slip s i = sym (key-before s m (found-bounded s (mem-inOrder later found i)) bm)
+
+        kept-before : map (eventOf r) (keep (λ (s : Slip). isBefore (keyOf s)) ordered) ≡ before rules (eventOf r m) (history rules (filedIn r [] (table n file)) number)
+        unfolding before
+        kept-before =
+            keep-map (eventOf r) (λ (d : Event). not (notLater rules (eventOf r m) d)) (λ (s : Slip). isBefore (keyOf s)) ordered (λ s i. sym (before-slip s i))
+            ∙ ap (keep (λ (d : Event). not (notLater rules (eventOf r m) d))) history-slips
+
+        pub fold-before : {S : Type 0} (step : S → Event → S) (s : S) → foldl (λ (t : S) (k : ℕ). cond (isBefore k) (step t (eventBehind regular corrections k)) t) s (sorted (keysOf r number file n)) ≡ foldl step s (before rules (eventOf r m) (history rules (filedIn r [] (table n file)) number))
+        fold-before {S} step s =
+            fold-keep (λ (t : S) (k : ℕ). step t (eventBehind regular corrections k)) isBefore s (sorted (keysOf r number file n))
+            ∙ ap (λ (l : List ℕ). foldl (λ (t : S) (k : ℕ). step t (eventBehind regular corrections k)) s (keep isBefore l)) (sym keys-sorted)
+            ∙ ap (foldl (λ (t : S) (k : ℕ). step t (eventBehind regular corrections k)) s) (sym (keep-map keyOf isBefore (λ (x : Slip). isBefore (keyOf x)) ordered (λ x i. refl)))
+            ∙ fold-map (λ (t : S) (k : ℕ). step t (eventBehind regular corrections k)) keyOf s (keep (λ (x : Slip). isBefore (keyOf x)) ordered)
+            ∙ fold-agree (λ (t : S) (x : Slip). step t (eventBehind regular corrections (keyOf x))) (λ (t : S) (x : Slip). step t (eventOf r x)) (keep (λ (x : Slip). isBefore (keyOf x)) ordered)
+            (λ x i t. ap (step t) (behind x (found-bounded x (mem-inOrder later found (mem-keep (λ (y : Slip). isBefore (keyOf y)) ordered i))))) s
+            ∙ sym (fold-map step (eventOf r) s (keep (λ (x : Slip). isBefore (keyOf x)) ordered))
+            ∙ ap (foldl step s) kept-before

@@ -1,15 +1,16 @@
 -- What working out one number answers. Assumes nothing: these are definitions.
 use mathlib.Core.Path.{_≡_}
-use mathlib.Core.Bool.{true}
+use mathlib.Core.Bool.{true, cond}
 use mathlib.Core.List.{List, _++_}
-use Prim.Native.Nat.{ℕ, _+_, _*_, _≤_, _<_}
+use Prim.Native.Nat.{ℕ, _+_, _*_, _/_, _≤_, _<_}
+use lib.Dec.{ltb}
 use lib.ListN.{length, take}
 use Rattle.laws.specs.Lists.{table, all}
 use Rattle.fields.specs.declared.number.Number.{Number}
 use Rattle.entries.specs.declared.entry.Line.{Line}
 use Rattle.verdict.specs.declared.step.Standing.{Standing}
 use Rattle.verdict.specs.Step.{standOn}
-use Rattle.model.specs.Rules.{TableLine}
+use Rattle.model.specs.Rules.{TableLine, Event}
 use Rattle.model.specs.Model.{entryOver, history}
 use Rattle.journals.specs.Files.{fileAt, fileCount, goodFile, recordsOf}
 use Rattle.journals.specs.declared.files.File.{File}
@@ -66,3 +67,17 @@ pub record WorkedAfresh (n : ℕ) (files regular corrections : List ℕ) (number
   pub stands : standing ≡ entryOver standings (take n (readFiles files regular corrections)) (tableLine number line)
   pub entry : standing .entry ≡ entryOver rules (take n (readFiles files regular corrections)) (tableLine number line)
   pub counted : count ≡ length (history rules (take n (readFiles files regular corrections)) number)
+
+-- the record at a place of the file k
+unfoldable pub recordIn : List ℕ → List ℕ → List ℕ → ℕ → ℕ → Event
+recordIn files regular corrections k place = record {
+  kind = fileAt files k .kind;
+  publisher = fileAt files k .publisher;
+  day = fileAt files k .day;
+  place = place;
+  bytes = recordsAt regular corrections (fileAt files k .kind) (recordsOf (fileAt files k .kind) (table k (fileAt files)) + place);
+}
+
+-- the standing after the record behind a key, if it is processed before the one with the key `mark`: the place in the journal has no part in that
+unfoldable pub standBefore : Line → List ℕ → List ℕ → ℕ → Standing → ℕ → Standing
+standBefore line regular corrections mark s key = cond (ltb (key / 8192) (mark / 8192)) (standBehind line regular corrections s key) s

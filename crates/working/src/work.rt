@@ -61,7 +61,7 @@ fn record_behind<'a>(regular: &'a [u8], corrections: &'a [u8], key: u64) -> Reco
 }
 
 // Where the number stands after the record behind a key.
-fn stand_behind<'a>(
+pub fn stand_behind<'a>(
     regular: &'a [u8],
     corrections: &'a [u8],
     line: Line,
@@ -109,7 +109,7 @@ fn fold_all<'a>(
 }
 
 // Puts the first r keys in order.
-fn sort_first(keys: &mut [u64; 10240], r: usize)
+pub fn sort_first(keys: &mut [u64; 10240], r: usize)
     ensures { λ _. ⌜ now (keys .exit) ≡ sorted (take r (now (keys .entry))) ++ drop r (now (keys .entry)) ⌝ }
 {
     order::sort(keys, r);
