@@ -3,3 +3,4 @@ pub mod Lines
 pub mod Standings
 pub mod Starts
 pub mod Whys
+pub mod Records

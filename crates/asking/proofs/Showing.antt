@@ -78,7 +78,7 @@ showable t f r c e =
       range = in-range f (and-right h i e₄);
     }
 
-showable-true : (t f r c : List ℕ) → Showable t f r c → isShowable t f r c ≡ true
+pub showable-true : (t f r c : List ℕ) → Showable t f r c → isShowable t f r c ≡ true
 unfolding isShowable
 showable-true t f r c s =
     rw (

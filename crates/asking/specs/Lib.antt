@@ -3,3 +3,4 @@ pub mod Showable
 pub mod Items
 pub mod Standing
 pub mod Why
+pub mod Record

@@ -27,7 +27,7 @@ pub struct EntryAnswer {
 }
 
 // No entry is shown.
-fn not_held(answer: Answer) -> EntryAnswer
+pub fn not_held(answer: Answer) -> EntryAnswer
     ensures { λ r. ⌜ r ≡ notHeld answer ⌝ }
 {
     let none = entry::line_in(Listed::Missing);
@@ -39,7 +39,7 @@ fn not_held(answer: Answer) -> EntryAnswer
 }
 
 // Whether table and entries have room, and how many lines there are is in range.
-fn has_entries(table: &[u8], entries: &[u8]) -> bool
+pub fn has_entries(table: &[u8], entries: &[u8]) -> bool
     ensures { λ r. ⌜ r ≡ hasEntries (now (table .entry)) (now (entries .entry)) ⌝ }
 {
     if table.len() < lines::TABLE_LENGTH {

@@ -52,7 +52,13 @@ fn key(day: u16, class: u64, publisher: u16, place: usize, index: usize) -> u64
 }
 
 // The key of the record at a place of a file whose records begin at `start`.
-pub fn key_at<'a>(regular: &'a [u8], corrections: &'a [u8], f: File, start: usize, place: usize) -> u64
+pub fn key_at<'a>(
+    regular: &'a [u8],
+    corrections: &'a [u8],
+    f: File,
+    start: usize,
+    place: usize,
+) -> u64
     requires { ⌜ InFile (now regular) (now corrections) f start (place + 1) ⌝ }
     ensures { λ r. ⌜ r ≡ keyOf (slipAt (recordsAt (now (regular .entry)) (now (corrections .entry))) f start place) ⌝ }
 {

@@ -1,0 +1,80 @@
+-- A filed record by journal and place (paper 01, "Verdicts on reports", the last paragraph). Assumes nothing: these are definitions.
+use mathlib.Core.Path.{_≡_}
+use mathlib.Core.Bool.{cond}
+use mathlib.Core.List.{List}
+use mathlib.Core.Option.{Option, none, some}
+use Prim.Native.Nat.{ℕ, _+_, _≤_, _<_}
+use Rattle.laws.specs.Lists.{table}
+use Rattle.fields.specs.declared.number.Number.{Number}
+use Rattle.entries.specs.declared.entry.Listed.the-variants.{With}
+use Rattle.verdict.specs.declared.answer.Verdict.{Verdict}
+use Rattle.verdict.specs.declared.answer.Verdict.the-variants.{UnknownNumber}
+use Rattle.verdict.specs.declared.step.Record.{Record}
+use Rattle.verdict.specs.Step.{verdictOn}
+use Rattle.model.specs.Rules.{TableLine, Event}
+use Rattle.model.specs.Model.{Filed, journalOf, numberOf, history, worked, before, lineOf}
+use Rattle.journals.specs.Files.{recordsOf}
+use Rattle.journals.specs.Reads.{readFiles}
+use Rattle.journals.specs.declared.files.File.{File}
+use Rattle.journals.specs.declared.records.Journal.{Journal}
+use Rattle.journals.specs.declared.records.Journal.the-variants.{Regular, Correction}
+use Rattle.rules.specs.Rules.{rules, recordOf, lineBy}
+use Rattle.asking.specs.declared.record.Asked.{Asked}
+use Rattle.asking.specs.declared.record.AskedRecord.{AskedRecord}
+use Rattle.asking.specs.declared.record.Located.{Located}
+use Rattle.asking.specs.declared.record.Said.{Said}
+use Rattle.asking.specs.Items.{itemAt}
+use Rattle.asking.specs.Showable.{isShowable}
+use Rattle.asking.specs.Standing.{linesIn}
+
+-- the kind of the files whose records a journal holds
+abbrev pub kindOf : Journal → ℕ
+kindOf Regular = 0
+kindOf Correction = 1
+
+-- what a record says
+abbrev pub saidBy : Event → Said
+saidBy e = record { number = numberOf rules e; rec = recordOf e }
+
+-- ---- the verdict at a record's own point of the history of its number: on the entry that the records processed before it lead to. Without a line
+-- it is 12
+abbrev pub pointVerdict : List Filed → Event → Record → Option (TableLine Number) → Verdict
+pointVerdict files e rec none = UnknownNumber
+pointVerdict files e rec (some line) = verdictOn (With (lineBy line)) (worked rules line (before rules e (history rules files (line .number)))) rec
+
+-- ---- the record
+abbrev pub askedAs : List (TableLine Number) → List Filed → Event → AskedRecord
+askedAs lines files e = record {
+  publisher = record { 0 = e .publisher };
+  day = record { 0 = e .day };
+  place = e .place;
+  verdict = pointVerdict files e (recordOf e) (lineOf rules lines (numberOf rules e));
+}
+
+abbrev pub askedOf : List (TableLine Number) → List Filed → Option Event → Asked
+askedOf lines files none = Asked.Beyond
+askedOf lines files (some e) = Asked.Record (askedAs lines files e)
+
+unfoldable pub askedIn : List (TableLine Number) → List Filed → Journal → ℕ → Asked
+askedIn lines files which place = askedOf lines files (itemAt (journalOf (kindOf which) files) place)
+
+-- ---- what is shown from any bytes
+unfoldable pub recordShown : List ℕ → List ℕ → List ℕ → List ℕ → Journal → ℕ → Asked
+recordShown t f r c which place = cond (isShowable t f r c) (askedIn (linesIn t) (readFiles f r c) which place) Asked.Unreadable
+
+-- the part of the journal that an answer shows is the record's bytes; where it shows no record, the part is empty
+abbrev pub countShown : Asked → ℕ
+countShown (Asked.Record a) = 8192
+countShown Asked.Beyond = 0
+countShown Asked.Unreadable = 0
+
+-- ---- where a record stands: in the file k, of that kind, at a place of it; those of the files before it come before it in the journal
+pub record InFileAt (file : ℕ → File) (n kind place k at : ℕ) : Type 0 where
+  pub listed : k < n
+  pub same : file k .kind ≡ kind
+  pub within : at < file k .count
+  pub sum : recordsOf kind (table k file) + at ≡ place
+
+abbrev pub Locates : (ℕ → File) → ℕ → ℕ → ℕ → Located → Type 0
+Locates file n kind place (Located.In k at) = InFileAt file n kind place k at
+Locates file n kind place Located.Nowhere = recordsOf kind (table n file) ≤ place
