@@ -1,0 +1,5 @@
+pub mod Readables
+pub mod Figures
+pub mod Latest
+pub mod Roots
+pub mod Stored

@@ -1,0 +1,214 @@
+-- Where the reports of a number's open places and of its last confirmed pair come from: each is a record of its history, published by the network that
+-- has to. Assumes nothing.
+use mathlib.Core.Path.{_≡_, refl, sym, ap, subst, _∙_}
+use mathlib.Core.Logic.{_⊎_, inl, inr, ⊎-elim}
+use mathlib.Core.Bool.{Bool, true, false, cond, not, true≢false}
+use mathlib.Core.List.{List, [], _∷_, _++_, append-assoc, append-nil, map, foldl, List·Memᴰ, List·Memᴰ·head, List·Memᴰ·tail, List·Memᴰ·not-nil}
+use Prim.Native.Nat.{ℕ, zero, suc, _<_}
+use native.Mathlib.Omega.{arith}
+use borrow.Author.Tests.{eqb-true, not-false}
+use lib.Dec.{eqb, leb, lit≤}
+use lib.ListN.{length, getD, set, take, replicate}
+use Rattle.laws.specs.Lists.{any, firstLine}
+use Rattle.laws.proofs.Lines.{line-passed}
+use Rattle.laws.proofs.Tests.{eqb-refl}
+use Rattle.fields.specs.declared.code.Code.{Code}
+use Rattle.calendar.specs.declared.dates.CalendarDays.{CalendarDays}
+use Rattle.entries.specs.declared.report.Published.{Published}
+use Rattle.entries.specs.declared.report.Report.{Report}
+use Rattle.entries.specs.declared.entry.Place.{Place}
+use Rattle.entries.specs.declared.entry.Entry.{Entry}
+use Rattle.entries.specs.declared.entry.Line.{Line}
+use Rattle.entries.specs.declared.entry.Listed.the-variants.{With}
+use Rattle.entries.specs.Entry.{freePlace, firstEntry}
+use Rattle.entries.specs.Report.{meantBy, publisherOf, sameCode, matches}
+use Rattle.entries.specs.Places.{lowestFree, lapsed}
+use Rattle.entries.proofs.SameLaws.{same-code, matches-equal}
+use Rattle.verdict.specs.declared.answer.Verdict.{Verdict}
+use Rattle.verdict.specs.declared.answer.Verdict.the-variants.{Kept}
+use Rattle.verdict.specs.declared.step.Says.{Says}
+use Rattle.verdict.specs.declared.step.Record.{Record}
+use Rattle.verdict.specs.declared.step.Why.{Why}
+use Rattle.verdict.specs.declared.step.Standing.{Standing}
+use Rattle.verdict.specs.Numbers.{numberOf}
+use Rattle.verdict.specs.Reports.{reportTable, reportVerdict, kept, confirmed, partnerAt}
+use Rattle.verdict.specs.Corrections.{correctionVerdict, withoutNamed, namedAt}
+use Rattle.verdict.specs.Step.{placedAs, verdictBy, effectBy, whyBy, verdictOn, standOn, firstStanding}
+use Rattle.verdict.specs.Sound.{Explained, Pairing, Paired}
+use Rattle.verdict.proofs.StepLaws.{explained-stays}
+use Rattle.model.specs.Rules.{Event}
+use Rattle.rules.specs.Rules.{recordOf}
+
+-- ---- members of a list that was changed
+mem-set : {A : Type 0} {x : A} (l : List A) (i : ℕ) (y : A) → List·Memᴰ x (set l i y) → (x ≡ y) ⊎ List·Memᴰ x l
+mem-set [] i y m = inr m
+mem-set (z ∷ l) zero y (List·Memᴰ·head e) = inl e
+mem-set (z ∷ l) zero y (List·Memᴰ·tail m) = inr (List·Memᴰ·tail m)
+mem-set (z ∷ l) (suc i) y (List·Memᴰ·head e) = inr (List·Memᴰ·head e)
+mem-set (z ∷ l) (suc i) y (List·Memᴰ·tail m) = ⊎-elim (λ e. inl e) (λ k. inr (List·Memᴰ·tail k)) (mem-set l i y m)
+
+mem-map : {A B : Type 0} {x : B} (f : A → B) (l : List A) → List·Memᴰ x (map f l) → (y : A) × List·Memᴰ y l × (x ≡ f y)
+mem-map f [] m = absurd (List·Memᴰ·not-nil m)
+mem-map f (z ∷ l) (List·Memᴰ·head e) = (z, List·Memᴰ·head refl, e)
+mem-map f (z ∷ l) (List·Memᴰ·tail m) = let w = mem-map f l m in (w .0, List·Memᴰ·tail (w .1), w .2)
+
+mem-getD : {A : Type 0} (l : List A) (i : ℕ) (d : A) → List·Memᴰ (getD l i d) l ⊎ (getD l i d ≡ d)
+mem-getD [] i d = inr refl
+mem-getD (x ∷ l) zero d = inl (List·Memᴰ·head refl)
+mem-getD (x ∷ l) (suc i) d = ⊎-elim (λ m. inl (List·Memᴰ·tail m)) (λ e. inr e) (mem-getD l i d)
+
+mem-more : {A : Type 0} {x : A} (l m : List A) → List·Memᴰ x l → List·Memᴰ x (l ++ m)
+mem-more (y ∷ l) m (List·Memᴰ·head e) = List·Memᴰ·head e
+mem-more (y ∷ l) m (List·Memᴰ·tail k) = List·Memᴰ·tail (mem-more l m k)
+mem-more [] m k = absurd (List·Memᴰ·not-nil k)
+
+mem-end : {A : Type 0} (l : List A) (x : A) → List·Memᴰ x (l ++ (x ∷ []))
+mem-end [] x = List·Memᴰ·head refl
+mem-end (y ∷ l) x = List·Memᴰ·tail (mem-end l x)
+
+mem-free : {x : Place} (n : ℕ) → List·Memᴰ x (replicate n freePlace) → x ≡ freePlace
+mem-free zero m = absurd (List·Memᴰ·not-nil m)
+mem-free (suc n) (List·Memᴰ·head e) = e
+mem-free (suc n) (List·Memᴰ·tail m) = mem-free n m
+
+-- ---- a place's report is one of these records
+pub record Root (owner : Code) (es : List Event) (p : Place) : Type 0 where
+  pub event : Event
+  pub member : List·Memᴰ event es
+  pub report : Published
+  pub says : recordOf event .says ≡ Says.Reported report
+  pub placed : p ≡ placedAs (recordOf event) (meantBy owner report)
+  pub publisher : record { 0 = event .publisher } ≡ publisherOf (p .report)
+
+abbrev pub RootedPair : Code → List Event → Why → Type 0
+RootedPair owner es Why.Nothing = Unit {0}
+RootedPair owner es (Why.Pair a b) = Root owner es a × Root owner es b
+
+pub record Rooted (owner : Code) (es : List Event) (s : Standing) : Type 0 where
+  pub places : (p : Place) → List·Memᴰ p (s .entry .places) → Root owner es p ⊎ (p ≡ freePlace)
+  pub pair : RootedPair owner es (s .why)
+
+root-more : (owner : Code) (es more : List Event) (p : Place) → Root owner es p → Root owner (es ++ more) p
+root-more owner es more p w = record {
+  event = w .event;
+  member = mem-more es more (w .member);
+  report = w .report;
+  says = w .says;
+  placed = w .placed;
+  publisher = w .publisher;
+}
+
+pair-more : (owner : Code) (es more : List Event) (w : Why) → RootedPair owner es w → RootedPair owner (es ++ more) w
+pair-more owner es more Why.Nothing h = tt
+pair-more owner es more (Why.Pair a b) h = (root-more owner es more a (h .0), root-more owner es more b (h .1))
+
+-- ---- what the table of reports says of a verdict 10 or 11
+module _ (line : Line) (e : Entry) (from : Code) (day : CalendarDays) (r : Report) where
+  abbrev v : Verdict
+  v = reportVerdict (With line) e from day r
+
+  from-10 : eqb (numberOf v) 10 ≡ true → from ≡ publisherOf r
+  unfolding any
+  from-10 k = same-code from (publisherOf r) (not-false _ (line-passed (λ w. eqb (numberOf w) 10) 1 (false, Kept) (reportTable (With line) e from day r) Kept (lit≤ tt) refl k))
+
+  from-11 : eqb (numberOf v) 11 ≡ true → from ≡ publisherOf r
+  unfolding any
+  from-11 k = same-code from (publisherOf r) (not-false _ (line-passed (λ w. eqb (numberOf w) 11) 1 (false, Kept) (reportTable (With line) e from day r) Kept (lit≤ tt) refl k))
+
+  networks-differ : eqb (numberOf v) 11 ≡ true → sameCode (r .losing) (r .gaining) ≡ false
+  unfolding any
+  networks-differ k = line-passed (λ w. eqb (numberOf w) 11) 2 (false, Kept) (reportTable (With line) e from day r) Kept (lit≤ tt) refl k
+
+  -- a report that is confirmed makes no pair with a free place: that one has no two networks
+  not-free : (p : Place) → eqb (numberOf v) 11 ≡ true → p ≡ freePlace → matches (p .report) r ≡ true → ⊥
+  not-free p k f m =
+      let w = matches-equal (p .report) r m in
+      let same : r .losing ≡ r .gaining = sym (w .losing) ∙ ap (λ (q : Place). q .report .losing) f ∙ sym (ap (λ (q : Place). q .report .gaining) f) ∙ w .gaining in
+      true≢false (sym (eqb-refl (r .gaining .0)) ∙ sym (ap (λ (c : Code). eqb (c .0) (r .gaining .0)) same) ∙ networks-differ k)
+
+lapsed-or : (d : CalendarDays) (p : Place) → (lapsed d p ≡ freePlace) ⊎ (lapsed d p ≡ p)
+unfolding lapsed
+lapsed-or d p = go (leb (p .report .date .0) (d .0))
+  where
+    go : (b : Bool) → (cond b freePlace p ≡ freePlace) ⊎ (cond b freePlace p ≡ p)
+    go true = inl refl
+    go false = inr refl
+
+-- ---- one record more
+abbrev after : Line → Standing → Event → Says → Standing
+after line s e says = record {
+  entry = effectBy (verdictBy (With line) (s .entry) (recordOf e .publisher) (recordOf e .day) says) line (s .entry) (recordOf e) says;
+  why = whyBy (verdictBy (With line) (s .entry) (recordOf e .publisher) (recordOf e .day) says) (line .owner) (s .entry .places) (s .why) (recordOf e) says;
+}
+
+root-by : (line : Line) (es : List Event) (s : Standing) (e : Event) (says : Says) → recordOf e .says ≡ says → Paired (after line s e says .why) → Rooted (line .owner) es s
+    → Rooted (line .owner) (es ++ (e ∷ [])) (after line s e says)
+root-by line es s e (Says.Reported p) q x h = go (eqb (numberOf w) 10) (eqb (numberOf w) 11) refl refl x
+  where
+    r : Report
+    r = meantBy (line .owner) p
+
+    w : Verdict
+    w = reportVerdict (With line) (s .entry) (recordOf e .publisher) (recordOf e .day) r
+
+    second : Place
+    second = placedAs (recordOf e) r
+
+    partner : Place
+    partner = getD (s .entry .places) (partnerAt r (s .entry .places)) freePlace
+
+    old : (y : Place) → List·Memᴰ y (s .entry .places) → Root (line .owner) (es ++ (e ∷ [])) y ⊎ (y ≡ freePlace)
+    old y m = ⊎-elim (λ k. inl (root-more (line .owner) es (e ∷ []) y k)) (λ k. inr k) (h .places y m)
+
+    new : recordOf e .publisher ≡ publisherOf r → Root (line .owner) (es ++ (e ∷ [])) second
+    new f = record { event = e; member = mem-end es e; report = p; says = q; placed = refl; publisher = f }
+
+    lapsed-old : (y : Place) → List·Memᴰ y (map (lapsed (r .date)) (s .entry .places)) → Root (line .owner) (es ++ (e ∷ [])) y ⊎ (y ≡ freePlace)
+    lapsed-old y m =
+        let z = mem-map (lapsed (r .date)) (s .entry .places) m in
+        ⊎-elim (λ k. inr (z .2 ∙ k)) (λ k. ⊎-elim (λ u. inl (subst (Root (line .owner) (es ++ (e ∷ []))) (sym (z .2 ∙ k)) u)) (λ u. inr (z .2 ∙ k ∙ u)) (old (z .0) (z .1))) (lapsed-or (r .date) (z .0))
+
+    partner-root : eqb (numberOf w) 11 ≡ true → Pairing partner second → Root (line .owner) (es ++ (e ∷ [])) partner
+    partner-root g m =
+        ⊎-elim (λ k. ⊎-elim (λ u. u) (λ u. absurd (not-free line (s .entry) (recordOf e .publisher) (recordOf e .day) r partner g u (m .matching))) (old partner k))
+        (λ u. absurd (not-free line (s .entry) (recordOf e .publisher) (recordOf e .day) r partner g u (m .matching)))
+        (mem-getD (s .entry .places) (partnerAt r (s .entry .places)) freePlace)
+
+    go : (a b : Bool) → eqb (numberOf w) 10 ≡ a → eqb (numberOf w) 11 ≡ b → Paired (cond b (Why.Pair partner second) (s .why))
+        → Rooted (line .owner) (es ++ (e ∷ [])) (record { entry = cond a (kept (s .entry) second) (cond b (confirmed (s .entry) r) (s .entry)); why = cond b (Why.Pair partner second) (s .why) })
+    go true true f g m = absurd (omega (arith, eqb-true (numberOf w) 10 f, eqb-true (numberOf w) 11 g))
+    go true false f g m = record {
+      places = λ y k. ⊎-elim (λ u. inl (subst (Root (line .owner) (es ++ (e ∷ []))) (sym u) (new (from-10 line (s .entry) (recordOf e .publisher) (recordOf e .day) r f)))) (old y) (mem-set (s .entry .places) (lowestFree (s .entry .places)) second k);
+      pair = pair-more (line .owner) es (e ∷ []) (s .why) (h .pair);
+    }
+    go false true f g m = record {
+      places = lapsed-old;
+      pair = (partner-root g m, new (from-11 line (s .entry) (recordOf e .publisher) (recordOf e .day) r g));
+    }
+    go false false f g m = record { places = old; pair = pair-more (line .owner) es (e ∷ []) (s .why) (h .pair) }
+root-by line es s e (Says.Corrected c) q x h = go (eqb (numberOf (correctionVerdict (With line) (s .entry) (recordOf e .publisher) c)) 30)
+  where
+    old : (y : Place) → List·Memᴰ y (s .entry .places) → Root (line .owner) (es ++ (e ∷ [])) y ⊎ (y ≡ freePlace)
+    old y m = ⊎-elim (λ k. inl (root-more (line .owner) es (e ∷ []) y k)) (λ k. inr k) (h .places y m)
+
+    go : (b : Bool) → Rooted (line .owner) (es ++ (e ∷ [])) (record { entry = cond b (withoutNamed (s .entry) (line .owner) (c .named)) (s .entry); why = s .why })
+    go true = record {
+      places = λ y k. ⊎-elim (λ u. inr u) (old y) (mem-set (s .entry .places) (namedAt (line .owner) (c .named) (s .entry .places)) freePlace k);
+      pair = pair-more (line .owner) es (e ∷ []) (s .why) (h .pair);
+    }
+    go false = record { places = old; pair = pair-more (line .owner) es (e ∷ []) (s .why) (h .pair) }
+
+root-step : (line : Line) (es : List Event) (s : Standing) (e : Event) → Explained line s → Rooted (line .owner) es s → Rooted (line .owner) (es ++ (e ∷ [])) (standOn line s (recordOf e))
+unfolding standOn
+root-step line es s e x h = root-by line es s e (recordOf e .says) refl (explained-stays line s (recordOf e) x .pair) h
+
+-- ---- all along
+pub rooted-along : (line : Line) (es more : List Event) (s : Standing) → Explained line s → Rooted (line .owner) es s
+    → Rooted (line .owner) (es ++ more) (foldl (λ (t : Standing) (e : Event). standOn line t (recordOf e)) s more)
+rooted-along line es [] s x h = subst (λ (l : List Event). Rooted (line .owner) l s) (sym (append-nil es)) h
+rooted-along line es (e ∷ more) s x h =
+    subst (λ (l : List Event). Rooted (line .owner) l (foldl (λ (t : Standing) (d : Event). standOn line t (recordOf d)) (standOn line s (recordOf e)) more)) (append-assoc es (e ∷ []) more)
+    (rooted-along line (es ++ (e ∷ [])) more (standOn line s (recordOf e)) (explained-stays line s (recordOf e) x) (root-step line es s e x h))
+
+pub rooted-first : (line : Line) → Rooted (line .owner) [] (firstStanding line)
+rooted-first line = record { places = λ p m. inr (mem-free 8 m); pair = tt }

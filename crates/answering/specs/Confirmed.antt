@@ -1,0 +1,20 @@
+-- Which records of a number's history are confirmed. Assumes nothing: these are definitions.
+use mathlib.Core.Bool.{Bool, true, not, _&&_}
+use mathlib.Core.List.{List, [], _∷_}
+use lib.Dec.{eqb}
+use Rattle.entries.specs.declared.entry.Entry.{Entry}
+use Rattle.entries.specs.declared.entry.Line.{Line}
+use Rattle.entries.specs.declared.entry.Listed.the-variants.{With}
+use Rattle.verdict.specs.Numbers.{numberOf}
+use Rattle.verdict.specs.Step.{verdictOn, entryAfter}
+use Rattle.model.specs.Rules.{Event}
+use Rattle.rules.specs.Rules.{recordOf}
+
+-- a record gets 11 on an entry
+abbrev pub confirms : Line → Entry → Event → Bool
+confirms line entry e = eqb (numberOf (verdictOn (With line) entry (recordOf e))) 11
+
+-- none of these records does, processed one after the other from an entry on
+unfoldable pub noneConfirms : Line → Entry → List Event → Bool
+noneConfirms line entry [] = true
+noneConfirms line entry (e ∷ es) = not (confirms line entry e) && noneConfirms line (entryAfter line entry (recordOf e)) es
