@@ -3,3 +3,5 @@ pub mod Figures
 pub mod Latest
 pub mod Roots
 pub mod Stored
+pub mod Promises
+pub mod Parts

@@ -32,6 +32,11 @@ howMany l = length (keep (λ (b : Bool). b) l)
 unfoldable pub figureOf : List (TableLine Number) → List Filed → List Entry → ℕ
 figureOf lines files entries = howMany (zipWith (differs files) lines entries)
 
+-- its number: 0 with the figure, or 44
+abbrev pub figureNumber : FigureAnswer → ℕ
+figureNumber (FigureAnswer.Differ n) = 0
+figureNumber FigureAnswer.Unreadable = 44
+
 abbrev pub figureAsked : Option Held → FigureAnswer
 figureAsked none = FigureAnswer.Unreadable
 figureAsked (some h) = FigureAnswer.Differ (figureOf (h .lines) (h .files) (h .entries))
