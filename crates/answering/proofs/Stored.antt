@@ -12,7 +12,7 @@ use lib.Dec.{eqb}
 use lib.ListN.{length, getD, length-append, List·getD-append}
 use lib.Seq.{drop-append-add}
 use Rattle.laws.specs.Lists.{table, keep}
-use Rattle.laws.proofs.Lists.{mem-keep}
+use Rattle.laws.proofs.Lists.{mem-keep, mem-below}
 use Rattle.laws.proofs.Order.{mem-inOrder}
 use Rattle.laws.proofs.Tables.{length-table, getD-table}
 use Rattle.laws.proofs.Tests.{and-left, and-right}
@@ -29,7 +29,6 @@ use Rattle.model.specs.Model.{Filed, eventAt, events, journal, journalOf, about
 use Rattle.model.proofs.Files.{Once, journal-file}
 use Rattle.rules.specs.Records.{saysIn, corrected}
 use Rattle.rules.specs.Rules.{rules, recordOf}
-use Rattle.working.proofs.SlipLaws.{mem-below}
 use Rattle.asking.specs.Items.{itemAt}
 use Rattle.asking.specs.Why.{isFileOf, reportsIn, startIn, storedAs}
 use Rattle.asking.proofs.Lines.{item-at}

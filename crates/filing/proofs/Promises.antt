@@ -3,25 +3,33 @@
 --     refused-unchanged    on every refusal no byte of any buffer changes
 --     came-reached         buffers that starting and filing lead to read as a store that the model reaches
 --     demand-3             in them every number's entry equals the one worked out afresh from the journals
+--     untouched-bytes      the entry of a number that no record of the file names is untouched, byte for byte
+--     files-one            two outcomes that the contract allows are equal
 use mathlib.Core.Path.{_≡_, refl, sym, ap, _∙_}
 use mathlib.Core.Bool.{Bool, true, false, cond}
 use mathlib.Core.List.{List, [], _∷_, _++_, map, zipWith}
 use mathlib.Core.Option.{Option, none, some}
-use Prim.Native.Nat.{ℕ}
+use Prim.Native.Nat.{ℕ, _<_}
 use native.Mathlib.Omega.{arith}
 use Rattle.laws.specs.Lists.{any}
+use Rattle.laws.specs.Slots.{slotAt}
 use Rattle.fields.specs.Code.{codeOf}
 use Rattle.fields.specs.declared.code.Code.{Code}
 use Rattle.files.specs.Judged.{judgedFile}
-use Rattle.model.specs.Model.{Filed, Store, Reached, alike, filed, renewed, started, entryOver}
+use Rattle.model.specs.Model.{Filed, Store, Reached, alike, filed, renewed, started, named, entryOver}
 use Rattle.rules.specs.Rules.{rules}
 use Rattle.rules.proofs.Promises.{entries-worked-afresh}
 use Rattle.store.specs.Reads.{Buffers, Held, tableLine, held, isReadable, reads}
-use Rattle.store.proofs.Checks.{reads-some}
+use Rattle.store.proofs.Checks.{long, few-lines, reads-some}
+use Rattle.store.proofs.Whole.{whole-long, whole-table}
 use Rattle.entering.specs.declared.kind.Filable.{Filable}
 use Rattle.entering.specs.Entering.{fileKind, filedAs, entered, Enterable}
 use Rattle.entering.proofs.Entered.{entered-readable, entered-files}
+use Rattle.fitting.specs.Renewing.{renewedSlot}
 use Rattle.fitting.proofs.Renewed.{renewed-reads}
+use Rattle.renewing.proofs.Renewed.{renewed-slot}
+use Rattle.journals.specs.Reads.{readFiles}
+use Rattle.numbers.specs.Lines.{lineCount, lineAt}
 use Rattle.numbers.specs.declared.lines.Line.{Line}
 use Rattle.starting.specs.Start.{firstOf, startedWith, Starts}
 use Rattle.starting.proofs.Readable.{started-reads}
@@ -136,3 +144,14 @@ refused-unchanged {b} s d = (s .answers ∙ ap (answerTo (held b .files)) d, s .
 -- two outcomes that the contract allows are equal
 pub files-one : {b x y : Buffers} {kind : Filable} {publisher : List ℕ} {day : ℕ} {text : List ℕ} {p q : Answer} → Files b kind publisher day text p x → Files b kind publisher day text q y → (p ≡ q) × (x ≡ y)
 files-one s t = (s .answers ∙ sym (t .answers), s .leaves ∙ sym (t .leaves))
+
+-- the entry of a number that no record of the file names is untouched, byte for byte
+pub untouched-bytes : {b : Buffers} {kind : Filable} {c day : ℕ} {text : List ℕ} {m : ℕ} → Enterable b kind c day text m → (k : ℕ) → k < lineCount (b .table)
+    → named rules (filedAs kind c day text) (lineAt (b .table) k .number) ≡ false
+    → slotAt 0 100 (filedInto (filedAs kind c day text) b .entries) k ≡ slotAt 0 100 (b .entries) k
+unfolding filedInto renewedIn entered held renewedSlot
+untouched-bytes {b} {kind} {c} {day} {text} can k h q =
+    let f = filedAs kind c day text in
+    renewed-slot (readFiles (entered f b .files) (entered f b .regular) (entered f b .corrections)) f (b .table) (b .entries)
+    (omega (arith, few-lines (b .table) (whole-table b (can .readable)), long b (whole-long b (can .readable)) .long-entries)) k h
+    ∙ rw q
