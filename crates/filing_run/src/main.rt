@@ -32,6 +32,11 @@ fn damage(
     }
 }
 
+fn heading(line: &[u8]) {
+    print::text(line);
+    print::text(b"\n");
+}
+
 // One line of the input: T a table to start with, F a file spelt out, G a file of many records, N many files without records, E the
 // entry of a line of the table, B a byte to be put into a buffer; any other is a heading.
 fn one(
@@ -51,12 +56,9 @@ fn one(
         b'F' => offer::one(line, x, t, f, r, c, e),
         b'G' => offer::many(line, x, t, f, r, c, e),
         b'N' => offer::empties(line, t, f, r, c, e),
-        b'E' => shown::line(input::piece(line, 1), input::number(line, 2), e),
+        b'E' => shown::one(line, e),
         b'B' => damage(line, t, f, r, c, e),
-        _ => {
-            print::text(line);
-            print::text(b"\n");
-        }
+        _ => heading(line),
     }
 }
 

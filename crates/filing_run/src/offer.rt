@@ -41,6 +41,13 @@ fn told_bytes(a: Answer, same: bool) {
     }
 }
 
+fn said(line: &[u8], a: Answer, same: bool) {
+    print::text(input::piece(line, 1));
+    told(a);
+    told_bytes(a, same);
+    print::text(b"\n");
+}
+
 // The line names what is tried, the file's kind, its publisher and its day.
 fn offered(
     line: &[u8],
@@ -67,10 +74,7 @@ fn offered(
         text,
     );
     let after = sum::of(table, files, regular, corrections, entries);
-    print::text(input::piece(line, 1));
-    told(a);
-    told_bytes(a, before == after);
-    print::text(b"\n");
+    said(line, a, before == after);
 }
 
 fn offered_first(
@@ -166,6 +170,13 @@ fn filed_empties(
     i
 }
 
+fn said_filed(line: &[u8], filed: usize) {
+    print::text(input::piece(line, 1));
+    print::text(b": 0 for ");
+    print::number(filed);
+    print::text(b"\n");
+}
+
 // Many files without records.
 pub fn empties(
     line: &[u8],
@@ -176,9 +187,23 @@ pub fn empties(
     e: &mut [u8; 102400],
 ) {
     let filed = filed_empties(input::number(line, 2), input::piece(line, 3), t, f, r, c, e);
+    said_filed(line, filed);
+}
+
+fn told_start(a: Started) {
+    match a {
+        Started::Done(n) => {
+            print::text(b": started ");
+            print::number(n);
+        }
+        Started::Short => print::text(b": 44"),
+        Started::BadTable => print::text(b": 6"),
+    }
+}
+
+fn said_started(line: &[u8], a: Started) {
     print::text(input::piece(line, 1));
-    print::text(b": 0 for ");
-    print::number(filed);
+    told_start(a);
     print::text(b"\n");
 }
 
@@ -191,17 +216,7 @@ fn started(
     c: &mut [u8],
     e: &mut [u8],
 ) {
-    let answer = start::start(text, t, f, r, c, e);
-    print::text(input::piece(line, 1));
-    match answer {
-        Started::Done(n) => {
-            print::text(b": started ");
-            print::number(n);
-        }
-        Started::Short => print::text(b": 44"),
-        Started::BadTable => print::text(b": 6"),
-    }
-    print::text(b"\n");
+    said_started(line, start::start(text, t, f, r, c, e));
 }
 
 fn started_first(

@@ -1,10 +1,13 @@
 // The entry of a line of the table: holder, last confirmed date, open reports.
+use crate::input;
 use crate::print;
 use entries::entry::Entry;
 use entries::entry::Last;
 use entries::entry::PLACES;
 use entries::entry::Place;
+use entries::report::Report;
 use entry_slots::entry;
+use fields::code::Code;
 use fields::kind::Kind;
 
 fn kind(k: Kind) {
@@ -15,23 +18,33 @@ fn kind(k: Kind) {
     }
 }
 
-// `i:KIND:DATE:LOSING>GAINING:PUBLISHED`
-fn place(i: usize, p: Place) {
-    let report = p.report;
-    let k = report.kind;
-    let date = report.date;
-    let losing = report.losing;
-    let gaining = report.gaining;
-    let day = p.day;
-    print::number(i);
-    print::text(b":");
+// `LOSING>GAINING`
+fn networks(losing: Code, gaining: Code) {
+    print::code(losing);
+    print::text(b">");
+    print::code(gaining);
+}
+
+// `KIND:DATE:LOSING>GAINING`
+fn report(r: Report) {
+    let k = r.kind;
+    let date = r.date;
+    let losing = r.losing;
+    let gaining = r.gaining;
     kind(k);
     print::text(b":");
     print::date(date);
     print::text(b":");
-    print::code(losing);
-    print::text(b">");
-    print::code(gaining);
+    networks(losing, gaining);
+}
+
+// `i:KIND:DATE:LOSING>GAINING:PUBLISHED`
+fn place(i: usize, p: Place) {
+    let r = p.report;
+    let day = p.day;
+    print::number(i);
+    print::text(b":");
+    report(r);
     print::text(b":");
     print::date(day);
 }
@@ -69,30 +82,36 @@ fn last(l: Last) {
     }
 }
 
+fn held(c: Code, l: Last) {
+    print::text(b": holder ");
+    print::code(c);
+    print::text(b", last ");
+    last(l);
+    print::text(b", open");
+}
+
 fn whole(e: Entry) {
     let holder = e.holder;
     let confirmed = e.last;
     let places = e.places;
-    print::text(b": holder ");
-    print::code(holder);
-    print::text(b", last ");
-    last(confirmed);
-    print::text(b", open");
+    held(holder, confirmed);
     open(places);
     print::text(b"\n");
 }
 
-fn at(what: &[u8], k: usize, entries: &[u8]) {
+fn at(line: &[u8], entries: &[u8]) {
+    let k = input::number(line, 2);
     if 1024 <= k {
         return;
     }
     if entries.len() < 102400 {
         return;
     }
-    print::text(what);
+    print::text(input::piece(line, 1));
     whole(entry::entry_at(entries, k));
 }
 
-pub fn line(what: &[u8], k: usize, e: &mut [u8; 102400]) {
-    at(what, k, e);
+// The entry that a line of the input asks for.
+pub fn one(line: &[u8], e: &mut [u8; 102400]) {
+    at(line, e);
 }
