@@ -1,0 +1,27 @@
+// A store opened for a question.
+use crate::end;
+use disk::CORRECTIONS;
+use disk::ENTRIES;
+use disk::FILES;
+use disk::REGULAR;
+use disk::TABLE;
+use disk::saved;
+
+// Loads the store: 0; or the status of the command, where it can't go on and has told why.
+pub fn open(
+    folder: &[u8],
+    table: &mut [u8; TABLE],
+    files: &mut [u8; FILES],
+    regular: &mut [u8; REGULAR],
+    corrections: &mut [u8; CORRECTIONS],
+    entries: &mut [u8; ENTRIES],
+) -> u8 {
+    match saved::load(folder, table, files, regular, corrections, entries) {
+        saved::Loaded::Ready => 0,
+        saved::Loaded::Missing => 2,
+        saved::Loaded::Damaged => {
+            words::refusal::refused(folder, 44, 0);
+            end::refused(44)
+        }
+    }
+}

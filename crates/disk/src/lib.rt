@@ -1,0 +1,18 @@
+// The store on disk: one file, STORE/store. A change is written beside it, to STORE/store.new, and takes its name once it is on the
+// device, so that a crash leaves the old file or the new one. STORE/lock is there while a process changes the store.
+pub mod head;
+pub mod lock;
+pub mod parts;
+pub mod saved;
+pub mod sum;
+
+// How long the five buffers are.
+pub const TABLE: usize = numbers::lines::TABLE_LENGTH;
+
+pub const FILES: usize = journals::files::FILES_LENGTH;
+
+pub const REGULAR: usize = journals::records::REGULAR_LENGTH;
+
+pub const CORRECTIONS: usize = journals::records::CORRECTIONS_LENGTH;
+
+pub const ENTRIES: usize = store::readable::ENTRIES_LENGTH;

@@ -1,0 +1,21 @@
+// Two running sums over bytes: of the bytes, and of the sums so far, so that two bytes that change places are seen too.
+pub struct Sum {
+    pub a: u64,
+    pub b: u64,
+}
+
+fn wide(x: u8) -> u64 {
+    x as u64
+}
+
+pub fn summed(sum: Sum, bytes: &[u8]) -> Sum {
+    let mut a = sum.a;
+    let mut b = sum.b;
+    let mut i = 0;
+    while i < bytes.len() {
+        a = std::num::wrapping_add_u64(a, wide(bytes[i]));
+        b = std::num::wrapping_add_u64(b, a);
+        i += 1;
+    }
+    Sum { a, b }
+}

@@ -1,0 +1,137 @@
+// One file offered: read where publisher and name are right, and filed.
+use crate::filed;
+use crate::filed::Told;
+use calendar::dates::CalendarDays;
+use commands::LONGEST;
+use commands::given;
+use commands::given::Given;
+use desk::within;
+use disk::CORRECTIONS;
+use disk::ENTRIES;
+use disk::FILES;
+use disk::REGULAR;
+use disk::TABLE;
+use entering::kind::Filable;
+use fields::code::Code;
+use fields::code::CodeRead;
+use names::kind::FileKind;
+use names::name::NameRead;
+
+pub enum Offered {
+    Answer(Told),
+    // the file can't be read, and the reason has been told
+    Unreadable,
+}
+
+// What a name tells of a file that may be filed: its kind and its day. Of any other name the day is outside the calendar.
+struct Heading {
+    kind: Filable,
+    day: CalendarDays,
+    right: bool,
+}
+
+fn no_heading() -> Heading {
+    Heading {
+        kind: Filable::Default,
+        day: CalendarDays(65535),
+        right: false,
+    }
+}
+
+fn heading_of(path: &[u8]) -> Heading {
+    let NameRead::Name(name) = given::name_of(path) else {
+        return no_heading();
+    };
+    let day = name.day;
+    let kind = name.kind;
+    match kind {
+        FileKind::Default => Heading {
+            kind: Filable::Default,
+            day: day,
+            right: true,
+        },
+        FileKind::Correction => Heading {
+            kind: Filable::Correction,
+            day: day,
+            right: true,
+        },
+        FileKind::Request => no_heading(),
+        FileKind::Response => no_heading(),
+    }
+}
+
+fn is_code(publisher: &[u8]) -> bool {
+    let CodeRead::Code(_) = Code::read(publisher) else {
+        return false;
+    };
+    true
+}
+
+fn file_text(
+    h: Heading,
+    publisher: &[u8],
+    text: &[u8; LONGEST],
+    n: usize,
+    table: &[u8; TABLE],
+    files: &mut [u8; FILES],
+    regular: &mut [u8; REGULAR],
+    corrections: &mut [u8; CORRECTIONS],
+    entries: &mut [u8; ENTRIES],
+) -> Told {
+    let all: &[u8] = text;
+    let k = within(n, all);
+    let kind = h.kind;
+    let day = h.day;
+    filed::file(
+        table,
+        files,
+        regular,
+        corrections,
+        entries,
+        kind,
+        publisher,
+        day,
+        &all[..k],
+    )
+}
+
+// Offers the file at a path. With a wrong publisher or name there is no need to look into it.
+pub fn offer(
+    publisher: &[u8],
+    path: &[u8],
+    text: &mut [u8; LONGEST],
+    table: &[u8; TABLE],
+    files: &mut [u8; FILES],
+    regular: &mut [u8; REGULAR],
+    corrections: &mut [u8; CORRECTIONS],
+    entries: &mut [u8; ENTRIES],
+) -> Offered {
+    let h = heading_of(path);
+    if !(is_code(publisher) & h.right) {
+        return Offered::Answer(file_text(
+            h,
+            publisher,
+            text,
+            0,
+            table,
+            files,
+            regular,
+            corrections,
+            entries,
+        ));
+    }
+    match given::load(path, text) {
+        Given::Unreadable => Offered::Unreadable,
+        Given::Bytes(n) => Offered::Answer(file_text(
+            h,
+            publisher,
+            text,
+            n,
+            table,
+            files,
+            regular,
+            corrections,
+            entries,
+        )),
+    }
+}

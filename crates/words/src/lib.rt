@@ -1,0 +1,33 @@
+// Words for people, on standard error: what was refused, where, why, and what to do next.
+pub mod refusal;
+
+use libc::STDERR_FILENO;
+
+pub fn text(bytes: &[u8]) {
+    io::write_all(STDERR_FILENO, bytes);
+}
+
+// A line: what, a colon, and why.
+pub fn complain(what: &[u8], why: &[u8]) {
+    text(b"dagskimra: ");
+    text(what);
+    text(b": ");
+    text(why);
+    text(b"\n");
+}
+
+// The same, with errno's text for the reason. (A write that succeeds leaves errno as it is.)
+pub fn failed(what: &[u8]) {
+    text(b"dagskimra: ");
+    os::fail(what);
+}
+
+// A wrong command line: what is wrong, and the command's usage. The status is 2.
+pub fn usage(wrong: &[u8], line: &[u8]) -> u8 {
+    text(b"dagskimra: ");
+    text(wrong);
+    text(b"\nusage: dagskimra ");
+    text(line);
+    text(b"\n");
+    2
+}
