@@ -1,0 +1,103 @@
+#!/bin/sh
+# Kills the program, or has a call of it fail, at each call that writes, one after the other (nth.c). Afterwards the store
+# must read as before or as after the command, never between; what was answered as filed must be there; the next command must work.
+set -u
+here=$(cd "$(dirname "$0")" && pwd -P)
+tool=$here/../../bin/dagskimra
+program=$here/../../target/bin/dagskimra
+. "$here/kit.inc"
+room=$(mktemp -d) || exit 2
+trap 'rm -rf "$room"' EXIT
+trap 'exit 2' HUP INT TERM
+cd "$room" || exit 2
+"$tool" help >/dev/null || exit 2
+bad=0 turns=0
+
+"$tools/bin/clang" --target=x86_64-unknown-linux-gnu -O1 -fPIC -ffreestanding -c "$here/nth.c" -o nth.o &&
+    "$tools/bin/ld.lld" -shared -o nth.so nth.o || {
+    echo 'crash: the library that counts calls could not be made'
+    exit 1
+}
+
+fault() {
+    echo "crash: $what, $how at call $n: $*"
+    bad=$((bad + 1))
+}
+
+# what the store says, in one text; `none` where there is none yet
+state() {
+    [ -e store/store ] || {
+        echo none
+        return
+    }
+    "$tool" files store && "$tool" show store && "$tool" verdicts store && "$tool" figure store
+}
+
+reset() {
+    rm -rf store
+    [ ! -d saved ] || cp -R saved store
+}
+
+# one command, at each call: WHAT WORDS...
+every_call() {
+    what=$1
+    shift
+    n=0 how=''
+    reset
+    state >before 2>said || fault "the store can't be read at first"
+    with_library "$room/nth.so" "$@" >out 2>said || fault 'it failed with nothing in its way'
+    total=$(cat calls)
+    state >after 2>said || fault 'the store can not be read afterwards'
+    cmp -s before after && fault 'it changes nothing'
+    for how in before after torn full once; do
+        n=0
+        while [ "$n" -lt "$total" ]; do
+            n=$((n + 1))
+            turns=$((turns + 1))
+            reset
+            NTH=$n HOW=$how with_library "$room/nth.so" "$@" >out 2>said
+            look "$@"
+        done
+    done
+    echo "crash: $what: $total calls that write, each in five ways"
+}
+
+# after one run
+look() {
+    digit=$(cat status)
+    state >now 2>say
+    if cmp -s now before; then is=before; elif cmp -s now after; then is=after; else
+        fault "the store is neither as before nor as after: $(cat say)"
+        return
+    fi
+    if [ -s out ] && [ "$is" != after ]; then fault "it answered '$(cat out)', and the store is as before"; fi
+    case $how in
+    full | once)
+        # the program has ended by itself: it tells, and leaves nothing lying about
+        case $digit in
+        0) [ "$is" = after ] || fault 'status 0, and the store is as before' ;;
+        2) [ -s said ] || fault 'status 2 without a word' ;;
+        *) [ "$n" -eq "$total" ] || [ "$how" = once ] || fault "its status is '$digit'" ;;
+        esac
+        if [ "$how" = full ]; then
+            [ "$digit" != 2 ] || [ "$is" = before ] || grep -q 'has changed' said || [ -s out ] || fault 'status 2, and the store has changed'
+            [ ! -e store/store.new ] || fault 'store.new is left'
+        fi
+        ;;
+    esac
+    # the next one works, and then the store is as after
+    "$tool" "$@" >next 2>say
+    state >now 2>say2
+    cmp -s now after || fault "the next command did not lead on: $(cat next say)"
+}
+
+printf '3055501,,D001,02012024\n3055502,,D001,02012024\n' >table
+mkdir D001 D002
+printf '3055501,,04032024,D002,D001,P\rZeilenanzahl:2,\r' >D002/1D240305.txt
+printf '3055501,,04032024,D002,D001,L\r3055502,,05032024,D002,D001,L\rZeilenanzahl:3,\r' >D001/1D240306.txt
+every_call 'start' start store table
+"$tool" start saved table >out || exit 1
+"$tool" file saved D002 D002/1D240305.txt >out || exit 1
+every_call 'file' file store D001 D001/1D240306.txt
+echo "crash: $turns turns, $bad faults"
+[ "$bad" -eq 0 ]
