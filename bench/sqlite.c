@@ -19,7 +19,7 @@ static const char schema[] =
     " gaining INTEGER NOT NULL, day INTEGER NOT NULL, at INTEGER NOT NULL, PRIMARY KEY (number, place)) WITHOUT ROWID;";
 
 static sqlite3 *db;
-static sqlite3_stmt *begin, *commit, *rollback, *add_number, *add_file, *add_record, *find_number, *history, *put_holder, *clear_places, *put_place, *get_entry, *get_places;
+static sqlite3_stmt *begin, *commit, *rollback, *add_number, *add_file, *add_record, *find_number, *history, *put_holder, *clear_places, *put_place, *get_entry, *get_places, *quick_check;
 static int stored[2];
 
 static void check(int good) {
@@ -64,6 +64,7 @@ static void prepare_all(void) {
     clear_places = prepare("DELETE FROM places WHERE number = ?");
     put_place = prepare("INSERT INTO places VALUES (?, ?, ?, ?, ?, ?, ?, ?)");
     get_entry = prepare("SELECT holder, confirmed FROM entries WHERE number = ?");
+    quick_check = prepare("PRAGMA quick_check(1)");
     get_places = prepare("SELECT place, kind, date, losing, gaining, day, at FROM places WHERE number = ?");
 }
 
@@ -155,6 +156,13 @@ static int renew(struct number n) {
     int count = fold(n, &l, &e, &why);
     put_entry(id, &e);
     return count;
+}
+
+/* SQLite's own check of the whole database, its counterpart of 44. */
+int sqlite_readable(void) {
+    int good = sqlite3_step(quick_check) == SQLITE_ROW && strcmp((const char *)sqlite3_column_text(quick_check, 0), "ok") == 0;
+    sqlite3_reset(quick_check);
+    return good;
 }
 
 /* ---- filing */

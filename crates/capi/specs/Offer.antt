@@ -1,0 +1,41 @@
+-- What filing tells other languages. Assumes nothing: these are definitions.
+use mathlib.Core.Path.{_≡_}
+use mathlib.Core.Bool.{cond}
+use mathlib.Core.List.{List}
+use Prim.Native.Nat.{ℕ}
+use lib.Dec.{eqb, leb}
+use Rattle.store.specs.Reads.{Buffers, held}
+use Rattle.entering.specs.declared.kind.Filable.{Filable}
+use Rattle.entering.specs.declared.kind.Filable.the-variants.{Default, Correction}
+use Rattle.checking.specs.declared.answer.Answer.{Answer}
+use Rattle.checking.specs.declared.answer.Answer.the-variants.{Unreadable, NoCode, NoDay, FiledAlready, Fault, Full}
+use Rattle.checking.specs.Answers.{answerNumber}
+use Rattle.checking.specs.Filing.{Decision, decide}
+use Rattle.filing.specs.Effect.{answerTo, buffersAfter}
+
+-- the kinds that are filed by number: 0 default, any other correction
+unfoldable pub filableBy : ℕ → Filable
+filableBy kind = cond (eqb kind 0) Default Correction
+
+-- a number that is neither 0 nor 1 is no kind that is filed: its file has no day, and is refused with 2
+unfoldable pub dayFor : ℕ → ℕ → ℕ
+dayFor kind day = cond (leb kind 1) day 65535
+
+-- beside the answer's number: the count, or the place of the first fault
+abbrev pub answerMore : Answer → ℕ
+answerMore (Answer.Filed n) = n
+answerMore Unreadable = 0
+answerMore NoCode = 0
+answerMore NoDay = 0
+answerMore FiledAlready = 0
+answerMore (Fault i) = i
+answerMore Full = 0
+
+-- what is decided of a file that is offered
+abbrev pub decided : Buffers → ℕ → List ℕ → ℕ → List ℕ → Decision
+decided b kind publisher day text = decide b (filableBy kind) publisher (dayFor kind day) text
+
+pub record FilesAs (b : Buffers) (kind : ℕ) (publisher : List ℕ) (day : ℕ) (text : List ℕ) (answer more : ℕ) (after : Buffers) : Type 0 where
+  pub answers : answer ≡ answerNumber (answerTo (held b .files) (decided b kind publisher day text))
+  pub tells : more ≡ answerMore (answerTo (held b .files) (decided b kind publisher day text))
+  pub leaves : after ≡ buffersAfter b (decided b kind publisher day text)

@@ -1,0 +1,78 @@
+// Filing a file.
+use crate::days::NO_DAY;
+use calendar::dates::CalendarDays;
+use checking::answer;
+use checking::answer::Answer;
+use entering::kind::Filable;
+use filing::file;
+ghost use mathlib.Core.Path.{_≡_};
+ghost use Rattle.store.specs.Reads.{lent};
+ghost use Rattle.capi.specs.Offer.{filableBy, dayFor, answerMore, FilesAs};
+
+// The kind that is filed: 0 default, any other number correction.
+fn filable_by(kind: u8) -> Filable
+    ensures { λ r. ⌜ r ≡ filableBy kind ⌝ }
+{
+    if kind == 0 {
+        return Filable::Default;
+    }
+    Filable::Correction
+}
+
+// The publication day; a kind that is neither 0 nor 1 is not filed, and so has no day.
+fn day_for(kind: u8, day: u16) -> u16
+    ensures { λ r. ⌜ r ≡ dayFor kind day ⌝ }
+{
+    if kind <= 1 {
+        return day;
+    }
+    NO_DAY
+}
+
+fn more_of(a: Answer) -> u64
+    ensures { λ r. ⌜ r ≡ answerMore a ⌝ }
+{
+    match a {
+        Answer::Filed(n) => n as u64,
+        Answer::Unreadable => 0,
+        Answer::NoCode => 0,
+        Answer::NoDay => 0,
+        Answer::FiledAlready => 0,
+        Answer::Fault(i) => i as u64,
+        Answer::Full => 0,
+    }
+}
+
+// Files a file: 0, and the count of the journal records whose number it names; or 44, 1, 2, 3, 4 with the place of its first fault, 5, and no
+// byte of the buffers changes.
+#[no_mangle]
+pub extern "C" fn dagskimra_file(
+    table: &[u8],
+    files: &mut [u8],
+    regular: &mut [u8],
+    corrections: &mut [u8],
+    entries: &mut [u8],
+    kind: u8,
+    publisher: &[u8],
+    day: u16,
+    text: &[u8],
+    more: &mut u64,
+) -> u8
+    ensures { λ r. ⌜ FilesAs (lent (now (table .entry)) (now (files .entry)) (now (regular .entry)) (now (corrections .entry)) (now (entries .entry))) kind (now (publisher .entry)) day (now (text .entry)) r (now (more .exit)) (lent (now (table .entry)) (now (files .exit)) (now (regular .exit)) (now (corrections .exit)) (now (entries .exit))) ⌝ }
+{
+    let which = filable_by(kind);
+    let on = day_for(kind, day);
+    let a = file::file(
+        table,
+        files,
+        regular,
+        corrections,
+        entries,
+        which,
+        publisher,
+        CalendarDays(on),
+        text,
+    );
+    *more = more_of(a);
+    answer::number(a)
+}

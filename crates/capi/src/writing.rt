@@ -1,0 +1,41 @@
+// Writing files of each kind.
+use crate::kinds;
+use files::write;
+use names::written::Written;
+ghost use mathlib.Core.Path.{_≡_};
+ghost use lib.ListN.{length};
+ghost use Rattle.names.specs.Written.{writtenNumber};
+ghost use Rattle.files.specs.Writing.{fileOf, fileAnswer};
+ghost use Rattle.capi.specs.Kinds.{kindBy};
+ghost use Rattle.capi.specs.Writing.{writtenMore, Writes};
+
+fn number(w: Written) -> u8
+    ensures { λ r. ⌜ r ≡ writtenNumber w ⌝ }
+{
+    match w {
+        Written::Length(_) => 0,
+        Written::Fault(_) => 4,
+        Written::Long => 41,
+    }
+}
+
+fn more_of(w: Written) -> u64
+    ensures { λ r. ⌜ r ≡ writtenMore w ⌝ }
+{
+    match w {
+        Written::Length(n) => n as u64,
+        Written::Fault(i) => i as u64,
+        Written::Long => 0,
+    }
+}
+
+// A file of a kind, from the words of its records: 0, and its length; 4, and the place of the first record that its layout can't hold; 41
+// where `out` is too short. On both refusals `out` keeps its bytes; bytes behind a written file stay.
+#[no_mangle]
+pub extern "C" fn dagskimra_write(kind: u8, words: &[u64], out: &mut [u8], more: &mut u64) -> u8
+    ensures { λ r. ⌜ Writes (fileAnswer (kindBy kind) (now (words .entry)) (length (now (out .entry)))) (fileOf (kindBy kind) (now (words .entry))) (now (out .entry)) (now (out .exit)) r (now (more .exit)) ⌝ }
+{
+    let w = write::write(kinds::kind_by(kind), words, out);
+    *more = more_of(w);
+    number(w)
+}

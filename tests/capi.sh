@@ -1,0 +1,72 @@
+#!/bin/sh
+# The C interface. Nothing checks a header against the source, so this does: its constants are those of the source, it declares exactly the functions
+# that crate capi exports, the example calls each of them, and, compiled and linked with the archive, all that it compares is as expected.
+#
+# A C compiler for x86-64 is needed: cc there, Debian's gcc-x86-64-linux-gnu elsewhere (run by the kit's emulator).
+set -eu
+cd "$(dirname "$0")/.."
+header=include/dagskimra.h
+work=$(mktemp -d)
+trap 'rm -rf "$work"' EXIT
+fail() {
+    echo "tests/capi.sh: $1" >&2
+    exit 1
+}
+
+# ---- constants: NAME in the header, VALUE of the source
+constant() {
+    is=$(sed -n "s/^#define DAGSKIMRA_$1 //p" $header)
+    [ "$is" = "$2" ] || fail "DAGSKIMRA_$1 is $is in the header and $2 in the source"
+}
+number() { # FILE NAME
+    sed -n "s/^pub const $2: [a-z0-9]* = \([0-9]*\);.*/\1/p" "crates/$1"
+}
+numbers=$(number numbers/src/lines.rt NUMBERS)
+files=$(number journals/src/files.rt FILES)
+reports=$(number journals/src/records.rt REPORTS)
+corrections=$(number journals/src/records.rt CORRECTIONS)
+report_slot=$((1 + $(number journals/src/records.rt LONGEST_REPORT)))
+correction_slot=$((1 + $(number journals/src/records.rt LONGEST_CORRECTION)))
+line=$(number numbers/src/lines.rt LINE)
+line_head=$(number numbers/src/lines.rt HEAD)
+file=$(number journals/src/files.rt SLOT)
+file_head=$(number journals/src/files.rt HEAD)
+entry=$(($(number entry_slots/src/entry.rt HEAD) + $(number entries/src/entry.rt PLACES) * $(number entry_slots/src/place.rt WIDTH)))
+constant NUMBERS "$numbers"
+constant FILES "$files"
+constant REPORTS "$reports"
+constant CORRECTIONS "$corrections"
+constant REPORT_SLOT "$report_slot"
+constant CORRECTION_SLOT "$correction_slot"
+constant TABLE_LENGTH $((line_head + numbers * line))
+constant FILES_LENGTH $((file_head + files * file))
+constant REGULAR_LENGTH $((reports * report_slot))
+constant CORRECTIONS_LENGTH $((corrections * correction_slot))
+constant ENTRIES_LENGTH $((numbers * entry))
+constant ENTRY_LENGTH "$entry"
+constant NOWHERE "$reports"
+constant NO_DAY "$(number capi/src/days.rt NO_DAY)"
+constant LAST_DAY "$(number calendar/src/dates.rt LAST_DAY)"
+
+# ---- functions
+sed -n 's/^pub extern "C" fn \([a-z_]*\).*/\1/p' crates/capi/src/*.rt | sort >"$work/exported"
+grep -o 'dagskimra_[a-z_]*(' $header | tr -d '(' | sort >"$work/declared"
+grep -o 'dagskimra_[a-z_]*(' include/example.c | tr -d '(' | sort -u >"$work/called"
+cmp -s "$work/exported" "$work/declared" || fail "the header declares other functions than crate capi exports"
+cmp -s "$work/exported" "$work/called" || fail "the example does not call each function"
+
+# ---- the example
+if [ "$(uname -m)" = x86_64 ]; then
+    cc=${CC:-cc} run=
+else
+    cc=${CC:-x86_64-linux-gnu-gcc}
+    kit=$(dirname "$(dirname "$(rt doc)")")
+    run="$kit/on/$(uname -m)/toolchain/bin/qemu-x86_64"
+fi
+command -v "$cc" >/dev/null || fail "no C compiler for x86-64: $cc"
+rt staticlib capi >"$work/log" 2>&1 || {
+    cat "$work/log"
+    fail "the archive was not built"
+}
+"$cc" -std=c11 -Wall -Wextra -Werror -O2 -static include/example.c target/staticlib/libcapi.a -o "$work/example"
+echo "tests/capi.sh: $($run "$work/example")"
