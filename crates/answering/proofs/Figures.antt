@@ -44,6 +44,19 @@ unfolding differs
 differs-found files line held s stored same es eh e =
     ap not (e ∙ (λ j. sameEntry (eh j) ((ap (λ (u : Standing). u .entry) es ∙ standing-entry files line) j)))
 
+-- ---- two tables side by side
+zip-end : {A B C : Type 0} (f : A → B → C) (l : List A) (m : List B) (x : A) (y : B) → length l ≡ length m → zipWith f (l ++ (x ∷ [])) (m ++ (y ∷ [])) ≡ zipWith f l m ++ (f x y ∷ [])
+unfolding zipWith
+zip-end f [] [] x y h = refl
+zip-end f [] (b ∷ m) x y h = absurd (omega arith)
+zip-end f (a ∷ l) [] x y h = absurd (omega arith)
+zip-end f (a ∷ l) (b ∷ m) x y h = ap (λ k. f a b ∷ k) (zip-end f l m x y (omega arith))
+
+pub zip-table : {A B C : Type 0} (f : A → B → C) (n : ℕ) (g : ℕ → A) (h : ℕ → B) → zipWith f (table n g) (table n h) ≡ table n (λ (i : ℕ). f (g i) (h i))
+unfolding table zipWith
+zip-table f zero g h = refl
+zip-table f (suc n) g h = zip-end f (table n g) (table n h) (g n) (h n) (length-table n g ∙ sym (length-table n h)) ∙ ap (λ k. k ++ (f (g n) (h n) ∷ [])) (zip-table f n g h)
+
 -- ---- a turn of the count
 module _ (files : List Filed) (t e : List ℕ) where
   abbrev here : ℕ → Bool
@@ -58,19 +71,6 @@ module _ (files : List Filed) (t e : List ℕ) where
   differing-more i count m d ed em ec =
       (λ j. ec j + (em ∙ ap (λ (u : Bool). cond u 1 0) ed) j)
       ∙ sym (ap howMany (table-more i here) ∙ length-keep-end (λ (u : Bool). u) (table i here) (here i))
-
-  -- ---- the lines and the entries side by side
-  zip-end : {A B C : Type 0} (f : A → B → C) (l : List A) (m : List B) (x : A) (y : B) → length l ≡ length m → zipWith f (l ++ (x ∷ [])) (m ++ (y ∷ [])) ≡ zipWith f l m ++ (f x y ∷ [])
-  unfolding zipWith
-  zip-end f [] [] x y h = refl
-  zip-end f [] (b ∷ m) x y h = absurd (omega arith)
-  zip-end f (a ∷ l) [] x y h = absurd (omega arith)
-  zip-end f (a ∷ l) (b ∷ m) x y h = ap (λ k. f a b ∷ k) (zip-end f l m x y (omega arith))
-
-  zip-table : {A B C : Type 0} (f : A → B → C) (n : ℕ) (g : ℕ → A) (h : ℕ → B) → zipWith f (table n g) (table n h) ≡ table n (λ (i : ℕ). f (g i) (h i))
-  unfolding table zipWith
-  zip-table f zero g h = refl
-  zip-table f (suc n) g h = zip-end f (table n g) (table n h) (g n) (h n) (length-table n g ∙ sym (length-table n h)) ∙ ap (λ k. k ++ (f (g n) (h n) ∷ [])) (zip-table f n g h)
 
   pub figure-counted : differing files t e (lineCount t) ≡ figureOf (linesIn t) files (table (lineCount t) (entryAt e))
   unfolding differing figureOf linesOf

@@ -1,0 +1,40 @@
+-- `reworking::rework::rework_line` meets its contract: the callees' contracts, put together (`worked-here`). Assumes nothing.
+use denote.Ref.{now}
+use Rattle.reworking.proofs.Lines.{worked-here}
+use borrow.Author.Needs.{needs}
+use Rattle.reworking.proofs.rework.rework_line.Statement.{statement}
+use Rattle.reworking.proofs.rework.rework_line.Tie as tie
+
+standing-at-requires : tie.Need-standing-at-requires
+standing-at-requires c κs = search needs
+
+entry-at-requires : tie.Need-entry-at-requires
+entry-at-requires c κs = search needs
+
+put-entry-requires : tie.Need-put-entry-requires
+put-entry-requires c κs = search needs
+
+same-entry-requires : tie.Need-same-entry-requires
+same-entry-requires c κs = search needs
+
+same-length : tie.Need-same-length
+same-length c = search needs
+
+returns : tie.Need-returns
+returns c =
+    let put = c .before .before .before in
+    let read = put .before .before in
+    let stood = read .before .before .before in
+    let a = stood .before .before .before .before .before .before .args in
+    worked-here _ (now (a .table)) (now (a .entries)) _ (a .i) (stood .standing-at .result) (read .entry-at .result) _ (stood .standing-at .ensures) (read .entry-at .ensures) (put .put-entry .ensures) (c .same-entry .ensures)
+
+pub rework-line-spec : {M : Type 1} → statement M
+rework-line-spec =
+    tie.close
+    (tie.spec
+    standing-at-requires
+    entry-at-requires
+    put-entry-requires
+    same-entry-requires
+    same-length
+    returns)

@@ -1,0 +1,2 @@
+// All numbers worked out afresh from the journals, over all files or the first ones, with the list of those whose entry changes.
+pub mod rework;
