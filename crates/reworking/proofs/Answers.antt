@@ -53,7 +53,7 @@ module _ (b : Buffers) (n : ℕ) (list : List ℕ) where
   rework-short h = record { answers = rw (lt-leb _ _ h); leaves = rw (lt-leb _ _ h); lists = rw (lt-leb _ _ h) }
 
   module _ (room : 1024 ≤ length list) where
-    with-room : withRoom list b ≡ reads b
+    pub with-room : withRoom list b ≡ reads b
     unfolding withRoom
     with-room = rw (le-leb 1024 (length list) room)
 

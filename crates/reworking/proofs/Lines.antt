@@ -93,20 +93,20 @@ module _ (files : List Filed) (t before list : List ℕ) where
         let same : changed ≡ changes files t before i = line .told ∙ ap (differs files (lineOf t i)) (ap (λ (l : List ℕ). entryAt l i) (inv .written) ∙ still) in
         let more = changes-more changed same in record {
           written =
-          line .written
-          ∙ ap₂ (λ (l : List ℕ) (k : ℕ). overlay l k (workedSlot files (lineOf t i))) (inv .written) (sym (slots-long m fit i (omega arith)) ∙ sym (zero-add (length (slots i))))
-          ∙ sym (overlay-append before 0 (slots i) (workedSlot files (lineOf t i)))
-          ∙ ap (overlay before 0) (sym (slots-more i));
+              line .written
+              ∙ ap₂ (λ (l : List ℕ) (k : ℕ). overlay l k (workedSlot files (lineOf t i))) (inv .written) (sym (slots-long m fit i (omega arith)) ∙ sym (zero-add (length (slots i))))
+              ∙ sym (overlay-append before 0 (slots i) (workedSlot files (lineOf t i)))
+              ∙ ap (overlay before 0) (sym (slots-more i));
           laid =
-          noted .laid
-          ∙ ap₂ (λ (l : List ℕ) (k : ℕ). overlay l k (cond changed (i ∷ []) [])) (inv .laid) (inv .counted ∙ sym (zero-add (length (changesTo files t before i))))
-          ∙ sym (overlay-append list 0 (changesTo files t before i) (cond changed (i ∷ []) []))
-          ∙ ap (overlay list 0) (sym more);
+              noted .laid
+              ∙ ap₂ (λ (l : List ℕ) (k : ℕ). overlay l k (cond changed (i ∷ []) [])) (inv .laid) (inv .counted ∙ sym (zero-add (length (changesTo files t before i))))
+              ∙ sym (overlay-append list 0 (changesTo files t before i) (cond changed (i ∷ []) []))
+              ∙ ap (overlay list 0) (sym more);
           counted =
-          noted .counted
-          ∙ ap₂ (λ (a b : ℕ). a + b) (inv .counted) (sym (one-more changed))
-          ∙ sym (length-append (changesTo files t before i) (cond changed (i ∷ []) []))
-          ∙ ap length (sym more);
+              noted .counted
+              ∙ ap₂ (λ (a b : ℕ). a + b) (inv .counted) (sym (one-more changed))
+              ∙ sym (length-append (changesTo files t before i) (cond changed (i ∷ []) []))
+              ∙ ap length (sym more);
         }
 
 -- ---- what is written and listed has its room, and no more lines are listed than were looked at
