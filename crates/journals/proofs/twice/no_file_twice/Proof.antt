@@ -17,7 +17,7 @@ rise-requires c κs = search needs
 
 returns : tie.Need-returns
 returns c = let a = c .before .before .before .before .before .args in
-    c .rise .ensures ∙ ap (λ (l : List ℕ). rising (sorted l)) (c .before .before .gather-all .ensures) ∙ files-once (now (a .files)) (a .n) (c .before .before .before .before .before .pre .2)
+    c .rise .ensures .0 ∙ ap (λ (l : List ℕ). rising (sorted l)) (c .before .before .gather-all .ensures) ∙ files-once (now (a .files)) (a .n) (c .before .before .before .before .before .pre .2)
 
 pub no-file-twice-spec : {M : Type 1} → statement M
 no-file-twice-spec = tie.close (tie.spec gather-all-requires rise-requires returns)

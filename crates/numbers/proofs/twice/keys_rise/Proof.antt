@@ -14,7 +14,7 @@ rise-requires : tie.Need-rise-requires
 rise-requires c κs = search needs
 
 returns : tie.Need-returns
-returns c = c .rise .ensures ∙ ap (λ (l : List ℕ). rising (sorted l)) (c .before .before .gather-all .ensures)
+returns c = c .rise .ensures .0 ∙ ap (λ (l : List ℕ). rising (sorted l)) (c .before .before .gather-all .ensures)
 
 pub keys-rise-spec : {M : Type 1} → statement M
 keys-rise-spec = tie.close (tie.spec gather-all-requires rise-requires returns)

@@ -14,7 +14,7 @@ is-rising-requires c κs = search needs
 
 returns : tie.Need-returns
 returns c = let a = c .before .before .before .before .before .args in
-    c .is-rising .ensures ∙ rise-sorted (now (a .keys)) (a .n) _ (c .before .before .before .sort .ensures)
+    (c .is-rising .ensures ∙ rise-sorted (now (a .keys)) (a .n) _ (c .before .before .before .sort .ensures), c .before .before .before .sort .ensures)
 
 pub rise-spec : {M : Type 1} → statement M
 rise-spec = tie.close (tie.spec sort-requires is-rising-requires returns)

@@ -1,0 +1,73 @@
+#!/bin/sh
+# Each public function of a library settles its outcome: its contract is an equation for its answer (or for the part that it lends back) and for
+# each thing that it is lent to change, or a record that crates/outcomes shows to allow one outcome only. What is left out is named here with its reason.
+set -eu
+cd "$(dirname "$0")/.."
+theorems=crates/outcomes/proofs/Outcomes.antt
+
+# rooms of a caller's own, that no user lends: what stands behind the keys laid, and what a table that is refused left
+exceptions='working::gather::gather_all starting::scratch::judge'
+# the program's crates: what they print and keep has no contract, and is tested
+program='desk words disk shown commands offers questions reasons'
+
+for root in crates/*/src/lib.rt; do
+    crate=${root#crates/} crate=${crate%%/*}
+    case " $program " in *" $crate "*) continue ;; esac
+    find "crates/$crate/src" -name '*.rt'
+done | sort | xargs awk -v theorems="$theorems" -v exceptions="$exceptions" '
+    BEGIN {
+        while ((getline line <theorems) > 0)
+            if (match(line, /Settles \(λ \(o : [^.]*\. /)) {
+                name = substr(line, RSTART + RLENGTH)
+                sub(/ .*/, "", name)
+                settled[name] = 1
+            }
+        count = split(exceptions, listed, " ")
+        for (i = 1; i <= count; i++)
+            excepted[listed[i]] = 1
+    }
+    function fail(why) { printf "outcomes: %s: %s\n", here, why; failed++ }
+    # the contract of the function whose head has ended
+    function judge(    i, n, names) {
+        if (here in excepted) { met[here] = 1; return }
+        if (contract == "") { fail("no ensures"); return }
+        n = split(lent, names, " ")
+        for (i = 1; i <= n; i++)
+            if (index(contract, "(" names[i] " .exit)") == 0)
+                fail("what becomes of " names[i] " is not said")
+        if (form != "" && !(form in settled)) fail("no theorem says that " form " settles its outcome")
+        if (gives && form == "" && !answered) fail("no equation for the answer")
+        functions++
+    }
+    FNR == 1 { inside = 0; split(FILENAME, path, "/"); file = path[length(path)]; sub(/\.rt$/, "", file) }
+    /^ *pub (extern "C" )?fn / {
+        inside = 1; lent = ""; contract = ""; form = ""; answered = 0; gives = 0
+        name = $0; sub(/^ *pub (extern "C" )?fn /, "", name); sub(/[^a-z_0-9A-Z].*/, "", name)
+        here = path[2] "::" file "::" name
+    }
+    inside && /ensures \{/ {
+        line = $0; sub(/^ *ensures \{ λ /, "", line)
+        answer = line; sub(/\..*/, "", answer)
+        sub(/^[^⌜]*⌜ /, "", line)
+        contract = contract line
+        if (index(line, answer " ≡ ") == 1 || index(line, "(" answer " ≡ ") == 1 || index(line, "now " answer " ≡ ") == 1) answered = 1
+        else if (line !~ /^\(?now \([a-z_]* \.exit\) ≡ /) { form = line; sub(/ .*/, "", form) }
+        next
+    }
+    inside && /requires \{/ { next }
+    inside {
+        line = $0
+        while (match(line, /[a-z_]+: &(.[a-z]+ )?mut /)) {
+            name = substr(line, RSTART, RLENGTH); sub(/:.*/, "", name)
+            lent = lent " " name
+            line = substr(line, RSTART + RLENGTH)
+        }
+        if (index($0, "->")) gives = 1
+        if ($0 ~ /^ *\{$/) { judge(); inside = 0 }
+    }
+    END {
+        for (i = 1; i <= count; i++)
+            if (!(listed[i] in met)) { printf "outcomes: %s is left out and is not there\n", listed[i]; failed++ }
+        printf "outcomes: %d public functions, each with one outcome; %d left out\n", functions, count
+        exit failed > 0
+    }'
