@@ -2,8 +2,12 @@
 -- are no record of their kind name no number, come behind the others of their kind, and say nothing. Assumes nothing: these are definitions.
 use Prim.Native.Nat.{ℕ, zero, suc, _+_}
 use mathlib.Core.List.{List}
+use lib.ListN.{drop}
+use Rattle.laws.specs.Split.{pieceOf}
 use Rattle.fields.specs.declared.kind.Kind.{Kind}
+use Rattle.fields.specs.declared.number.DigitsRead.{DigitsRead}
 use Rattle.fields.specs.declared.number.Number.{Number}
+use Rattle.fields.specs.Number.{digitsFieldOf}
 use Rattle.layout.specs.declared.report.Report.{Report}
 use Rattle.layout.specs.declared.report.ReportRead.{ReportRead}
 use Rattle.layout.specs.declared.correction.CorrectionRead.{CorrectionRead}
@@ -36,6 +40,17 @@ unfoldable pub numberIn : ℕ → List ℕ → Number
 numberIn zero bytes = numberInReport (reportOf bytes)
 numberIn (suc zero) bytes = numberInCorrection (correctionOf bytes)
 numberIn (suc (suc kind)) bytes = noNumber
+
+-- the digits of a number field behind a leading 1; 1 where it is empty, or is no number field
+abbrev pub fieldDigits : DigitsRead → ℕ
+fieldDigits (DigitsRead.Digits d) = d .0
+fieldDigits DigitsRead.Fault = 1
+
+-- the field before the first comma (44) of a report; of a correction that of its U part, behind the code and "U:"
+unfoldable pub firstIn : ℕ → List ℕ → ℕ
+firstIn zero bytes = fieldDigits (digitsFieldOf (pieceOf 44 bytes 0))
+firstIn (suc zero) bytes = fieldDigits (digitsFieldOf (pieceOf 44 (drop 6 bytes) 0))
+firstIn (suc (suc kind)) bytes = 1
 
 -- ---- the class within a day: corrections, then P, then L, then Z. Numbers between them are left for kinds of record to come
 

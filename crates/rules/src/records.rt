@@ -10,10 +10,16 @@ use verdict::corrections::Correction;
 use verdict::corrections::Named;
 use verdict::step::Says;
 ghost use mathlib.Core.Path.{_≡_};
+ghost use mathlib.Core.Bool.{cond};
+ghost use Prim.Native.Nat.{_-_};
+ghost use lib.Dec.{eqb};
+ghost use Rattle.laws.specs.Digits.{isDigit};
+ghost use Rattle.laws.specs.Split.{pieceOf};
+ghost use Rattle.fields.specs.Number.{digitsFieldOf};
 ghost use Rattle.layout.specs.Report.{reportOf};
 ghost use Rattle.layout.specs.Correction.{correctionOf};
 ghost use Rattle.verdict.specs.declared.step.Says.the-variants.{Corrected};
-ghost use Rattle.rules.specs.Records.{noNumber, numberInReport, numberInCorrection, numberIn, classOfKind, classOfReport, classIn, publishedBy, namedBy, nothing, reported, corrected, saysIn};
+ghost use Rattle.rules.specs.Records.{noNumber, numberInReport, numberInCorrection, numberIn, fieldDigits, firstIn, classOfKind, classOfReport, classIn, publishedBy, namedBy, nothing, reported, corrected, saysIn};
 
 // No record of a file names it.
 fn no_number() -> Number
@@ -57,6 +63,75 @@ pub fn number_in(kind: u8, bytes: &[u8]) -> Number
         return number_in_correction(bytes);
     }
     no_number()
+}
+
+fn is_digit(b: u8) -> bool
+    ensures { λ r. ⌜ r ≡ isDigit b ⌝ }
+{
+    (48 <= b) & (b <= 57)
+}
+
+fn wide(b: u8) -> u64
+    ensures { λ r. ⌜ r ≡ b ⌝ }
+{
+    b as u64
+}
+
+// A number field has no more digits.
+fn at_most_11(n: usize) -> usize
+    ensures { λ r. ⌜ r ≡ n - (n - 11) ⌝ }
+{
+    if 11 < n {
+        return 11;
+    }
+    n
+}
+
+// What the digits n before a byte that ends them are worth: 1 where it is no comma.
+fn ended(b: u8, n: u64) -> u64
+    ensures { λ r. ⌜ r ≡ cond (eqb b 44) n 1 ⌝ }
+{
+    if b == 44 {
+        return n;
+    }
+    1
+}
+
+// The number field before the first comma, behind a leading 1; 1 where it is empty, or is no number field. At most 11 digits are read.
+fn first_field(s: &[u8]) -> u64
+    ensures { λ r. ⌜ r ≡ fieldDigits (digitsFieldOf (pieceOf 44 (now (s .entry)) 0)) ⌝ }
+{
+    let most = at_most_11(s.len());
+    let mut n: u64 = 1;
+    let mut i: usize = 0;
+    while i < most {
+        let b = s[i];
+        if !is_digit(b) {
+            return ended(b, n);
+        }
+        n = n * 10 + wide(b - 48);
+        i += 1;
+    }
+    if i < s.len() {
+        return ended(s[i], n);
+    }
+    n
+}
+
+// The first number field of a record as far as its first comma.
+pub fn first_in(kind: u8, bytes: &[u8]) -> u64
+    ensures { λ r. ⌜ r ≡ firstIn kind (now (bytes .entry)) ⌝ }
+{
+    if kind == 0 {
+        return first_field(bytes);
+    }
+    if kind != 1 {
+        return 1;
+    }
+    if bytes.len() < 6 {
+        return 1;
+    }
+    first_field(&bytes[6..])
 }
 
 // The class of a report: P, then L, then Z.
