@@ -172,7 +172,7 @@ module _ (regular corrections : List ℕ) (long : 368640 ≤ length regular) (wi
     limit s w (suc zero) e = let h : s .index < recordsOf 1 (table n file) = rw e at (w .stored) in omega arith
     limit s w (suc (suc kind)) e = absurd (omega (arith, w .kinds))
 
-    bounded : (s : Slip) → Kept r file n s → Bounded r s
+    pub bounded : (s : Slip) → Kept r file n s → Bounded r s
     bounded s w = record {
       kinds = w .kinds;
       days = w .days;

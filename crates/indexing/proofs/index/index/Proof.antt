@@ -1,0 +1,38 @@
+-- `indexing::index::index` meets its contract: the callees' contracts put together (`tags-laid`). Assumes nothing.
+use lib.ListN.{take}
+use Rattle.indexing.specs.Index.{frontBehind}
+use Rattle.indexing.proofs.Listing.{room-all, listed-long}
+use Rattle.indexing.proofs.Grouping.{tags-laid}
+use borrow.Author.Needs.{needs}
+use Rattle.indexing.proofs.index.index.Statement.{statement}
+use Rattle.indexing.proofs.index.index.Tie as tie
+
+list-all-requires : tie.Need-list-all-requires
+list-all-requires c κs = search needs
+
+lay-all-tags-requires : tie.Need-lay-all-tags-requires
+lay-all-tags-requires c κs =
+    let listed = c .before .before in
+    let start = listed .before .before .before .before .before in
+    let args = start .args in
+    room-all (args .files .now) (args .regular .now) (args .corrections .now) (take (args .w) (args .wanted .now)) (args .n) (start .pre .0) _ (listed .list-all .result) (listed .list-all .ensures)
+
+sort-requires : tie.Need-sort-requires
+sort-requires c κs = search needs
+
+returns : tie.Need-returns
+returns c =
+    let tagged = c .before .before in
+    let listed = tagged .before .before .before in
+    let start = listed .before .before .before .before .before in
+    let args = start .args in
+    let g = listed .list-all .ensures in record {
+      candidates = g;
+      few = room-all (args .files .now) (args .regular .now) (args .corrections .now) (take (args .w) (args .wanted .now)) (args .n) (start .pre .0) _ (listed .list-all .result) g;
+      grouped =
+          tags-laid (frontBehind (args .regular .now) (args .corrections .now)) _ _ _ (listed .list-all .result)
+          (listed-long (args .files .now) (args .regular .now) (args .corrections .now) (take (args .w) (args .wanted .now)) (args .n) _ (listed .list-all .result) g) (tagged .lay-all-tags .ensures) (c .sort .ensures);
+    }
+
+pub index-spec : {M : Type 1} → statement M
+index-spec = tie.close (tie.spec list-all-requires lay-all-tags-requires sort-requires returns)
