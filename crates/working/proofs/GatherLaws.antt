@@ -1,12 +1,12 @@
 -- Gathering: what a turn of each loop lays down, and that there is room for it. Assumes nothing.
 use mathlib.Core.Path.{_≡_, refl, sym, ap, _∙_}
-use mathlib.Core.Bool.{Bool, true, false, _&&_}
+use mathlib.Core.Bool.{Bool, true, false, cond, not, _&&_}
 use mathlib.Core.List.{List, [], _∷_, _++_, append-assoc, append-nil, map, map-append}
 use Prim.Native.Nat.{ℕ, zero, suc, _+_, _*_, _≤_, _<_}
 use native.Mathlib.Numerals.{add-one}
 use native.Mathlib.Omega.{arith}
-use borrow.Author.Tests.{leb-true}
-use lib.Dec.{leb}
+use borrow.Author.Tests.{leb-true, eqb-false, not-true}
+use lib.Dec.{leb, eqb}
 use lib.ListN.{length, take, set, length-append, length-map}
 use lib.Seq.{take-suc-set}
 use Rattle.laws.specs.Lists.{table, keep, all}
@@ -18,11 +18,24 @@ use Rattle.fields.specs.Number.{sameNumber}
 use Rattle.calendar.specs.Dates.{inCalendar}
 use Rattle.journals.specs.Files.{fileAt, goodFile, recordsOf}
 use Rattle.journals.specs.declared.files.File.{File}
-use Rattle.rules.specs.Records.{numberIn}
+use Rattle.rules.specs.Records.{numberIn, firstIn}
+use Rattle.rules.proofs.First.{not-named}
 use Rattle.journals.specs.Reads.{recordsAt}
 use Rattle.working.specs.Slips.{Slip, slipAt, slipsOf, slips, aboutSlip, keyOf, keysIn, keysOf}
-use Rattle.working.specs.Working.{Sound, InFile, Behind, Gathered}
+use Rattle.working.specs.Working.{apart, Sound, InFile, Behind, Gathered}
 use Rattle.working.proofs.SlipLaws.{Ranged, records-more, own-records, records-grow, slips-length, slips-more}
+
+-- ---- one record
+-- what its first field tells
+pub told-apart : (kind : ℕ) (bytes : List ℕ) (n : Number) → apart (firstIn kind bytes) n ≡ true → sameNumber (numberIn kind bytes) n ≡ false
+unfolding apart
+told-apart kind bytes n h =
+    let first = firstIn kind bytes in
+    let rest = and-right (not (eqb first (n .first .0))) _ h in
+    not-named kind bytes n
+    (eqb-false first (n .first .0) (not-true _ (and-left (not (eqb first (n .first .0))) _ h)))
+    (eqb-false first 1 (not-true _ (and-left (not (eqb first 1)) _ rest)))
+    (eqb-false (n .first .0) 1 (not-true _ (and-right (not (eqb first 1)) _ rest)))
 
 -- ---- the records of one file
 module _ (r : ℕ → ℕ → List ℕ) (number : Number) (f : File) (start : ℕ) where
@@ -185,6 +198,22 @@ module _ (n : ℕ) (files regular corrections : List ℕ) (s : Sound n files reg
         s .reports,
         s .objections,
       )
+
+  -- where the records of the file k begin, by the running sums of both kinds
+  pub begins : (k : ℕ) (f : File) (reports objections : ℕ) → k < n → f ≡ fileAt files k → reports ≡ recordsOf 0 (table k (fileAt files)) → objections ≡ recordsOf 1 (table k (fileAt files)) → cond (eqb (f .kind) 0) reports objections ≡ recordsOf (f .kind) (table k (fileAt files))
+  begins k f reports objections h e a b = go (f .kind) (omega (arith, ranged k h .kinds, ap (λ (g : File). g .kind) e))
+    where
+      go : (kind : ℕ) → kind ≤ 1 → cond (eqb kind 0) reports objections ≡ recordsOf kind (table k (fileAt files))
+      go zero m = a
+      go (suc zero) m = b
+      go (suc (suc kind)) m = absurd (omega arith)
+
+  -- the running sums stay below the limits
+  pub reports-few : (k : ℕ) → k ≤ n → recordsOf 0 (table k (fileAt files)) ≤ 8192
+  reports-few k h = omega (arith, records-grow 0 k n (fileAt files) h, s .reports)
+
+  pub objections-few : (k : ℕ) → k ≤ n → recordsOf 1 (table k (fileAt files)) ≤ 2048
+  objections-few k h = omega (arith, records-grow 1 k n (fileAt files) h, s .objections)
 
   -- and of all of them
   pub room-all : (number : Number) (r : ℕ) → r ≡ length (keysOf (recordsAt regular corrections) number (fileAt files) n) → r ≤ 10240

@@ -1,9 +1,9 @@
 -- What working out one number answers. Assumes nothing: these are definitions.
 use mathlib.Core.Path.{_≡_}
-use mathlib.Core.Bool.{true, cond}
+use mathlib.Core.Bool.{Bool, true, cond, not, _&&_}
 use mathlib.Core.List.{List, _++_}
 use Prim.Native.Nat.{ℕ, _+_, _*_, _/_, _≤_, _<_}
-use lib.Dec.{ltb}
+use lib.Dec.{ltb, eqb}
 use lib.ListN.{length, take}
 use Rattle.laws.specs.Lists.{table, all}
 use Rattle.fields.specs.declared.number.Number.{Number}
@@ -21,6 +21,10 @@ use Rattle.working.specs.Slips.{keysOf, eventBehind}
 -- a line of the number table in the model's words
 abbrev pub tableLine : Number → Line → TableLine Number
 tableLine n line = record { number = n; owner = line .owner .0; setUp = line .setup .0 }
+
+-- a record with this first field cannot name the number: both have one, and it is another
+unfoldable pub apart : ℕ → Number → Bool
+apart first n = not (eqb first (n .first .0)) && (not (eqb first 1) && not (eqb (n .first .0) 1))
 
 -- what is asked of the first n files: each is in range, and the journals hold their records. A store that reads as one gives this
 pub record Sound (n : ℕ) (files regular corrections : List ℕ) : Type 0 where

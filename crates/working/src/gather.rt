@@ -7,14 +7,16 @@ use journals::records::REPORT_SLOT;
 use journals::sums;
 use slots::record;
 ghost use mathlib.Core.Path.{_≡_};
+ghost use mathlib.Core.Bool.{cond};
 ghost use Prim.Native.Nat.{_+_, _*_, _≤_, _<_};
+ghost use lib.Dec.{eqb};
 ghost use lib.ListN.{length, take};
 ghost use Rattle.fields.specs.Number.{sameNumber};
 ghost use Rattle.rules.specs.Records.{numberIn};
 ghost use Rattle.journals.specs.Files.{fileAt};
 ghost use Rattle.journals.specs.Reads.{recordsAt};
 ghost use Rattle.working.specs.Slips.{slipAt, keyBy, keyOf, keysIn, keysOf};
-ghost use Rattle.working.specs.Working.{Sound, Stored, InFile, Behind, Gathered};
+ghost use Rattle.working.specs.Working.{apart, Sound, Stored, InFile, Behind, Gathered};
 
 // The bytes of the record at a place of the journal of a kind.
 pub fn record_at<'a>(regular: &'a [u8], corrections: &'a [u8], kind: u8, place: usize) -> &'a [u8]
@@ -27,7 +29,15 @@ pub fn record_at<'a>(regular: &'a [u8], corrections: &'a [u8], kind: u8, place: 
     record::bytes(corrections, CORRECTION_SLOT, place)
 }
 
-// Whether the record at a place names the number.
+// Whether a record with this first field cannot name the number.
+fn is_apart(first: u64, number: Number) -> bool
+    ensures { λ r. ⌜ r ≡ apart first number ⌝ }
+{
+    let wanted = number.first.0;
+    !(first == wanted) & (!(first == 1) & !(wanted == 1))
+}
+
+// Whether the record at a place names the number. Most that do not are told by their first field, and not read.
 fn names<'a>(
     regular: &'a [u8],
     corrections: &'a [u8],
@@ -39,6 +49,9 @@ fn names<'a>(
     ensures { λ r. ⌜ r ≡ sameNumber (numberIn kind (recordsAt (now (regular .entry)) (now (corrections .entry)) kind place)) number ⌝ }
 {
     let bytes = record_at(regular, corrections, kind, place);
+    if is_apart(rules::records::first_in(kind, bytes), number) {
+        return false;
+    }
     Number::same(rules::records::number_in(kind, bytes), number)
 }
 
@@ -95,6 +108,16 @@ fn gather_file<'a>(
     r
 }
 
+// Where the records of a file of this kind begin, behind those of the files before it.
+pub fn begin(reports: usize, objections: usize, kind: u8) -> usize
+    ensures { λ r. ⌜ r ≡ cond (eqb kind 0) reports objections ⌝ }
+{
+    if kind == 0 {
+        return reports;
+    }
+    objections
+}
+
 // Lays the keys of those records of the first n files that name the number to the front of `keys`, and answers how many there are.
 fn gather<'a>(
     files: &'a [u8],
@@ -109,11 +132,15 @@ fn gather<'a>(
     ensures { λ r. ⌜ Gathered n (now (files .entry)) (now (regular .entry)) (now (corrections .entry)) number (now (keys .exit)) r ⌝ }
 {
     let mut r = 0;
+    let mut reports = 0;
+    let mut objections = 0;
     let mut k = 0;
     while k < n {
         let f = files::file_at(files, k);
-        let start = sums::records_of(files, k, f.kind);
+        let start = begin(reports, objections, f.kind);
         r = gather_file(regular, corrections, f, start, number, keys, r);
+        reports += sums::records_in(f, 0);
+        objections += sums::records_in(f, 1);
         k += 1;
     }
     r
