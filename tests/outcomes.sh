@@ -5,8 +5,8 @@ set -eu
 cd "$(dirname "$0")/.."
 theorems=crates/outcomes/proofs/Outcomes.antt
 
-# rooms of a caller's own, that no user lends: what stands behind the keys laid, and what a table that is refused left
-exceptions='working::gather::gather_all starting::scratch::judge'
+# rooms of a caller's own, that no user lends: what stands behind the keys and places laid, and what a table that is refused left
+exceptions='working::gather::gather_all indexing::index::index indexing::find::gather_indexed starting::scratch::judge'
 # the program's crates: what they print and keep has no contract, and is tested
 program='desk words disk shown commands offers questions reasons'
 

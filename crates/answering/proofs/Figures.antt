@@ -44,6 +44,9 @@ unfolding differs
 differs-found files line held s stored same es eh e =
     ap not (e ∙ (λ j. sameEntry (eh j) ((ap (λ (u : Standing). u .entry) es ∙ standing-entry files line) j)))
 
+pub other-differs : (files : List Filed) (line : TableLine Number) (held : Entry) (s : Standing) (other : Bool) → s ≡ entryOver standings files line → other ≡ not (sameEntry held (s .entry)) → other ≡ differs files line held
+other-differs files line held s other es e = e ∙ differs-found files line held s held (sameEntry held (s .entry)) es refl refl
+
 -- ---- two tables side by side
 zip-end : {A B C : Type 0} (f : A → B → C) (l : List A) (m : List B) (x : A) (y : B) → length l ≡ length m → zipWith f (l ++ (x ∷ [])) (m ++ (y ∷ [])) ≡ zipWith f l m ++ (f x y ∷ [])
 unfolding zipWith

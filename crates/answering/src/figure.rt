@@ -3,24 +3,38 @@ use asking::entry;
 use asking::showable;
 use asking::stand;
 use entries::same;
+use indexing::index;
 use journals::files;
 use numbers::lines;
 use store::readable;
+use verdict::step::Standing;
 ghost use mathlib.Core.Path.{_≡_};
 ghost use Prim.Native.Nat.{_+_, _*_, _≤_, _<_};
 ghost use lib.ListN.{length, take};
-ghost use mathlib.Core.Bool.{cond};
+ghost use mathlib.Core.Bool.{cond, not};
 ghost use Rattle.journals.specs.Reads.{readFiles};
 ghost use Rattle.numbers.specs.Lines.{lineAt};
 ghost use Rattle.entry_slots.specs.Entries.{entryAt};
 ghost use Rattle.store.specs.Reads.{tableLine, lent, reads};
 ghost use Rattle.working.specs.Working.{Sound};
+ghost use Rattle.entries.specs.Same.{sameEntry};
+ghost use Rattle.indexing.specs.Index.{Wanted, Indexed};
 ghost use Rattle.answering.specs.Figure.{differs, differsShown, differing, figureAsked};
 
 // How many entries differ, or that the buffers do not read.
 pub enum FigureAnswer {
     Differ(usize),
     Unreadable,
+}
+
+// Whether the entry of the line i is another one than a standing has.
+fn is_other(entries: &[u8], i: usize, s: Standing) -> bool
+    requires { ⌜ i * 100 + 100 ≤ length (now entries) ⌝ }
+    ensures { λ r. ⌜ r ≡ not (sameEntry (entryAt (now (entries .entry)) i) (s .entry)) ⌝ }
+{
+    let worked = s.entry;
+    let stored = entry_slots::entry::entry_at(entries, i);
+    !same::same_entry(stored, worked)
 }
 
 // Whether the entry of the line i differs from the one worked out.
@@ -37,10 +51,11 @@ fn differs_at<'a>(
     requires { ⌜ (2 + i * 14 + 14 ≤ length (now table)) × (i * 100 + 100 ≤ length (now entries)) ⌝ }
     ensures { λ r. ⌜ r ≡ differs (take n (readFiles (now (files .entry)) (now (regular .entry)) (now (corrections .entry)))) (tableLine (lineAt (now (table .entry)) i)) (entryAt (now (entries .entry)) i) ⌝ }
 {
-    let s = stand::standing_at(table, files, n, regular, corrections, i);
-    let worked = s.entry;
-    let stored = entry_slots::entry::entry_at(entries, i);
-    !same::same_entry(stored, worked)
+    is_other(
+        entries,
+        i,
+        stand::standing_at(table, files, n, regular, corrections, i),
+    )
 }
 
 // What an entry adds to the figure.
@@ -50,7 +65,37 @@ fn counts(b: bool) -> usize
     if b { 1 } else { 0 }
 }
 
-// How many of the first m entries differ.
+// How many of the first m entries differ, each line worked out from the index.
+fn differing_by<'a>(
+    table: &[u8],
+    files: &'a [u8],
+    n: usize,
+    regular: &'a [u8],
+    corrections: &'a [u8],
+    entries: &[u8],
+    m: usize,
+    wanted: &'a [u64; 10240],
+    keys: &'a [u64; 10240],
+    places: &'a [u64; 10240],
+    c: usize,
+) -> usize
+    requires { ⌜ Sound n (now files) (now regular) (now corrections) ⌝ }
+    requires { ⌜ (2 + m * 14 ≤ length (now table)) × (m * 100 ≤ length (now entries)) × (m ≤ 1024) ⌝ }
+    requires { ⌜ Wanted (now wanted) m ⌝ }
+    requires { ⌜ Indexed n (now files) (now regular) (now corrections) (take m (now wanted)) (now keys) (now places) c ⌝ }
+    ensures { λ r. ⌜ r ≡ differing (take n (readFiles (now (files .entry)) (now (regular .entry)) (now (corrections .entry)))) (now (table .entry)) (now (entries .entry)) m ⌝ }
+{
+    let mut count = 0;
+    let mut i = 0;
+    while i < m {
+        let s = overview::lines::line_standing(table, files, n, regular, corrections, wanted, m, keys, places, c, i);
+        count += counts(is_other(entries, i, s));
+        i += 1;
+    }
+    count
+}
+
+// How many of the first m entries differ: one pass over the journals for all lines.
 fn differing_among<'a>(
     table: &[u8],
     files: &'a [u8],
@@ -64,13 +109,12 @@ fn differing_among<'a>(
     requires { ⌜ (2 + m * 14 ≤ length (now table)) × (m * 100 ≤ length (now entries)) × (m ≤ 1024) ⌝ }
     ensures { λ r. ⌜ r ≡ differing (take n (readFiles (now (files .entry)) (now (regular .entry)) (now (corrections .entry)))) (now (table .entry)) (now (entries .entry)) m ⌝ }
 {
-    let mut count = 0;
-    let mut i = 0;
-    while i < m {
-        count += counts(differs_at(table, files, n, regular, corrections, entries, i));
-        i += 1;
-    }
-    count
+    let mut wanted = [0u64; 10240];
+    let mut keys = [0u64; 10240];
+    let mut places = [0u64; 10240];
+    overview::lines::want_lines(table, m, &mut wanted);
+    let c = index::index(files, n, regular, corrections, &wanted, m, &mut keys, &mut places);
+    differing_by(table, files, n, regular, corrections, entries, m, &wanted, &keys, &places, c)
 }
 
 // Whether the entry of the line i differs from the one worked out, for any bytes: where there is none to compare, it does not.

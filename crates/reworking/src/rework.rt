@@ -2,6 +2,7 @@
 use asking::stand;
 use entries::same;
 use entry_slots::entry;
+use indexing::index;
 use numbers::lines;
 use store::readable;
 ghost use mathlib.Core.Path.{_≡_};
@@ -10,6 +11,7 @@ ghost use lib.ListN.{length, take};
 ghost use Rattle.journals.specs.Reads.{readFiles};
 ghost use Rattle.store.specs.Reads.{lent};
 ghost use Rattle.working.specs.Working.{Sound};
+ghost use Rattle.indexing.specs.Index.{Wanted, Indexed};
 ghost use Rattle.reworking.specs.Reworking.{Fitting, LineReworked, Noted, LinesReworked, Reworks};
 
 // How many entries changed, or that the buffers do not read or the list has no room.
@@ -18,21 +20,40 @@ pub enum Reworked {
     Unreadable,
 }
 
-// Writes the entry of the line i, worked out over the first n files, and answers whether the stored one was another.
+// Writes the entry of the line i, worked out over the first n files from their index, and answers whether the stored one was another.
 fn rework_line<'a>(
     table: &[u8],
     files: &'a [u8],
     n: usize,
     regular: &'a [u8],
     corrections: &'a [u8],
+    wanted: &'a [u64; 10240],
+    w: usize,
+    keys: &'a [u64; 10240],
+    places: &'a [u64; 10240],
+    c: usize,
     entries: &mut [u8],
     i: usize,
 ) -> bool
     requires { ⌜ Sound n (now files) (now regular) (now corrections) ⌝ }
+    requires { ⌜ Wanted (now wanted) w ⌝ }
+    requires { ⌜ Indexed n (now files) (now regular) (now corrections) (take w (now wanted)) (now keys) (now places) c ⌝ }
     requires { ⌜ (2 + i * 14 + 14 ≤ length (now table)) × (i * 100 + 100 ≤ length (now entries)) ⌝ }
     ensures { λ r. ⌜ LineReworked (take n (readFiles (now (files .entry)) (now (regular .entry)) (now (corrections .entry)))) (now (table .entry)) i (now (entries .entry)) (now (entries .exit)) r ⌝ }
 {
-    let s = stand::standing_at(table, files, n, regular, corrections, i);
+    let s = overview::lines::line_standing(
+        table,
+        files,
+        n,
+        regular,
+        corrections,
+        wanted,
+        w,
+        keys,
+        places,
+        c,
+        i,
+    );
     let worked = s.entry;
     let stored = entry::entry_at(entries, i);
     entry::put_entry(entries, i, worked);
@@ -58,6 +79,39 @@ fn rework_lines<'a>(
     n: usize,
     regular: &'a [u8],
     corrections: &'a [u8],
+    wanted: &'a [u64; 10240],
+    w: usize,
+    keys: &'a [u64; 10240],
+    places: &'a [u64; 10240],
+    c: usize,
+    entries: &mut [u8],
+    m: usize,
+    list: &mut [u16],
+) -> usize
+    requires { ⌜ Sound n (now files) (now regular) (now corrections) ⌝ }
+    requires { ⌜ Wanted (now wanted) w ⌝ }
+    requires { ⌜ Indexed n (now files) (now regular) (now corrections) (take w (now wanted)) (now keys) (now places) c ⌝ }
+    requires { ⌜ (2 + m * 14 ≤ length (now table)) × (m * 100 ≤ length (now entries)) × (m ≤ length (now list)) × (m ≤ 1024) ⌝ }
+    requires { ⌜ Fitting (take n (readFiles (now files) (now regular) (now corrections))) (now table) m ⌝ }
+    ensures { λ r. ⌜ LinesReworked (take n (readFiles (now (files .entry)) (now (regular .entry)) (now (corrections .entry)))) (now (table .entry)) m (now (entries .entry)) (now (entries .exit)) (now (list .entry)) (now (list .exit)) r ⌝ }
+{
+    let mut count = 0;
+    let mut i = 0;
+    while i < m {
+        let changed = rework_line(table, files, n, regular, corrections, wanted, w, keys, places, c, entries, i);
+        count = note(list, count, i, changed);
+        i += 1;
+    }
+    count
+}
+
+// The same with one pass over the journals for all lines.
+fn rework_all<'a>(
+    table: &[u8],
+    files: &'a [u8],
+    n: usize,
+    regular: &'a [u8],
+    corrections: &'a [u8],
     entries: &mut [u8],
     m: usize,
     list: &mut [u16],
@@ -67,14 +121,12 @@ fn rework_lines<'a>(
     requires { ⌜ Fitting (take n (readFiles (now files) (now regular) (now corrections))) (now table) m ⌝ }
     ensures { λ r. ⌜ LinesReworked (take n (readFiles (now (files .entry)) (now (regular .entry)) (now (corrections .entry)))) (now (table .entry)) m (now (entries .entry)) (now (entries .exit)) (now (list .entry)) (now (list .exit)) r ⌝ }
 {
-    let mut count = 0;
-    let mut i = 0;
-    while i < m {
-        let changed = rework_line(table, files, n, regular, corrections, entries, i);
-        count = note(list, count, i, changed);
-        i += 1;
-    }
-    count
+    let mut wanted = [0u64; 10240];
+    let mut keys = [0u64; 10240];
+    let mut places = [0u64; 10240];
+    overview::lines::want_lines(table, m, &mut wanted);
+    let c = index::index(files, n, regular, corrections, &wanted, m, &mut keys, &mut places);
+    rework_lines(table, files, n, regular, corrections, &wanted, m, &keys, &places, c, entries, m, list)
 }
 
 // Works out every line of a store over the first n files: 44 before all else, also where the list has no room for every line; else every
@@ -98,6 +150,6 @@ pub fn rework<'a>(
     }
     let k = stand::files_among(files, n);
     let m = lines::line_count(table);
-    let count = rework_lines(table, files, k, regular, corrections, entries, m, list);
+    let count = rework_all(table, files, k, regular, corrections, entries, m, list);
     Reworked::Changed(count)
 }

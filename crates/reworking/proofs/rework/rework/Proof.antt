@@ -43,8 +43,8 @@ line-count-requires c κs =
     let b = lent (now (a .table)) (now (a .files)) (now (a .regular)) (now (a .corrections)) (now (a .entries)) in
     omega (arith, long b (whole-long b (sym (c .before .before .readable .ensures) ∙ not-false _ (c .before .if2 .left))) .long-table)
 
-rework-lines-requires : tie.Need-rework-lines-requires
-rework-lines-requires c κs =
+rework-all-requires : tie.Need-rework-all-requires
+rework-all-requires c κs =
     let counted = c .before .before in
     let among = counted .before in
     let fit = among .before in
@@ -76,7 +76,7 @@ returns-3 c =
     let fit = among .before in
     let roomy = fit .before .before .before in
     let a = roomy .before .before .before .before .before .before .before .args in
-    rework-done (lent (now (a .table)) (now (a .files)) (now (a .regular)) (now (a .corrections)) (now (a .entries))) (a .n) (now (a .list)) (omega (arith, roomy .if1 .left)) (sym (fit .before .readable .ensures) ∙ not-false _ (fit .if2 .left)) (among .files-among .result) (counted .line-count .result) (done .rework-lines .result) _ _ (among .files-among .ensures) (counted .line-count .ensures .0) (done .rework-lines .ensures)
+    rework-done (lent (now (a .table)) (now (a .files)) (now (a .regular)) (now (a .corrections)) (now (a .entries))) (a .n) (now (a .list)) (omega (arith, roomy .if1 .left)) (sym (fit .before .readable .ensures) ∙ not-false _ (fit .if2 .left)) (among .files-among .result) (counted .line-count .result) (done .rework-all .result) _ _ (among .files-among .ensures) (counted .line-count .ensures .0) (done .rework-all .ensures)
 
 pub rework-spec : {M : Type 1} → statement M
 rework-spec =
@@ -88,7 +88,7 @@ rework-spec =
     returns-2
     files-among-requires
     line-count-requires
-    rework-lines-requires
+    rework-all-requires
     same-length-2
     same-length-3
     returns-3)

@@ -5,8 +5,8 @@ use borrow.Author.Needs.{needs}
 use Rattle.reworking.proofs.rework.rework_line.Statement.{statement}
 use Rattle.reworking.proofs.rework.rework_line.Tie as tie
 
-standing-at-requires : tie.Need-standing-at-requires
-standing-at-requires c κs = search needs
+line-standing-requires : tie.Need-line-standing-requires
+line-standing-requires c κs = search needs
 
 entry-at-requires : tie.Need-entry-at-requires
 entry-at-requires c κs = search needs
@@ -26,13 +26,13 @@ returns c =
     let read = put .before .before in
     let stood = read .before .before .before in
     let a = stood .before .before .before .before .before .before .args in
-    worked-here _ (now (a .table)) (now (a .entries)) _ (a .i) (stood .standing-at .result) (read .entry-at .result) _ (stood .standing-at .ensures) (read .entry-at .ensures) (put .put-entry .ensures) (c .same-entry .ensures)
+    worked-here _ (now (a .table)) (now (a .entries)) _ (a .i) (stood .line-standing .result) (read .entry-at .result) _ (stood .line-standing .ensures) (read .entry-at .ensures) (put .put-entry .ensures) (c .same-entry .ensures)
 
 pub rework-line-spec : {M : Type 1} → statement M
 rework-line-spec =
     tie.close
     (tie.spec
-    standing-at-requires
+    line-standing-requires
     entry-at-requires
     put-entry-requires
     same-entry-requires

@@ -1,0 +1,2 @@
+// All lines of the number table from one pass over the journals.
+pub mod lines;
