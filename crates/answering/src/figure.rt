@@ -88,7 +88,19 @@ fn differing_by<'a>(
     let mut count = 0;
     let mut i = 0;
     while i < m {
-        let s = overview::lines::line_standing(table, files, n, regular, corrections, wanted, m, keys, places, c, i);
+        let s = overview::lines::line_standing(
+            table,
+            files,
+            n,
+            regular,
+            corrections,
+            wanted,
+            m,
+            keys,
+            places,
+            c,
+            i,
+        );
         count += counts(is_other(entries, i, s));
         i += 1;
     }
@@ -113,8 +125,29 @@ fn differing_among<'a>(
     let mut keys = [0u64; 10240];
     let mut places = [0u64; 10240];
     overview::lines::want_lines(table, m, &mut wanted);
-    let c = index::index(files, n, regular, corrections, &wanted, m, &mut keys, &mut places);
-    differing_by(table, files, n, regular, corrections, entries, m, &wanted, &keys, &places, c)
+    let c = index::index(
+        files,
+        n,
+        regular,
+        corrections,
+        &wanted,
+        m,
+        &mut keys,
+        &mut places,
+    );
+    differing_by(
+        table,
+        files,
+        n,
+        regular,
+        corrections,
+        entries,
+        m,
+        &wanted,
+        &keys,
+        &places,
+        c,
+    )
 }
 
 // Whether the entry of the line i differs from the one worked out, for any bytes: where there is none to compare, it does not.

@@ -98,7 +98,20 @@ fn rework_lines<'a>(
     let mut count = 0;
     let mut i = 0;
     while i < m {
-        let changed = rework_line(table, files, n, regular, corrections, wanted, w, keys, places, c, entries, i);
+        let changed = rework_line(
+            table,
+            files,
+            n,
+            regular,
+            corrections,
+            wanted,
+            w,
+            keys,
+            places,
+            c,
+            entries,
+            i,
+        );
         count = note(list, count, i, changed);
         i += 1;
     }
@@ -125,8 +138,31 @@ fn rework_all<'a>(
     let mut keys = [0u64; 10240];
     let mut places = [0u64; 10240];
     overview::lines::want_lines(table, m, &mut wanted);
-    let c = index::index(files, n, regular, corrections, &wanted, m, &mut keys, &mut places);
-    rework_lines(table, files, n, regular, corrections, &wanted, m, &keys, &places, c, entries, m, list)
+    let c = index::index(
+        files,
+        n,
+        regular,
+        corrections,
+        &wanted,
+        m,
+        &mut keys,
+        &mut places,
+    );
+    rework_lines(
+        table,
+        files,
+        n,
+        regular,
+        corrections,
+        &wanted,
+        m,
+        &keys,
+        &places,
+        c,
+        entries,
+        m,
+        list,
+    )
 }
 
 // Works out every line of a store over the first n files: 44 before all else, also where the list has no room for every line; else every

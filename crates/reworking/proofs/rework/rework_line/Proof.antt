@@ -6,7 +6,9 @@ use Rattle.reworking.proofs.rework.rework_line.Statement.{statement}
 use Rattle.reworking.proofs.rework.rework_line.Tie as tie
 
 line-standing-requires : tie.Need-line-standing-requires
-line-standing-requires c κs = search needs
+line-standing-requires c κs =
+    let start = c .before .before .before .before .before in
+    (start .pre .0, (start .pre .1 .0, (start .pre .1 .1 .0, start .pre .1 .1 .1 .0)))
 
 entry-at-requires : tie.Need-entry-at-requires
 entry-at-requires c κs = search needs
