@@ -12,7 +12,6 @@ use entries::entry::Last;
 use fields::number::Number;
 use journals::records::Journal;
 use numbers::lines;
-use verdict::answer;
 
 fn show_stored(s: Stored) {
     print::text(b" at ");
@@ -117,7 +116,7 @@ fn show_record<'a>(
     print::number(x.place as u64);
     print::text(b" gets ");
     let v = x.verdict;
-    print::number(answer::number(v) as u64);
+    print::number(verdict_numbers::number(v) as u64);
     print::text(b": ");
     print::text(record::part(r, c, which, place, a));
     print::text(b"\n");

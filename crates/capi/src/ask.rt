@@ -7,9 +7,8 @@ use asking::record::AskedRecord;
 use asking::why::WhyAnswer;
 use journals::records::Journal;
 use journals::records::REPORTS;
-use verdict::answer;
 ghost use mathlib.Core.Path.{_≡_};
-ghost use Rattle.verdict.specs.Numbers.{numberOf};
+ghost use Rattle.verdict_numbers.specs.Numbers.{numberOf};
 ghost use Rattle.store.specs.Reads.{lent, reads};
 ghost use Rattle.asking.specs.Numbers.{whyNumber, askedNumber};
 ghost use Rattle.asking.specs.Why.{firstPlace, secondPlace};
@@ -105,7 +104,7 @@ fn verdict_in(x: AskedRecord) -> u64
     ensures { λ n. ⌜ n ≡ numberOf (x .verdict) ⌝ }
 {
     let v = x.verdict;
-    answer::number(v) as u64
+    verdict_numbers::number(v) as u64
 }
 
 fn verdict_of(r: Asked) -> u64

@@ -24,8 +24,8 @@ use Rattle.layout.specs.Part.{sixOf, partOf}
 use Rattle.layout.specs.Report.{wholeOf, reportFrom, reportOf}
 use Rattle.layout.specs.Correction.{headOf, reportedOf, isSound, soundOf, threeOf, correctionOf, namedNumber}
 use Rattle.entries.specs.Places.{holdsOpen, isFree, lapsed}
-use Rattle.verdict.specs.Corrections.{isAmong}
-use Rattle.verdict.specs.Reports.{returnPeriod}
+use Rattle.correction_rules.specs.Corrections.{isAmong}
+use Rattle.report_tests.specs.Tests.{returnPeriod}
 use Rattle.verdict.specs.Step.{standOn, entryAfter}
 use Rattle.model.specs.Model.{events, journal, about, named, history, entryOver, before as earlier, verdictOver, started, filed, lineOf, judged, verdictOf}
 use Rattle.rules.specs.Records.{numberIn, classIn, saysIn}

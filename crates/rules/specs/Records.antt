@@ -15,9 +15,9 @@ use Rattle.layout.specs.Report.{reportOf, wholeOf}
 use Rattle.layout.specs.Correction.{correctionOf, namedNumber}
 use Rattle.entries.specs.declared.report.Published.{Published}
 use Rattle.entries.specs.Report.{byKind}
-use Rattle.verdict.specs.declared.corrections.Named.{Named}
-use Rattle.verdict.specs.declared.corrections.Named.the-variants.{Whole, Less}
-use Rattle.verdict.specs.declared.corrections.Correction.{Correction}
+use Rattle.correction_rules.specs.declared.Named.{Named}
+use Rattle.correction_rules.specs.declared.Named.the-variants.{Whole, Less}
+use Rattle.correction_rules.specs.declared.Correction.{Correction}
 use Rattle.verdict.specs.declared.step.Says.{Says}
 use Rattle.verdict.specs.declared.step.Says.the-variants.{Reported, Corrected}
 

@@ -1,4 +1,6 @@
 // What the bytes of a record say, by the kind of its file: 0 default, 1 correction.
+use correction_rules::Correction;
+use correction_rules::Named;
 use entries::report::Published;
 use fields::kind::Kind;
 use fields::number::Digits;
@@ -6,8 +8,6 @@ use fields::number::Number;
 use layout::correction::CorrectionRead;
 use layout::report::Report;
 use layout::report::ReportRead;
-use verdict::corrections::Correction;
-use verdict::corrections::Named;
 use verdict::step::Says;
 ghost use mathlib.Core.Path.{_≡_};
 ghost use mathlib.Core.Bool.{cond};

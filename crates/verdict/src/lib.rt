@@ -1,5 +1,2 @@
-// The verdicts on the records of one number, over its entry: what a report or a correction gets, and what it does.
-pub mod answer;
-pub mod corrections;
-pub mod reports;
+// One record of a number's history after the other: its verdict, what it does, and the pair that confirmed last.
 pub mod step;

@@ -1,10 +1,6 @@
 // One record of a number's history: its verdict, the entry after it, and the pair that confirmed last.
-use crate::answer;
-use crate::answer::Verdict;
-use crate::corrections;
-use crate::corrections::Correction;
-use crate::reports;
 use calendar::dates::CalendarDays;
+use correction_rules::Correction;
 use entries::entry;
 use entries::entry::Entry;
 use entries::entry::Line;
@@ -16,6 +12,7 @@ use entries::report;
 use entries::report::Published;
 use entries::report::Report;
 use fields::code::Code;
+use verdict_numbers::Verdict;
 ghost use mathlib.Core.Path.{_≡_};
 ghost use Rattle.verdict.specs.Step.{placedAs, verdictOn, effectOn, stepOn, pairedIn, whyBy, standOn, firstStanding};
 
@@ -73,9 +70,9 @@ pub fn verdict(n: Listed, e: Entry, rec: Record) -> Verdict
         Says::Reported(p) => {
             let line = entry::line_in(n);
             let r = report::meant(line.owner, p);
-            reports::verdict(n, e, rec.publisher, rec.day, r)
+            report_rules::verdict(n, e, rec.publisher, rec.day, r)
         }
-        Says::Corrected(c) => corrections::verdict(n, e, rec.publisher, c),
+        Says::Corrected(c) => correction_rules::verdict(n, e, rec.publisher, c),
     }
 }
 
@@ -87,11 +84,11 @@ pub fn effect(v: Verdict, line: Line, e: Entry, rec: Record) -> Entry
     match says {
         Says::Reported(p) => {
             let r = report::meant(line.owner, p);
-            reports::effect(v, e, placed(rec, r))
+            effects::reports::effect(v, e, placed(rec, r))
         }
         Says::Corrected(c) => {
             let named = c.named;
-            corrections::effect(v, e, line.owner, named)
+            effects::corrections::effect(v, e, line.owner, named)
         }
     }
 }
@@ -112,7 +109,7 @@ pub fn step(line: Line, e: Entry, rec: Record) -> Outcome
 fn paired(places: [Place; PLACES], second: Place) -> Why
     ensures { λ w. ⌜ w ≡ pairedIn places second ⌝ }
 {
-    let first = places::place_at(places, reports::partner_at(places, second.report));
+    let first = places::place_at(places, effects::reports::partner_at(places, second.report));
     Why::Pair(first, second)
 }
 
@@ -123,7 +120,7 @@ pub fn why_after(v: Verdict, owner: Code, places: [Place; PLACES], before: Why, 
     let says = rec.says;
     match says {
         Says::Reported(p) => {
-            if answer::number(v) == 11 {
+            if verdict_numbers::number(v) == 11 {
                 return paired(places, placed(rec, report::meant(owner, p)));
             }
             before

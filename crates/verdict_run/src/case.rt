@@ -1,6 +1,8 @@
 // One example: the number's line of the table or none, its entry, and whether all has come as it should.
 use crate::line;
 use calendar::dates::CalendarDays;
+use correction_rules::Correction;
+use correction_rules::Named;
 use entries::entry;
 use entries::entry::Entry;
 use entries::entry::Line;
@@ -8,9 +10,6 @@ use entries::entry::Listed;
 use entries::places;
 use entries::report;
 use fields::code::Code;
-use verdict::answer;
-use verdict::corrections::Correction;
-use verdict::corrections::Named;
 use verdict::step;
 use verdict::step::Record;
 use verdict::step::Says;
@@ -118,11 +117,11 @@ fn processed(c: Case, s: &[u8]) -> Case {
             entry: next,
             good: c.good,
         };
-        return judged(d, answer::number(v), line::two(s, 44));
+        return judged(d, verdict_numbers::number(v), line::two(s, 44));
     }
     judged(
         c,
-        answer::number(step::verdict(Listed::Missing, e, rec)),
+        verdict_numbers::number(step::verdict(Listed::Missing, e, rec)),
         line::two(s, 44),
     )
 }

@@ -1,0 +1,3 @@
+// What a verdict does to a number's entry.
+pub mod corrections;
+pub mod reports;
