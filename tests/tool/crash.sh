@@ -33,6 +33,23 @@ state() {
     "$tool" files store && "$tool" show store && "$tool" verdicts store && "$tool" figure store
 }
 
+# how the store is: as before, as after, or neither. Its bytes tell it, and `show` has to read them, whatever lies beside them.
+tell() {
+    is=neither
+    if [ ! -e store/store ]; then
+        [ -e before.bytes ] || is=before
+        return
+    fi
+    if cmp -s store/store after.bytes; then as=after; elif cmp -s store/store before.bytes; then as=before; else return; fi
+    "$tool" show store >now 2>say && cmp -s now "$as.shown" && is=$as
+}
+
+# keeps what the store is, as WHICH: its bytes, and what `show` prints
+keep() { # WHICH
+    rm -f "$1.bytes" "$1.shown"
+    [ ! -e store/store ] || { cp store/store "$1.bytes" && "$tool" show store >"$1.shown"; }
+}
+
 reset() {
     rm -rf store
     [ ! -d saved ] || cp -R saved store
@@ -45,9 +62,11 @@ every_call() {
     n=0 how=''
     reset
     state >before 2>said || fault "the store can't be read at first"
+    keep before
     with_library "$room/nth.so" "$@" >out 2>said || fault 'it failed with nothing in its way'
     total=$(cat calls)
     state >after 2>said || fault 'the store can not be read afterwards'
+    keep after
     cmp -s before after && fault 'it changes nothing'
     for how in before after torn full once; do
         n=0
@@ -65,8 +84,9 @@ every_call() {
 # after one run
 look() {
     digit=$(cat status)
-    state >now 2>say
-    if cmp -s now before; then is=before; elif cmp -s now after; then is=after; else
+    : >say
+    tell
+    if [ "$is" = neither ]; then
         fault "the store is neither as before nor as after: $(cat say)"
         return
     fi
@@ -86,9 +106,9 @@ look() {
         ;;
     esac
     # the next one works, and then the store is as after
-    "$tool" "$@" >next 2>say
-    state >now 2>say2
-    cmp -s now after || fault "the next command did not lead on: $(cat next say)"
+    "$tool" "$@" >next 2>said.next
+    tell
+    [ "$is" = after ] || fault "the next command did not lead on: $(cat next said.next)"
 }
 
 printf '3055501,,D001,02012024\n3055502,,D001,02012024\n' >table
