@@ -95,13 +95,22 @@ fn first_line(first: Page, room: &mut [u8; ROOM], differ: usize, n: usize) -> Pa
     page::line_end(p, room)
 }
 
+fn entries_are(n: usize) {
+    if n == 1 {
+        words::text(b" stored entry is");
+        return;
+    }
+    words::text(b" stored entries are");
+}
+
 fn warn(folder: &[u8], differ: usize) {
     words::text(b"dagskimra: ");
     words::text(folder);
     words::text(b": ");
     io::print_decimal(STDERR_FILENO, differ as u64);
+    entries_are(differ);
     words::text(
-        b" stored entries are not what the journals lead to: the table was changed behind the store's back. Start a new store and file the files again\n",
+        b" not what the journals lead to: the table was changed behind the store's back. Start a new store and file the files again\n",
     );
 }
 

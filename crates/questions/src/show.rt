@@ -1,7 +1,6 @@
 // show STORE [--before N] [NUMBER...]: entries as they are stored, or as they stood before a file arrived.
 use crate::asked;
 use crate::named;
-use crate::named::Named;
 use crate::table;
 use commands::arrivals;
 use commands::end;
@@ -15,6 +14,7 @@ use disk::REGULAR;
 use disk::TABLE;
 use entries::entry::Entry;
 use libc::STDOUT_FILENO;
+use numbers::find::FoundLine;
 use page::Page;
 use page::ROOM;
 use text::Spelt;
@@ -100,11 +100,11 @@ fn print_word<'a>(
 ) -> Told {
     let p = t.page;
     match named::line_of(lines, word) {
-        Named::Unknown => Told {
+        FoundLine::Unknown => Told {
             page: unknown(p, room, word),
             known: false,
         },
-        Named::Line(i) => {
+        FoundLine::At(i) => {
             let e = entry_of(a, lines, files, regular, corrections, entries, i);
             Told {
                 page: line(p, room, lines, i, e),
