@@ -21,10 +21,7 @@ fn cut(kind: FileKind, file: &[u8]) {
 }
 
 // A sign for each place at which `b` replaces a byte. `copy` is room for the file.
-fn replace(kind: FileKind, file: &[u8], b: u8, copy: &mut [u8]) {
-    show::say(b"  ");
-    io::print_hex(1, b as u64, 2);
-    show::say(b"  ");
+fn signs(kind: FileKind, file: &[u8], b: u8, copy: &mut [u8]) {
     let n = file.len();
     if copy.len() < n {
         return;
@@ -36,6 +33,13 @@ fn replace(kind: FileKind, file: &[u8], b: u8, copy: &mut [u8]) {
         i += 1;
     }
     show::say(b"\n");
+}
+
+fn replace(kind: FileKind, file: &[u8], b: u8, copy: &mut [u8]) {
+    show::say(b"  ");
+    io::print_hex(1, b as u64, 2);
+    show::say(b"  ");
+    signs(kind, file, b, copy);
 }
 
 // The file's bytes, with `b` at the place `at`.

@@ -109,27 +109,27 @@ fn store_record(kind: FileKind, file: &[u8], place: usize, words: &mut [u64], ba
     }
 }
 
-// The file written from the values of its records: whether it is the same.
-fn rewrite(kind: FileKind, file: &[u8], n: usize, words: &mut [u64], out: &mut [u8]) {
+// The words of the file's records, one behind the other: how many, and too many where there is no room for them.
+fn words_of(kind: FileKind, file: &[u8], n: usize, words: &mut [u64]) -> usize {
     let w = records::words::width(kind);
     if 13 < w {
-        return;
+        return 1001;
     }
     let mut i: usize = 0;
     let mut used: usize = 0;
     while i < n {
         if 1000 < used {
-            return;
+            return used;
         }
         store_record(kind, file, i, words, used);
         used += w;
         i += 1;
     }
-    if words.len() < used {
-        return;
-    }
-    let answer = files::write::write(kind, &words[0..used], out);
-    show::written(answer);
+    used
+}
+
+// Whether what was written is the file.
+fn compared(file: &[u8], answer: Written, out: &[u8]) {
     let Written::Length(m) = answer else {
         show::say(b"\n");
         return;
@@ -141,6 +141,17 @@ fn rewrite(kind: FileKind, file: &[u8], n: usize, words: &mut [u64], out: &mut [
         }
     }
     show::say(b", not the same\n");
+}
+
+// The file written from the values of its records: whether it is the same.
+fn rewrite(kind: FileKind, file: &[u8], n: usize, words: &mut [u64], out: &mut [u8]) {
+    let used = words_of(kind, file, n, words);
+    if words.len() < used {
+        return;
+    }
+    let answer = files::write::write(kind, &words[0..used], out);
+    show::written(answer);
+    compared(file, answer, out);
 }
 
 // Each record as a part of the file, found by a walk.
@@ -183,6 +194,20 @@ pub fn file(kind: FileKind, file: &[u8]) {
     rewrite(kind, file, n, &mut words, &mut out);
 }
 
+// The name written from what was read.
+fn name_back(m: Name) {
+    let mut out = [0u8; 16];
+    let Written::Length(n) = m.write(&mut out) else {
+        show::say(b", not written\n");
+        return;
+    };
+    if n <= 16 {
+        show::say(b", written: ");
+        show::say(&out[0..n]);
+    }
+    show::say(b"\n");
+}
+
 pub fn name(s: &[u8]) {
     show::say(s);
     show::say(b": ");
@@ -195,14 +220,5 @@ pub fn name(s: &[u8]) {
     show::kind(kind);
     show::say(b", day ");
     show::number(day.0 as usize);
-    let mut out = [0u8; 16];
-    let Written::Length(n) = m.write(&mut out) else {
-        show::say(b", not written\n");
-        return;
-    };
-    if n <= 16 {
-        show::say(b", written: ");
-        show::say(&out[0..n]);
-    }
-    show::say(b"\n");
+    name_back(m);
 }

@@ -48,6 +48,20 @@ fn walked(file: &[u8], n: usize) -> usize {
     found
 }
 
+// What is found in the file that was written.
+fn found(file: &[u8]) {
+    let j = files::judge::judge(FileKind::Default, file);
+    show::say(b", ");
+    show::judged(j);
+    let Judged::Records(m) = j else {
+        show::say(b"\n");
+        return;
+    };
+    show::say(b", ");
+    show::number(walked(file, m));
+    show::say(b" walked\n");
+}
+
 fn large(words: &mut [u64], out: &mut [u8]) {
     fill(words);
     let w = files::write::write(FileKind::Default, words, out);
@@ -59,16 +73,7 @@ fn large(words: &mut [u64], out: &mut [u8]) {
     if out.len() < n {
         return;
     }
-    let j = files::judge::judge(FileKind::Default, &out[0..n]);
-    show::say(b", ");
-    show::judged(j);
-    let Judged::Records(m) = j else {
-        show::say(b"\n");
-        return;
-    };
-    show::say(b", ");
-    show::number(walked(&out[0..n], m));
-    show::say(b" walked\n");
+    found(&out[0..n]);
 }
 
 fn lend(words: &mut [u64; 49152], out: &mut [u8; 300000]) {

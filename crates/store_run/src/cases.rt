@@ -3,6 +3,10 @@ use crate::print;
 use starting::start;
 use starting::start::Started;
 use store::readable;
+ghost use Prim.Native.Nat.{_≤_};
+
+// The longest table that is tried: 1,025 lines of 23 bytes.
+const TEXT: usize = 23575;
 
 // Writes one byte everywhere.
 fn set(s: &mut [u8], b: u8) {
@@ -69,8 +73,52 @@ fn all_stays(
     rest_stays(table, files, regular, corrections, entries, 0)
 }
 
+// What was answered.
+fn say(answer: Started) {
+    match answer {
+        Started::Done(n) => {
+            print::text(b": 0, lines ");
+            print::number(n);
+        }
+        Started::Short => print::text(b": 44"),
+        Started::BadTable => print::text(b": 6"),
+    }
+}
+
+// Whether the buffers are as the answer says: a store that reads, with no other byte touched, or all as they were.
+fn stays(
+    answer: Started,
+    table: &[u8],
+    files: &[u8],
+    regular: &[u8],
+    corrections: &[u8],
+    entries: &[u8],
+) -> bool {
+    let Started::Done(n) = answer else {
+        return all_stays(table, files, regular, corrections, entries);
+    };
+    if !readable::readable(table, files, regular, corrections, entries) {
+        return false;
+    }
+    rest_stays(table, files, regular, corrections, entries, n)
+}
+
+fn set_all(
+    table: &mut [u8],
+    files: &mut [u8],
+    regular: &mut [u8],
+    corrections: &mut [u8],
+    entries: &mut [u8],
+) {
+    set(table, 7);
+    set(files, 7);
+    set(regular, 7);
+    set(corrections, 7);
+    set(entries, 7);
+}
+
 // Starts a store in buffers full of sevens, and says what came of it.
-fn started(
+fn tried(
     what: &[u8],
     text: &[u8],
     table: &mut [u8],
@@ -79,142 +127,49 @@ fn started(
     corrections: &mut [u8],
     entries: &mut [u8],
 ) {
+    set_all(table, files, regular, corrections, entries);
     let answer = start::start(text, table, files, regular, corrections, entries);
     print::text(what);
-    match answer {
-        Started::Done(n) => {
-            print::text(b": 0, lines ");
-            print::number(n);
-            let stays = rest_stays(table, files, regular, corrections, entries, n);
-            print::holds(stays & readable::readable(table, files, regular, corrections, entries));
-        }
-        Started::Short => {
-            print::text(b": 44");
-            print::holds(all_stays(table, files, regular, corrections, entries));
-        }
-        Started::BadTable => {
-            print::text(b": 6");
-            print::holds(all_stays(table, files, regular, corrections, entries));
+    say(answer);
+    print::holds(stays(answer, table, files, regular, corrections, entries));
+}
+
+// The length that is lent of a buffer of n bytes: a byte less of the one that is to be short.
+fn lent(n: usize, short: bool) -> usize
+    ensures { λ r. ⌜ r ≤ n ⌝ }
+{
+    if short {
+        if 0 < n {
+            return n - 1;
         }
     }
+    n
 }
 
-fn tried(
-    what: &[u8],
-    text: &[u8],
-    t: &mut [u8; 14338],
-    f: &mut [u8; 8194],
-    r: &mut [u8; 368640],
-    c: &mut [u8; 200704],
-    e: &mut [u8; 102400],
-) {
-    set(t, 7);
-    set(f, 7);
-    set(r, 7);
-    set(c, 7);
-    set(e, 7);
-    started(what, text, t, f, r, c, e);
-}
-
-fn tried_table(
-    text: &[u8],
-    t: &mut [u8; 14337],
-    f: &mut [u8; 8194],
-    r: &mut [u8; 368640],
-    c: &mut [u8; 200704],
-    e: &mut [u8; 102400],
-) {
-    set(t, 7);
-    set(f, 7);
-    set(r, 7);
-    set(c, 7);
-    set(e, 7);
-    started(b"table a byte short", text, t, f, r, c, e);
-}
-
-fn tried_files(
-    text: &[u8],
-    t: &mut [u8; 14338],
-    f: &mut [u8; 8193],
-    r: &mut [u8; 368640],
-    c: &mut [u8; 200704],
-    e: &mut [u8; 102400],
-) {
-    set(t, 7);
-    set(f, 7);
-    set(r, 7);
-    set(c, 7);
-    set(e, 7);
-    started(b"files a byte short", text, t, f, r, c, e);
-}
-
-fn tried_regular(
-    text: &[u8],
-    t: &mut [u8; 14338],
-    f: &mut [u8; 8194],
-    r: &mut [u8; 368639],
-    c: &mut [u8; 200704],
-    e: &mut [u8; 102400],
-) {
-    set(t, 7);
-    set(f, 7);
-    set(r, 7);
-    set(c, 7);
-    set(e, 7);
-    started(b"regular journal a byte short", text, t, f, r, c, e);
-}
-
-fn tried_corrections(
-    text: &[u8],
-    t: &mut [u8; 14338],
-    f: &mut [u8; 8194],
-    r: &mut [u8; 368640],
-    c: &mut [u8; 200703],
-    e: &mut [u8; 102400],
-) {
-    set(t, 7);
-    set(f, 7);
-    set(r, 7);
-    set(c, 7);
-    set(e, 7);
-    started(b"correction journal a byte short", text, t, f, r, c, e);
-}
-
-fn tried_entries(
-    text: &[u8],
-    t: &mut [u8; 14338],
-    f: &mut [u8; 8194],
-    r: &mut [u8; 368640],
-    c: &mut [u8; 200704],
-    e: &mut [u8; 102399],
-) {
-    set(t, 7);
-    set(f, 7);
-    set(r, 7);
-    set(c, 7);
-    set(e, 7);
-    started(b"entries a byte short", text, t, f, r, c, e);
-}
-
-// Each of the five buffers a byte short, before all else: the text is no table either.
+// One of the five buffers, counted from 0, a byte short, before all else: the text is no table either.
 pub fn short(
-    t: &mut [u8; 14338],
-    f: &mut [u8; 8194],
-    r: &mut [u8; 368640],
-    c: &mut [u8; 200704],
-    e: &mut [u8; 102400],
+    what: &[u8],
+    which: u64,
+    t: &mut [u8],
+    f: &mut [u8],
+    r: &mut [u8],
+    c: &mut [u8],
+    e: &mut [u8],
 ) {
-    let text = b"no table\n";
-    let mut table = [0u8; 14337];
-    tried_table(text, &mut table, f, r, c, e);
-    let mut files = [0u8; 8193];
-    tried_files(text, t, &mut files, r, c, e);
-    let mut regular = [0u8; 368639];
-    tried_regular(text, t, f, &mut regular, c, e);
-    let mut corrections = [0u8; 200703];
-    tried_corrections(text, t, f, r, &mut corrections, e);
-    let mut entries = [0u8; 102399];
-    tried_entries(text, t, f, r, c, &mut entries);
+    let table = lent(t.len(), which == 0);
+    let files = lent(f.len(), which == 1);
+    let regular = lent(r.len(), which == 2);
+    let corrections = lent(c.len(), which == 3);
+    let entries = lent(e.len(), which == 4);
+    tried(
+        what,
+        b"no table\n",
+        &mut t[0..table],
+        &mut f[0..files],
+        &mut r[0..regular],
+        &mut c[0..corrections],
+        &mut e[0..entries],
+    );
 }
 
 // A line of 22 bytes for the number 3000000 + k.
@@ -246,62 +201,16 @@ fn put_line(out: &mut [u8], at: usize, k: usize) {
     }
 }
 
-// A table of n numbers.
-fn put_lines(out: &mut [u8; 23552], n: usize) {
+// A table of n numbers, as far as there is room for it.
+fn put_lines(out: &mut [u8], n: usize) {
     let mut k = 0;
     while k < n {
-        if 1024 <= k {
+        if 1025 <= k {
             return;
         }
         put_line(out, k * 23, k);
         k += 1;
     }
-}
-
-fn put_more(out: &mut [u8; 23575]) {
-    let mut k = 0;
-    while k < 1025 {
-        put_line(out, k * 23, k);
-        k += 1;
-    }
-}
-
-fn tried_all(
-    text: &[u8; 23552],
-    t: &mut [u8; 14338],
-    f: &mut [u8; 8194],
-    r: &mut [u8; 368640],
-    c: &mut [u8; 200704],
-    e: &mut [u8; 102400],
-) {
-    tried(b"1,024 numbers", text, t, f, r, c, e);
-}
-
-fn tried_more(
-    text: &[u8; 23575],
-    t: &mut [u8; 14338],
-    f: &mut [u8; 8194],
-    r: &mut [u8; 368640],
-    c: &mut [u8; 200704],
-    e: &mut [u8; 102400],
-) {
-    tried(b"1,025 numbers", text, t, f, r, c, e);
-}
-
-// Tables of 1,024 numbers and of one more.
-pub fn many(
-    t: &mut [u8; 14338],
-    f: &mut [u8; 8194],
-    r: &mut [u8; 368640],
-    c: &mut [u8; 200704],
-    e: &mut [u8; 102400],
-) {
-    let mut all = [0u8; 23552];
-    put_lines(&mut all, 1024);
-    tried_all(&all, t, f, r, c, e);
-    let mut more = [0u8; 23575];
-    put_more(&mut more);
-    tried_more(&more, t, f, r, c, e);
 }
 
 // The given text with a line feed for each bar; no more than there is room for.
@@ -327,34 +236,53 @@ fn first(s: &[u8], n: usize) -> &[u8] {
     s
 }
 
-fn given(out: &mut [u8; 128], table: &[u8]) {
+fn tried_first(
+    what: &[u8],
+    text: &[u8; TEXT],
+    n: usize,
+    t: &mut [u8],
+    f: &mut [u8],
+    r: &mut [u8],
+    c: &mut [u8],
+    e: &mut [u8],
+) {
+    tried(what, first(text, n), t, f, r, c, e);
+}
+
+fn lay_lines(out: &mut [u8; TEXT], n: usize) {
+    put_lines(out, n);
+}
+
+fn lay_given(out: &mut [u8; TEXT], table: &[u8]) {
     with_ends(table, out);
 }
 
-fn tried_first(
+// A table of n numbers.
+pub fn many(
     what: &[u8],
-    text: &[u8; 128],
     n: usize,
-    t: &mut [u8; 14338],
-    f: &mut [u8; 8194],
-    r: &mut [u8; 368640],
-    c: &mut [u8; 200704],
-    e: &mut [u8; 102400],
+    t: &mut [u8],
+    f: &mut [u8],
+    r: &mut [u8],
+    c: &mut [u8],
+    e: &mut [u8],
 ) {
-    tried(what, first(text, n), t, f, r, c, e);
+    let mut text = [0u8; TEXT];
+    lay_lines(&mut text, n);
+    tried_first(what, &text, n % 1026 * 23, t, f, r, c, e);
 }
 
 // A table that a line of the input gives.
 pub fn case(
     what: &[u8],
     table: &[u8],
-    t: &mut [u8; 14338],
-    f: &mut [u8; 8194],
-    r: &mut [u8; 368640],
-    c: &mut [u8; 200704],
-    e: &mut [u8; 102400],
+    t: &mut [u8],
+    f: &mut [u8],
+    r: &mut [u8],
+    c: &mut [u8],
+    e: &mut [u8],
 ) {
-    let mut text = [0u8; 128];
-    given(&mut text, table);
+    let mut text = [0u8; TEXT];
+    lay_given(&mut text, table);
     tried_first(what, &text, table.len(), t, f, r, c, e);
 }

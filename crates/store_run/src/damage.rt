@@ -12,33 +12,27 @@ fn swap(s: &mut [u8], at: usize, b: u8) -> u8 {
     0
 }
 
-pub fn hurt(
-    what: &[u8],
+// The same in one of the five buffers, counted from 0.
+fn swap_in(
     which: u64,
     at: usize,
     b: u8,
-    t: &mut [u8; 14338],
-    f: &mut [u8; 8194],
-    r: &mut [u8; 368640],
-    c: &mut [u8; 200704],
-    e: &mut [u8; 102400],
-) {
-    let old = match which {
+    t: &mut [u8],
+    f: &mut [u8],
+    r: &mut [u8],
+    c: &mut [u8],
+    e: &mut [u8],
+) -> u8 {
+    match which {
         0 => swap(t, at, b),
         1 => swap(f, at, b),
         2 => swap(r, at, b),
         3 => swap(c, at, b),
         _ => swap(e, at, b),
-    };
-    let reads = readable::readable(t, f, r, c, e);
-    match which {
-        0 => swap(t, at, old),
-        1 => swap(f, at, old),
-        2 => swap(r, at, old),
-        3 => swap(c, at, old),
-        _ => swap(e, at, old),
     }
-    ;
+}
+
+fn say(what: &[u8], reads: bool) {
     print::text(what);
     if reads {
         print::text(b": reads");
@@ -48,15 +42,25 @@ pub fn hurt(
     print::holds(!reads);
 }
 
-// Whether the store reads.
-pub fn whole(
+pub fn hurt(
     what: &[u8],
-    t: &mut [u8; 14338],
-    f: &mut [u8; 8194],
-    r: &mut [u8; 368640],
-    c: &mut [u8; 200704],
-    e: &mut [u8; 102400],
+    which: u64,
+    at: usize,
+    b: u8,
+    t: &mut [u8],
+    f: &mut [u8],
+    r: &mut [u8],
+    c: &mut [u8],
+    e: &mut [u8],
 ) {
+    let old = swap_in(which, at, b, t, f, r, c, e);
+    let reads = readable::readable(t, f, r, c, e);
+    swap_in(which, at, old, t, f, r, c, e);
+    say(what, reads);
+}
+
+// Whether the store reads.
+pub fn whole(what: &[u8], t: &[u8], f: &[u8], r: &[u8], c: &[u8], e: &[u8]) {
     print::text(what);
     print::holds(readable::readable(t, f, r, c, e));
 }

@@ -15,7 +15,7 @@ fn number(line: &[u8], k: usize) -> u64 {
     n
 }
 
-// One line of the input: T with a table, D with a byte to damage; M, S, F and W stand alone.
+// One line of the input: T with a table, M with a count of numbers, S with the buffer that is short, D with a byte to damage; F and W.
 fn one(
     line: &[u8],
     t: &mut [u8; 14338],
@@ -30,8 +30,8 @@ fn one(
     let what = text::piece(line, b';', 1);
     match line[0] {
         b'T' => cases::case(what, text::piece(line, b';', 2), t, f, r, c, e),
-        b'M' => cases::many(t, f, r, c, e),
-        b'S' => cases::short(t, f, r, c, e),
+        b'M' => cases::many(what, (number(line, 2) % 10000) as usize, t, f, r, c, e),
+        b'S' => cases::short(what, number(line, 2), t, f, r, c, e),
         b'F' => full::fill(t, f, r, c, e),
         b'D' => {
             let at = number(line, 3) % 1000000;

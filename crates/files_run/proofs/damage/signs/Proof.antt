@@ -1,31 +1,16 @@
--- `files_run::damage::replace` meets its contract. Assumes nothing.
+-- `files_run::damage::signs` meets its contract. Assumes nothing.
 use lib.ListN.{length}
 use Prim.Native.Nat.{_-_}
 use mathlib.Core.Path.{_≡_}
 use borrow.Author.Needs.{needs}
-use Rattle.files_run.proofs.damage.replace.Statement.{statement}
-use Rattle.files_run.proofs.damage.replace.Tie as tie
+use Rattle.files_run.proofs.damage.signs.Statement.{statement}
+use Rattle.files_run.proofs.damage.signs.Tie as tie
 
 abbrev Inv-loop : tie.InvT-loop
 Inv-loop kind file b copy₀ n i₀ t9 copy i = length copy ≡ length copy₀
 
 abbrev μ-loop : tie.MeasureT-loop
 μ-loop kind file b copy₀ n i₀ t9 copy i = n - i
-
-slice-aggregate-say : tie.Need-slice-aggregate-say Inv-loop μ-loop
-slice-aggregate-say c = search needs
-
-say-requires : tie.Need-say-requires Inv-loop μ-loop
-say-requires c κs = search needs
-
-print-hex-requires : tie.Need-print-hex-requires Inv-loop μ-loop
-print-hex-requires c κs = search needs
-
-slice-aggregate-say-2 : tie.Need-slice-aggregate-say-2 Inv-loop μ-loop
-slice-aggregate-say-2 c = search needs
-
-say-requires-2 : tie.Need-say-requires-2 Inv-loop μ-loop
-say-requires-2 c κs = search needs
 
 returns : tie.Need-returns Inv-loop μ-loop
 returns c = search needs
@@ -63,11 +48,11 @@ loop-less c = search needs
 loop-again : tie.Need-loop-again Inv-loop μ-loop
 loop-again c = search needs
 
-slice-aggregate-say-3 : tie.Need-slice-aggregate-say-3 Inv-loop μ-loop
-slice-aggregate-say-3 c = search needs
+slice-aggregate-say : tie.Need-slice-aggregate-say Inv-loop μ-loop
+slice-aggregate-say c = search needs
 
-say-requires-3 : tie.Need-say-requires-3 Inv-loop μ-loop
-say-requires-3 c κs = search needs
+say-requires : tie.Need-say-requires Inv-loop μ-loop
+say-requires c κs = search needs
 
 same-length : tie.Need-same-length Inv-loop μ-loop
 same-length c = search needs
@@ -75,17 +60,12 @@ same-length c = search needs
 returns-2 : tie.Need-returns-2 Inv-loop μ-loop
 returns-2 c = search needs
 
-pub replace-spec : {M : Type 1} → statement M
-replace-spec =
+pub signs-spec : {M : Type 1} → statement M
+signs-spec =
     tie.close
     (tie.spec
     Inv-loop
     μ-loop
-    slice-aggregate-say
-    say-requires
-    print-hex-requires
-    slice-aggregate-say-2
-    say-requires-2
     returns
     loop-holds
     set-out-requires
@@ -98,7 +78,7 @@ replace-spec =
     add-i
     loop-less
     loop-again
-    slice-aggregate-say-3
-    say-requires-3
+    slice-aggregate-say
+    say-requires
     same-length
     returns-2)
