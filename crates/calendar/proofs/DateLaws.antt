@@ -1,18 +1,20 @@
 -- Laws of years and months: how many days they have, where they start, and in which one a day lies.
 -- Assumes nothing.
-use mathlib.Core.Path.{_≡_, refl, _∙_}
+use mathlib.Core.Path.{_≡_, refl, ap, _∙_}
 use mathlib.Core.Bool.{Bool, true, false, cond}
 use mathlib.Core.Logic.{⊎-elim}
-use Prim.Native.Nat.{ℕ, zero, suc, _+_, _-_, _≤_, _<_, zero-le}
+use mathlib.Core.List.{List}
+use Prim.Native.Nat.{ℕ, zero, suc, _+_, _-_, _*_, _≤_, _<_, zero-le}
+use native.Mathlib.Decide.{le-ind}
 use native.Mathlib.Numerals.{add-one}
 use native.Mathlib.Omega.{arith}
-use lib.Dec.{leb, lit≤}
+use lib.Dec.{leb, ltb, eqb, lit≤}
 use lib.ListN.{getD, List·getD-eq-default}
-use borrow.Author.Tests.{leb-true, leb-false}
+use borrow.Author.Tests.{leb-true, leb-false, eqb-true, lt-ltb, le-ltb}
 use Rattle.laws.specs.Sums.{sumTo}
 use Rattle.laws.proofs.Sums.{sumTo-suc, sumTo-mono}
-use Rattle.laws.specs.Lists.{all}
-use Rattle.laws.proofs.Tables.{all-at}
+use Rattle.laws.specs.Lists.{all, table}
+use Rattle.laws.proofs.Tables.{all-at, getD-table, tested}
 use Rattle.laws.proofs.Tests.{cond-le, le-or-lt}
 use Rattle.calendar.specs.Dates.{lastDay, leap, yearDays, months, monthDays, yearStart, monthStart, lastFrom, yearOf, monthOf}
 
@@ -81,6 +83,61 @@ months-sum false = refl
 pub monthStart-end : (y : ℕ) → monthStart y 13 ≡ yearDays y
 unfolding monthStart monthDays yearDays
 monthStart-end y = months-sum (leap y)
+
+-- and beyond them nothing comes
+pub monthStart-beyond : (y m : ℕ) → 12 < m → monthStart y m ≡ yearDays y
+monthStart-beyond y m h =
+    le-ind (λ (k : ℕ). monthStart y k ≡ yearDays y) (monthStart-end y) (λ k g q. rw (← (add-one k)) (omega (arith, monthStart-next y k, monthDays-none y k g))) m h
+
+yearStart-le : (i : ℕ) → yearStart (1998 + i) ≤ 366 * i
+unfolding yearStart sumTo
+yearStart-le zero = zero-le
+yearStart-le (suc i) =
+    let e : 1998 + suc i ≡ 1998 + i + 1 = omega arith in
+    rw e (omega (arith, yearStart-next (1998 + i) (omega arith), yearDays-le (1998 + i), yearStart-le i))
+
+pub monthStart-le : (y m : ℕ) → monthStart y m ≤ 31 * m
+unfolding monthStart sumTo
+monthStart-le y zero = zero-le
+monthStart-le y (suc m) = rw (← (add-one m)) (omega (arith, monthStart-next y m, monthDays-le y m, monthStart-le y m))
+
+-- ---- tables of where they start
+unfoldable pub yearStarts : List ℕ
+yearStarts = table 52 (λ i. yearStart (1998 + i))
+
+pub year-in : (y : ℕ) → 1998 ≤ y → y ≤ 2049 → (getD yearStarts (y - 1998) 0 ≡ yearStart y) × (getD yearStarts (y - 1998) 0 ≤ 366 * (y - 1998))
+unfolding yearStarts
+year-in y low high =
+    let e : 1998 + (y - 1998) ≡ y = omega arith in
+    let p : getD yearStarts (y - 1998) 0 ≡ yearStart (1998 + (y - 1998)) = getD-table 52 (y - 1998) (λ i. yearStart (1998 + i)) 0 (omega arith) in
+    (p ∙ ap yearStart e, omega (arith, p, yearStart-le (y - 1998)))
+
+-- of a year that has no leap day
+unfoldable pub monthStarts : List ℕ
+monthStarts = table 13 (sumTo (λ k. getD (months false) k 0))
+
+-- a leap day lies before the months from March on: a test at each entry of the table, in both kinds of year
+unfoldable monthIn : Bool → ℕ → Bool
+monthIn b m = eqb (getD monthStarts m 0 + cond (ltb m 3) 0 (cond b 1 0)) (sumTo (λ k. getD (months b) k 0) m)
+
+months-in : (b : Bool) → all (monthIn b) (table 13 (λ (i : ℕ). i)) ≡ true
+unfolding monthIn monthStarts all table sumTo
+months-in true = refl
+months-in false = refl
+
+month-in : (y m : ℕ) → m ≤ 12 → getD monthStarts m 0 + cond (ltb m 3) 0 (cond (leap y) 1 0) ≡ monthStart y m
+unfolding monthStart monthDays monthIn
+month-in y m h = eqb-true _ _ (tested (monthIn (leap y)) 13 (months-in (leap y)) m (omega arith))
+
+module _ (y m : ℕ) (h : m ≤ 12) where
+  pub month-early : m < 3 → getD monthStarts m 0 ≡ monthStart y m
+  month-early l = omega (arith, rw (lt-ltb m 3 l) at (month-in y m h))
+
+  pub month-leap : 3 ≤ m → leap y ≡ true → getD monthStarts m 0 + 1 ≡ monthStart y m
+  month-leap l e = rw (le-ltb m 3 l, e) at (month-in y m h)
+
+  pub month-plain : 3 ≤ m → leap y ≡ false → getD monthStarts m 0 ≡ monthStart y m
+  month-plain l e = omega (arith, rw (le-ltb m 3 l, e) at (month-in y m h))
 
 -- ---- in which one a number lies: the last of k that starts not after it
 module _ (start : ℕ → ℕ) (mono : (i j : ℕ) → i ≤ j → start i ≤ start j) (n : ℕ) where

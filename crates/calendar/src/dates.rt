@@ -48,6 +48,65 @@ pub const LAST_DAY: u16 = 18992;
 
 const MONTHS: [u16; 13] = [0, 31, 28, 31, 30, 31, 30, 31, 31, 30, 31, 30, 31];
 
+// The day number of 1 January of each year from 1998 on.
+const YEAR_STARTS: [u16; 52] = [
+    0,
+    365,
+    730,
+    1096,
+    1461,
+    1826,
+    2191,
+    2557,
+    2922,
+    3287,
+    3652,
+    4018,
+    4383,
+    4748,
+    5113,
+    5479,
+    5844,
+    6209,
+    6574,
+    6940,
+    7305,
+    7670,
+    8035,
+    8401,
+    8766,
+    9131,
+    9496,
+    9862,
+    10227,
+    10592,
+    10957,
+    11323,
+    11688,
+    12053,
+    12418,
+    12784,
+    13149,
+    13514,
+    13879,
+    14245,
+    14610,
+    14975,
+    15340,
+    15706,
+    16071,
+    16436,
+    16801,
+    17167,
+    17532,
+    17897,
+    18262,
+    18628,
+];
+
+// The days before the first of each month, of a year that has no leap day; there is no month 0.
+const MONTH_STARTS: [u16; 13] = [0, 0, 31, 59, 90, 120, 151, 181, 212, 243, 273, 304, 334];
+
 const WEEK: [Weekday; 7] = [
     Weekday::Monday,
     Weekday::Tuesday,
@@ -92,31 +151,31 @@ fn month_days(year: u16, month: u8) -> u16
     MONTHS[i]
 }
 
-// The day number of 1 January, counted year by year.
+// The day number of 1 January.
 fn year_start(year: u16) -> u16
     requires { ⌜ (1998 ≤ year) × (year ≤ 2049) ⌝ }
     ensures { λ r. ⌜ (r ≡ yearStart year) × (r ≤ 366 * (year - 1998)) ⌝ }
 {
-    let mut days: u16 = 0;
-    let mut y: u16 = 1998;
-    while y < year {
-        days = days + year_days(y);
-        y = y + 1;
-    }
-    days
+    let i = (year - 1998) as usize;
+    YEAR_STARTS[i]
 }
 
-// The days of a year before the first of a month, counted month by month.
+// The days of a year before the first of a month.
 fn month_start(year: u16, month: u8) -> u16
     ensures { λ r. ⌜ (r ≡ monthStart year month) × (r ≤ 31 * month) ⌝ }
 {
-    let mut days: u16 = 0;
-    let mut m: u8 = 0;
-    while m < month {
-        days = days + month_days(year, m);
-        m = m + 1;
+    if 12 < month {
+        return year_days(year);
     }
-    days
+    let i = month as usize;
+    let before = MONTH_STARTS[i];
+    if month < 3 {
+        return before;
+    }
+    if is_leap(year) {
+        return before + 1;
+    }
+    before
 }
 
 // The day of a date.
@@ -142,13 +201,13 @@ pub fn day_of(date: Date) -> Found
     Found::Day(CalendarDays(before + (day - 1)))
 }
 
-// The year of a day.
+// The year of a day: no year before one for each 366 days.
 fn year_of(n: u16) -> u16
     requires { ⌜ n ≤ 18992 ⌝ }
     ensures { λ r. ⌜ r ≡ yearOf n ⌝ }
 {
-    let mut year: u16 = 1998;
-    let mut next = year_days(1998);
+    let mut year: u16 = 1998 + n / 366;
+    let mut next = year_start(year) + year_days(year);
     while next <= n {
         year = year + 1;
         next = next + year_days(year);

@@ -1,49 +1,73 @@
--- `calendar::dates::month_start` meets its contract. The loop's invariant: `days` is what comes before month m, and at most 31 for each month passed.
--- The measure is what is left of the months. Assumes nothing.
-use mathlib.Core.Path.{_≡_, refl}
-use Prim.Native.Nat.{_-_, _*_, _≤_}
+-- `calendar::dates::month_start` meets its contract: the table is the list that the definition makes, by one computation over the whole of it.
+-- Assumes nothing.
+use mathlib.Core.Path.{_≡_, sym, _∙_}
 use native.Mathlib.Omega.{arith}
+use lib.ListN.{getD}
 use borrow.Author.Needs.{needs}
 use Rattle.laws.specs.Sums.{sumTo}
-use Rattle.calendar.specs.Dates.{monthStart}
-use Rattle.calendar.proofs.DateLaws.{monthStart-next, monthDays-le}
+use Rattle.laws.specs.Lists.{table}
+use Rattle.calendar.proofs.DateLaws.{monthStarts, monthStart-le, monthStart-beyond, month-early, month-leap, month-plain}
 use Rattle.calendar.proofs.dates.month_start.Statement.{statement}
 use Rattle.calendar.proofs.dates.month_start.Tie as tie
 
-abbrev Inv-loop : tie.InvT-loop
-Inv-loop year month days₀ m₀ days m = (m ≤ month) × (days ≡ monthStart year m) × (days ≤ 31 * m)
+year-days-requires : tie.Need-year-days-requires
+year-days-requires c κs = search needs
 
-abbrev μ-loop : tie.MeasureT-loop
-μ-loop year month days₀ m₀ days m = month - m
-
-loop-holds : tie.Need-loop-holds Inv-loop μ-loop
-unfolding monthStart sumTo
-loop-holds c = (omega arith, refl, omega arith)
-
-month-days-requires : tie.Need-month-days-requires Inv-loop μ-loop
-month-days-requires c κs = search needs
-
-add-days : tie.Need-add-days Inv-loop μ-loop
-add-days c = omega (arith, monthDays-le (c .before .before .before .args .year) (c .before .before .loop .m))
-
-add-m : tie.Need-add-m Inv-loop μ-loop
-add-m c = omega arith
-
-loop-less : tie.Need-loop-less Inv-loop μ-loop
-loop-less c = omega arith
-
-loop-again : tie.Need-loop-again Inv-loop μ-loop
-loop-again c =
-    let y = c .before .before .before .args .year in
-    let m = c .before .before .loop .m in
-    omega (arith, monthStart-next y m, monthDays-le y m)
-
-returns : tie.Need-returns Inv-loop μ-loop
+returns : tie.Need-returns
 returns c =
-    let e : c .before .loop .m ≡ c .before .before .args .month = omega arith in
-    rw (← e) (c .before .loop .inv .1, c .before .loop .inv .2)
+    let a = c .before .before .args in
+    let e = c .year-days .ensures ∙ sym (monthStart-beyond (a .year) (a .month) (c .before .if1 .taken)) in
+    (e, omega (arith, e, monthStart-le (a .year) (a .month)))
+
+mul-before : tie.Need-mul-before
+mul-before c = search needs
+
+array-read-before : tie.Need-array-read-before
+array-read-before c = search needs
+
+returns-2 : tie.Need-returns-2
+unfolding sumTo table monthStarts
+returns-2 c =
+    let a = c .before .before .args in
+    let e = month-early (a .year) (a .month) (c .before .if1 .left) (c .if2 .taken) in
+    (e, omega (arith, e, monthStart-le (a .year) (a .month)))
+
+is-leap-requires : tie.Need-is-leap-requires
+is-leap-requires c κs = search needs
+
+add-result : tie.Need-add-result
+unfolding sumTo table monthStarts
+add-result c =
+    let a = c .before .before .before .before .args in
+    let leap = sym (c .before .is-leap .ensures) ∙ c .if3 .taken in
+    omega (arith, month-leap (a .year) (a .month) (c .before .before .before .if1 .left) (c .before .before .if2 .left) leap, monthStart-le (a .year) (a .month))
+
+returns-3 : tie.Need-returns-3
+unfolding sumTo table monthStarts
+returns-3 c =
+    let a = c .before .before .before .before .args in
+    let leap = sym (c .before .is-leap .ensures) ∙ c .if3 .taken in
+    let e = month-leap (a .year) (a .month) (c .before .before .before .if1 .left) (c .before .before .if2 .left) leap in
+    (e, omega (arith, e, monthStart-le (a .year) (a .month)))
+
+returns-4 : tie.Need-returns-4
+unfolding sumTo table monthStarts
+returns-4 c =
+    let a = c .before .before .before .before .args in
+    let plain = sym (c .before .is-leap .ensures) ∙ c .if3 .left in
+    let e = month-plain (a .year) (a .month) (c .before .before .before .if1 .left) (c .before .before .if2 .left) plain in
+    (e, omega (arith, e, monthStart-le (a .year) (a .month)))
 
 pub month-start-spec : {M : Type 1} → statement M
 month-start-spec =
     tie.close
-    (tie.spec Inv-loop μ-loop loop-holds month-days-requires add-days add-m loop-less loop-again returns)
+    (tie.spec
+    year-days-requires
+    returns
+    mul-before
+    array-read-before
+    returns-2
+    is-leap-requires
+    add-result
+    returns-3
+    returns-4)
