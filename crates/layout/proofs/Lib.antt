@@ -1,9 +1,11 @@
 pub mod PartLaws
+pub mod WalkLaws
 pub mod PartTrip
 pub mod RecordBytes
 pub mod ReportLaws
 pub mod RequestLaws
 pub mod RequestTrip
 pub mod CorrectionLaws
+pub mod CorrectionWalk
 pub mod CorrectionTrip
 pub mod Records

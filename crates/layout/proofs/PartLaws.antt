@@ -6,7 +6,6 @@ use mathlib.Core.Bool.{true, false}
 use mathlib.Core.List.{List, _∷_, _++_}
 use lib.ListN.{length, getD, length-append}
 use borrow.Author.Tests.{eq-eqb, ne-eqb}
-use Rattle.laws.specs.Split.{split, pieceOf}
 use Rattle.laws.proofs.Digits.{size-le}
 use Rattle.laws.proofs.Overlay.{Room}
 use Rattle.fields.specs.declared.code.MaybeCode.{MaybeCode}
@@ -30,52 +29,15 @@ use Rattle.fields.proofs.NumberLaws.{length-field}
 use Rattle.layout.specs.declared.part.Part.{Part}
 use Rattle.layout.specs.declared.part.PartRead.{PartRead}
 use Rattle.layout.specs.declared.part.PartRead.the-variants.{Fault}
-use Rattle.layout.specs.Part.{sixOf, partOf, restOfWords, numberOfWords, partOfWords, partText}
+use Rattle.layout.specs.Part.{sixOf, restOfWords, numberOfWords, partOfWords, partText}
 
--- ---- how many fields there are
-module _ (s : List ℕ) where
-  pub part-count : (length (split 44 s) - 1 ≡ 5 → ⊥) → partOf s ≡ Fault
-  unfolding partOf
-  part-count n = rw (ne-eqb (length (split 44 s)) 6 (λ e. n (omega arith)))
-
-  pub part-six : length (split 44 s) - 1 ≡ 5 → partOf s ≡ sixOf (pieceOf 44 s 0) (pieceOf 44 s 1) (pieceOf 44 s 2) (pieceOf 44 s 3) (pieceOf 44 s 4) (pieceOf 44 s 5)
-  unfolding partOf
-  part-six e = rw (eq-eqb (length (split 44 s)) 6 (omega arith))
-
--- ---- which way the six fields go
-module _ (a b c d e f : List ℕ) where
-  pub six-1 : digitsFieldOf a ≡ DigitsRead.Fault → sixOf a b c d e f ≡ Fault
+-- ---- six fields that have their values
+module _ (a b c d e f : List ℕ) {first : Digits} {number : Number} {date : MaybeDate} {gaining losing : MaybeCode} {kind : MaybeKind} where
+  pub six-known : digitsFieldOf a ≡ DigitsRead.Digits first → numberOf first b ≡ NumberRead.Number number → maybeDateOf c ≡ MaybeDateRead.MaybeDate date
+      → maybeCodeOf d ≡ MaybeCodeRead.MaybeCode gaining → maybeCodeOf e ≡ MaybeCodeRead.MaybeCode losing → maybeKindOf f ≡ MaybeKindRead.MaybeKind kind
+      → sixOf a b c d e f ≡ PartRead.Part (record { number = number; date = date; gaining = gaining; losing = losing; kind = kind })
   unfolding sixOf
-  six-1 p₁ = rw p₁
-
-  module _ {first : Digits} (p₁ : digitsFieldOf a ≡ DigitsRead.Digits first) where
-    pub six-2 : numberOf first b ≡ NumberRead.Fault → sixOf a b c d e f ≡ Fault
-    unfolding sixOf
-    six-2 p₂ = rw (p₁, p₂)
-
-    module _ {number : Number} (p₂ : numberOf first b ≡ NumberRead.Number number) where
-      pub six-3 : maybeDateOf c ≡ MaybeDateRead.Fault → sixOf a b c d e f ≡ Fault
-      unfolding sixOf
-      six-3 p₃ = rw (p₁, p₂, p₃)
-
-      module _ {date : MaybeDate} (p₃ : maybeDateOf c ≡ MaybeDateRead.MaybeDate date) where
-        pub six-4 : maybeCodeOf d ≡ MaybeCodeRead.Fault → sixOf a b c d e f ≡ Fault
-        unfolding sixOf
-        six-4 p₄ = rw (p₁, p₂, p₃, p₄)
-
-        module _ {gaining : MaybeCode} (p₄ : maybeCodeOf d ≡ MaybeCodeRead.MaybeCode gaining) where
-          pub six-5 : maybeCodeOf e ≡ MaybeCodeRead.Fault → sixOf a b c d e f ≡ Fault
-          unfolding sixOf
-          six-5 p₅ = rw (p₁, p₂, p₃, p₄, p₅)
-
-          module _ {losing : MaybeCode} (p₅ : maybeCodeOf e ≡ MaybeCodeRead.MaybeCode losing) where
-            pub six-6 : maybeKindOf f ≡ MaybeKindRead.Fault → sixOf a b c d e f ≡ Fault
-            unfolding sixOf
-            six-6 p₆ = rw (p₁, p₂, p₃, p₄, p₅, p₆)
-
-            pub six-7 : {kind : MaybeKind} → maybeKindOf f ≡ MaybeKindRead.MaybeKind kind → sixOf a b c d e f ≡ PartRead.Part (record { number = number; date = date; gaining = gaining; losing = losing; kind = kind })
-            unfolding sixOf
-            six-7 p₆ = rw (p₁, p₂, p₃, p₄, p₅, p₆)
+  six-known p₁ p₂ p₃ p₄ p₅ p₆ = rw (p₁, p₂, p₃, p₄, p₅, p₆)
 
 -- ---- which way the words go
 module _ (w : List ℕ) where

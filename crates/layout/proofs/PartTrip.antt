@@ -36,7 +36,7 @@ use Rattle.fields.proofs.NumberLaws.{digits-trip, digits-back, fits-size, first
 use Rattle.layout.specs.declared.part.Part.{Part}
 use Rattle.layout.specs.declared.part.PartRead.{PartRead}
 use Rattle.layout.specs.Part.{onDigits, onNumber, onDate, onCode, onKind, sixOf, partOf, partFits, fieldsOf, partText, restOfWords, numberOfWords, partOfWords}
-use Rattle.layout.proofs.PartLaws.{six-7, length-part, date-short, code-short, kind-short}
+use Rattle.layout.proofs.PartLaws.{six-known, length-part, date-short, code-short, kind-short}
 
 -- ---- no field has a comma or a colon in it
 module _ (sep : ℕ) (none : fieldByte sep ≡ false) (p : Part) where
@@ -72,7 +72,7 @@ module _ (p : Part) where
       let g = and-left (maybeCodeFits (p .gaining)) _ h₂ in
       let l = and-right (maybeCodeFits (p .gaining)) _ h₂ in
       rw split-part
-      (six-7 _ _ _ _ _ _
+      (six-known _ _ _ _ _ _
       (digits-trip (p .number .first) (first-fits (p .number) n))
       (number-trip (p .number) n)
       (maybe-date-trip (p .date) d)

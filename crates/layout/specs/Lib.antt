@@ -2,3 +2,4 @@ pub mod Part
 pub mod Report
 pub mod Request
 pub mod Correction
+pub mod Walk

@@ -87,16 +87,23 @@ impl Correction {
     pub fn read(s: &[u8]) -> CorrectionRead
         ensures { λ r. ⌜ r ≡ correctionOf (now (s .entry)) ⌝ }
     {
-        if text::cuts(s, 58) != 2 {
+        let a = text::field_end(s, 0, 58);
+        if s.len() <= a {
             return CorrectionRead::Fault;
         }
-        let CorrectionCodeRead::CorrectionCode(code) = read_head(text::piece(s, 58, 0)) else {
+        let CorrectionCodeRead::CorrectionCode(code) = read_head(&s[0..a]) else {
             return CorrectionRead::Fault;
         };
-        let PartRead::Part(u) = read_reported(text::piece(s, 58, 1)) else {
+        let behind = a + 1;
+        let b = text::field_end(s, behind, 58);
+        if s.len() <= b {
+            return CorrectionRead::Fault;
+        }
+        let PartRead::Part(u) = read_reported(&s[behind..b]) else {
             return CorrectionRead::Fault;
         };
-        let PartRead::Part(k) = Part::read(text::piece(s, 58, 2)) else {
+        let rest = b + 1;
+        let PartRead::Part(k) = Part::read(&s[rest..]) else {
             return CorrectionRead::Fault;
         };
         sound(code, u, k)

@@ -5,3 +5,4 @@ pub mod correction;
 pub mod part;
 pub mod report;
 pub mod request;
+mod walk;

@@ -5,6 +5,10 @@ ghost use Prim.Native.Nat.{_+_, _≤_};
 ghost use lib.ListN.{length};
 ghost use Rattle.laws.specs.Overlay.{Laid};
 ghost use Rattle.layout.specs.Part.{partOf, partOfWords, partText};
+use crate::walk::CodeAt;
+use crate::walk::DateAt;
+use crate::walk::DigitsAt;
+use crate::walk::NumberAt;
 use fields::code::MaybeCode;
 use fields::code::MaybeCodeRead;
 use fields::date::MaybeDate;
@@ -12,9 +16,7 @@ use fields::date::MaybeDateRead;
 use fields::kind::MaybeKind;
 use fields::kind::MaybeKindRead;
 use fields::number::Digits;
-use fields::number::DigitsRead;
 use fields::number::Number;
-use fields::number::NumberRead;
 
 pub struct Part {
     pub number: Number,
@@ -33,25 +35,22 @@ impl Part {
     pub fn read(s: &[u8]) -> PartRead
         ensures { λ r. ⌜ r ≡ partOf (now (s .entry)) ⌝ }
     {
-        if text::cuts(s, 44) != 5 {
-            return PartRead::Fault;
-        }
-        let DigitsRead::Digits(first) = Digits::read(text::piece(s, 44, 0)) else {
+        let DigitsAt::Digits(first, a) = crate::walk::digits_at(s, 0) else {
             return PartRead::Fault;
         };
-        let NumberRead::Number(number) = Number::read(first, text::piece(s, 44, 1)) else {
+        let NumberAt::Number(number, b) = crate::walk::number_at(first, s, a) else {
             return PartRead::Fault;
         };
-        let MaybeDateRead::MaybeDate(date) = MaybeDate::read(text::piece(s, 44, 2)) else {
+        let DateAt::Date(date, c) = crate::walk::date_at(s, b) else {
             return PartRead::Fault;
         };
-        let MaybeCodeRead::MaybeCode(gaining) = MaybeCode::read(text::piece(s, 44, 3)) else {
+        let CodeAt::Code(gaining, d) = crate::walk::code_at(s, c) else {
             return PartRead::Fault;
         };
-        let MaybeCodeRead::MaybeCode(losing) = MaybeCode::read(text::piece(s, 44, 4)) else {
+        let CodeAt::Code(losing, e) = crate::walk::code_at(s, d) else {
             return PartRead::Fault;
         };
-        let MaybeKindRead::MaybeKind(kind) = MaybeKind::read(text::piece(s, 44, 5)) else {
+        let MaybeKindRead::MaybeKind(kind) = crate::walk::kind_at(s, e) else {
             return PartRead::Fault;
         };
         PartRead::Part(Part {

@@ -1,0 +1,98 @@
+// The fields of a line read one after the other, each from behind the comma that ends the one before it.
+ghost use mathlib.Core.Path.{_≡_};
+ghost use lib.ListN.{drop};
+ghost use Rattle.fields.specs.Kind.{maybeKindOf};
+ghost use Rattle.layout.specs.Walk.{digitsAt, numberAt, dateAt, codeAt};
+use fields::code::MaybeCode;
+use fields::code::MaybeCodeRead;
+use fields::date::MaybeDate;
+use fields::date::MaybeDateRead;
+use fields::kind::MaybeKind;
+use fields::kind::MaybeKindRead;
+use fields::number::Digits;
+use fields::number::DigitsRead;
+use fields::number::Number;
+use fields::number::NumberRead;
+
+// Each field's value, and the place behind its comma; a fault where it has no value or no comma follows.
+pub enum DigitsAt {
+    Digits(Digits, usize),
+    Fault,
+}
+
+pub enum NumberAt {
+    Number(Number, usize),
+    Fault,
+}
+
+pub enum DateAt {
+    Date(MaybeDate, usize),
+    Fault,
+}
+
+pub enum CodeAt {
+    Code(MaybeCode, usize),
+    Fault,
+}
+
+pub(crate) fn digits_at(s: &[u8], at: usize) -> DigitsAt
+    ensures { λ r. ⌜ r ≡ digitsAt (now (s .entry)) at ⌝ }
+{
+    let end = text::field_end(s, at, 44);
+    if s.len() <= end {
+        return DigitsAt::Fault;
+    }
+    let DigitsRead::Digits(d) = Digits::read(&s[at..end]) else {
+        return DigitsAt::Fault;
+    };
+    DigitsAt::Digits(d, end + 1)
+}
+
+pub(crate) fn number_at(first: Digits, s: &[u8], at: usize) -> NumberAt
+    ensures { λ r. ⌜ r ≡ numberAt first (now (s .entry)) at ⌝ }
+{
+    let end = text::field_end(s, at, 44);
+    if s.len() <= end {
+        return NumberAt::Fault;
+    }
+    let NumberRead::Number(n) = Number::read(first, &s[at..end]) else {
+        return NumberAt::Fault;
+    };
+    NumberAt::Number(n, end + 1)
+}
+
+pub(crate) fn date_at(s: &[u8], at: usize) -> DateAt
+    ensures { λ r. ⌜ r ≡ dateAt (now (s .entry)) at ⌝ }
+{
+    let end = text::field_end(s, at, 44);
+    if s.len() <= end {
+        return DateAt::Fault;
+    }
+    let MaybeDateRead::MaybeDate(d) = MaybeDate::read(&s[at..end]) else {
+        return DateAt::Fault;
+    };
+    DateAt::Date(d, end + 1)
+}
+
+pub(crate) fn code_at(s: &[u8], at: usize) -> CodeAt
+    ensures { λ r. ⌜ r ≡ codeAt (now (s .entry)) at ⌝ }
+{
+    let end = text::field_end(s, at, 44);
+    if s.len() <= end {
+        return CodeAt::Fault;
+    }
+    let MaybeCodeRead::MaybeCode(c) = MaybeCode::read(&s[at..end]) else {
+        return CodeAt::Fault;
+    };
+    CodeAt::Code(c, end + 1)
+}
+
+// All that is left is the kind, which no comma follows.
+pub(crate) fn kind_at(s: &[u8], at: usize) -> MaybeKindRead
+    ensures { λ r. ⌜ r ≡ maybeKindOf (drop at (now (s .entry))) ⌝ }
+{
+    if s.len() < at {
+        return MaybeKindRead::MaybeKind(MaybeKind::Empty);
+    }
+    MaybeKind::read(&s[at..])
+}
