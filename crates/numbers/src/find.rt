@@ -2,7 +2,7 @@
 use crate::lines;
 use fields::number::Number;
 ghost use mathlib.Core.Path.{_≡_};
-ghost use Prim.Native.Nat.{_+_, _*_, _≤_};
+ghost use Prim.Native.Nat.{_+_, _*_, _%_, _≤_};
 ghost use lib.ListN.{length};
 ghost use Rattle.laws.specs.Lists.{table, firstAt};
 ghost use Rattle.fields.specs.Number.{sameNumber};
@@ -15,16 +15,29 @@ pub enum FoundLine {
     Unknown,
 }
 
+// Whether the line i has the number. The lowest byte of its first field tells most lines that do not.
+fn has_number(lines: &[u8], i: usize, low: u8, number: Number) -> bool
+    requires { ⌜ (2 + i * 14 + 14 ≤ length (now lines)) × (low ≡ number .first .0 % 256) ⌝ }
+    ensures { λ r. ⌜ r ≡ sameNumber number (numberAt (now (lines .entry)) i) ⌝ }
+{
+    let at = lines::HEAD + i * lines::LINE;
+    if lines[at] != low {
+        return false;
+    }
+    let l = lines::line_at(lines, i);
+    let x = l.number;
+    Number::same(number, x)
+}
+
 // The place of the first of n lines that has the number; n where none has it.
 pub fn line_of(lines: &[u8], n: usize, number: Number) -> usize
     requires { ⌜ 2 + n * 14 ≤ length (now lines) ⌝ }
     ensures { λ r. ⌜ r ≡ firstAt (sameNumber number) (table n (numberAt (now (lines .entry)))) ⌝ }
 {
+    let low = (number.first.0 % 256) as u8;
     let mut i = 0;
     while i < n {
-        let l = lines::line_at(lines, i);
-        let x = l.number;
-        if Number::same(number, x) {
+        if has_number(lines, i, low, number) {
             return i;
         }
         i += 1;

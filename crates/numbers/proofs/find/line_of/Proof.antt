@@ -13,26 +13,25 @@ use Rattle.numbers.proofs.find.line_of.Statement.{statement}
 use Rattle.numbers.proofs.find.line_of.Tie as tie
 
 abbrev Inv-loop : tie.InvT-loop
-Inv-loop lines n number i₀ i = Searched (sameNumber number) (table n (numberAt lines)) i
+Inv-loop lines n number low i₀ i = Searched (sameNumber number) (table n (numberAt lines)) i
 
 abbrev μ-loop : tie.MeasureT-loop
-μ-loop lines n number i₀ i = n - i
+μ-loop lines n number low i₀ i = n - i
+
+cast-low : tie.Need-cast-low Inv-loop μ-loop
+cast-low c = search needs
 
 loop-holds : tie.Need-loop-holds Inv-loop μ-loop
 loop-holds c = zero-add _
 
-line-at-requires : tie.Need-line-at-requires Inv-loop μ-loop
-line-at-requires c κs = search needs
-
-same-requires : tie.Need-same-requires Inv-loop μ-loop
-same-requires c κs = search needs
+has-number-requires : tie.Need-has-number-requires Inv-loop μ-loop
+has-number-requires c κs = search needs
 
 returns : tie.Need-returns Inv-loop μ-loop
 returns c =
-    let at-loop = c .before .before .before .before .before in
-    let a = at-loop .before .before .args in
-    let l = c .before .before .before .line-at in
-    find-here (now (a .lines)) (a .n) (a .number) (at-loop .loop .i) (at-loop .loop .inv) (l .result) (l .ensures) (search needs) (sym (c .before .same .ensures) ∙ c .if1 .taken)
+    let at-loop = c .before .before .before in
+    let a = at-loop .before .before .before .args in
+    find-here (now (a .lines)) (a .n) (a .number) (at-loop .loop .i) (at-loop .loop .inv) (search needs) (sym (c .before .has-number .ensures) ∙ c .if1 .taken)
 
 add-i : tie.Need-add-i Inv-loop μ-loop
 add-i c = search needs
@@ -42,14 +41,13 @@ loop-less c = search needs
 
 loop-again : tie.Need-loop-again Inv-loop μ-loop
 loop-again c =
-    let at-loop = c .before .before .before .before .before in
-    let a = at-loop .before .before .args in
-    let l = c .before .before .before .line-at in
-    find-on (now (a .lines)) (a .n) (a .number) (at-loop .loop .i) (at-loop .loop .inv) (l .result) (l .ensures) (search needs) (sym (c .before .same .ensures) ∙ c .if1 .left)
+    let at-loop = c .before .before .before in
+    let a = at-loop .before .before .before .args in
+    find-on (now (a .lines)) (a .n) (a .number) (at-loop .loop .i) (at-loop .loop .inv) (search needs) (sym (c .before .has-number .ensures) ∙ c .if1 .left)
 
 returns-2 : tie.Need-returns-2 Inv-loop μ-loop
 returns-2 c =
-    let a = c .before .before .before .args in
+    let a = c .before .before .before .before .args in
     find-none (now (a .lines)) (a .n) (a .number) (c .before .loop .i) (c .before .loop .inv) (c .loop-test .left)
 
 pub line-of-spec : {M : Type 1} → statement M
@@ -58,9 +56,9 @@ line-of-spec =
     (tie.spec
     Inv-loop
     μ-loop
+    cast-low
     loop-holds
-    line-at-requires
-    same-requires
+    has-number-requires
     returns
     add-i
     loop-less
