@@ -1,11 +1,12 @@
 -- A group of tags, read as the elements behind them, is what has its number in front. Assumes nothing.
 --     grouped    the elements behind the tags with F in front are those with φ ≡ F, as they stand
+--     placed     their places, likewise
 --     counted    and there are as many
 --     wanted     there is one exactly if there is such an element
 use mathlib.Core.Path.{_≡_, refl, sym, ap, _∙_}
 use mathlib.Core.Logic.{⊎-elim}
 use mathlib.Core.Bool.{Bool, true, false, cond, _||_}
-use mathlib.Core.List.{List, [], _∷_, _++_, map, map-map, List·Memᴰ, List·Memᴰ·head, List·Memᴰ·tail, List·Memᴰ·not-nil, List·Memᴰ·cases-cons, List·Memᴰ·append-cases, List·Memᴰ·eq-of-singleton}
+use mathlib.Core.List.{List, [], _∷_, _++_, map, map-map, map-id, List·Memᴰ, List·Memᴰ·head, List·Memᴰ·tail, List·Memᴰ·not-nil, List·Memᴰ·cases-cons, List·Memᴰ·append-cases, List·Memᴰ·eq-of-singleton}
 use Prim.Native.Nat.{ℕ, zero, suc, _+_, _%_, _≤_, _<_}
 use native.Mathlib.Nat.{mul-add-mod-self-right, mod-eq-of-lt, eq-or-lt-of-le}
 use native.Mathlib.Omega.{arith}
@@ -106,6 +107,13 @@ module _ (φ : ℕ → ℕ) (l : List ℕ) (short : length l ≤ 16384) (F : ℕ
       ∙ map-map (λ (g : ℕ). getD l (g % 16384) 0) (tag F) places
       ∙ map-same (λ (i : ℕ). getD l (tag F i % 16384) 0) (λ (i : ℕ). getD l i 0) places (λ i m. ap (λ (j : ℕ). getD l j 0) (place-of F i (small i (mem-keep (λ (i : ℕ). eqb (φ (getD l i 0)) F) (from0 (length l)) m))))
       ∙ elements
+
+  pub placed : map (λ (g : ℕ). g % 16384) (group F (tags φ l)) ≡ keep (λ (i : ℕ). eqb (φ (getD l i 0)) F) (table (length l) (λ (i : ℕ). i))
+  placed =
+      ap (map (λ (g : ℕ). g % 16384)) group-is
+      ∙ map-map (λ (g : ℕ). g % 16384) (tag F) places
+      ∙ map-same (λ (i : ℕ). tag F i % 16384) (λ (i : ℕ). i) places (λ i m. place-of F i (small i (mem-keep (λ (i : ℕ). eqb (φ (getD l i 0)) F) (from0 (length l)) m)))
+      ∙ map-id places
 
   pub counted : below (tag (suc F) 0) (tags φ l) ≡ below (tag F 0) (tags φ l) + length (keep (λ (k : ℕ). eqb (φ k) F) l)
   counted =

@@ -1,11 +1,10 @@
 -- Listing the records that pass a test: what a turn of each loop lays down, and that there is room for it. Assumes nothing.
 use mathlib.Core.Path.{_≡_, refl, sym, ap, subst, _∙_}
-use mathlib.Core.Bool.{Bool, true, false, cond}
+use mathlib.Core.Bool.{Bool, true, false}
 use mathlib.Core.List.{List, [], _∷_, _++_, map, map-append}
-use Prim.Native.Nat.{ℕ, zero, suc, _+_, _≤_, _<_}
+use Prim.Native.Nat.{ℕ, suc, _+_, _≤_, _<_}
 use native.Mathlib.Numerals.{add-one}
 use native.Mathlib.Omega.{arith}
-use lib.Dec.{eqb}
 use lib.ListN.{length, set, length-append, length-map, length-take}
 use Rattle.laws.specs.Lists.{table, keep}
 use Rattle.laws.proofs.Lists.{keep-append, keep-end-yes, keep-end-no, keep-at-most}
@@ -74,13 +73,6 @@ module _ (p : Slip → Bool) (r : ℕ → ℕ → List ℕ) (file : ℕ → File
   unfolding listed
   listed-below k = omega (arith, length-map (keep p (slips r file k)) keyOf, keep-at-most p (slips r file k))
 
--- where the records of a file begin
-pub start-kept : (file : ℕ → File) (k kind reports objections : ℕ) → kind ≤ 1 → reports ≡ recordsOf 0 (table k file) → objections ≡ recordsOf 1 (table k file)
-    → cond (eqb kind 0) reports objections ≡ recordsOf kind (table k file)
-start-kept file k zero a b h p q = p
-start-kept file k (suc zero) a b h p q = q
-start-kept file k (suc (suc kind)) a b h p q = absurd (omega arith)
-
 module _ (files regular corrections wanted : List ℕ) where
   abbrev all : ℕ → List ℕ
   all k = listed (candidate (recordsAt regular corrections) wanted) (recordsAt regular corrections) (fileAt files) k
@@ -107,12 +99,6 @@ module _ (files regular corrections wanted : List ℕ) where
   listed-long n keys c g = omega (arith, length-take c keys, ap length (g .laid), g .counted)
 
   module _ (n : ℕ) (s : Sound n files regular corrections) where
-    -- where the records of the file k begin
-    pub begins : (k : ℕ) (f : File) (start reports objections : ℕ) → k < n → f ≡ fileAt files k → reports ≡ recordsOf 0 (table k (fileAt files)) → objections ≡ recordsOf 1 (table k (fileAt files))
-        → start ≡ cond (eqb (f .kind) 0) reports objections → start ≡ recordsOf (f .kind) (table k (fileAt files))
-    begins k f start reports objections h e p q b =
-        b ∙ start-kept (fileAt files) k (f .kind) reports objections (omega (arith, ranged n files regular corrections s k h .kinds, ap (λ (g : File). g .kind) e)) p q
-
     pub room : (k : ℕ) → k < n → length (all k) + fileAt files k .count ≤ 10240
     room k h =
         let r = recordsAt regular corrections in
@@ -134,7 +120,3 @@ module _ (files regular corrections wanted : List ℕ) where
     room-all keys c g =
         let r = recordsAt regular corrections in
         omega (arith, g .counted, listed-below (candidate r wanted) r (fileAt files) n, slips-length r (fileAt files) n (ranged n files regular corrections s), s .reports, s .objections)
-
-    -- the sums that are carried along stay small
-    pub few-before : (k : ℕ) → k ≤ n → (recordsOf 0 (table k (fileAt files)) ≤ 8192) × (recordsOf 1 (table k (fileAt files)) ≤ 2048)
-    few-before k h = (omega (arith, records-grow 0 k n (fileAt files) h, s .reports), omega (arith, records-grow 1 k n (fileAt files) h, s .objections))

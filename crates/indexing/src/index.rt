@@ -95,16 +95,6 @@ fn list_file<'a>(
     r
 }
 
-// Where the records of a file begin in its journal, with as many of each kind before them.
-fn start_of(f: File, reports: usize, objections: usize) -> usize
-    ensures { λ r. ⌜ r ≡ cond (eqb (f .kind) 0) reports objections ⌝ }
-{
-    if f.kind == 0 {
-        return reports;
-    }
-    objections
-}
-
 // Lays the keys of the candidates of the first n files to the front of `keys`, and answers how many there are.
 fn list_files<'a>(
     files: &'a [u8],
@@ -126,7 +116,7 @@ fn list_files<'a>(
     let mut k = 0;
     while k < n {
         let f = files::file_at(files, k);
-        let start = start_of(f, reports, objections);
+        let start = gather::begin(reports, objections, f.kind);
         r = list_file(regular, corrections, f, start, wanted, w, keys, r);
         reports += sums::records_in(f, 0);
         objections += sums::records_in(f, 1);

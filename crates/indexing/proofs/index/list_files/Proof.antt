@@ -7,9 +7,9 @@ use Rattle.laws.specs.Lists.{table}
 use Rattle.journals.specs.Files.{fileAt, recordsOf}
 use Rattle.journals.specs.declared.files.File.{File}
 use Rattle.journals.proofs.Counting.{records-none, records-next}
-use Rattle.working.proofs.GatherLaws.{in-turn}
+use Rattle.working.proofs.GatherLaws.{in-turn, begins, reports-few, objections-few}
 use Rattle.indexing.specs.Index.{Listed}
-use Rattle.indexing.proofs.Listing.{files-none, files-more, begins, room, few-before}
+use Rattle.indexing.proofs.Listing.{files-none, files-more, room}
 use borrow.Author.Needs.{needs}
 use Rattle.indexing.proofs.index.list_files.Statement.{statement}
 use Rattle.indexing.proofs.index.list_files.Tie as tie
@@ -30,8 +30,8 @@ loop-holds c =
 file-at-requires : tie.Need-file-at-requires Inv-loop μ-loop
 file-at-requires c κs = omega (arith, c .before .before .before .before .before .before .pre .0 .listed)
 
-start-of-requires : tie.Need-start-of-requires Inv-loop μ-loop
-start-of-requires c κs = search needs
+begin-requires : tie.Need-begin-requires Inv-loop μ-loop
+begin-requires c κs = search needs
 
 list-file-requires : tie.Need-list-file-requires Inv-loop μ-loop
 list-file-requires c κs =
@@ -42,8 +42,8 @@ list-file-requires c κs =
     let f = read .file-at in
     let inv = at-loop .loop .inv in
     let h : at-loop .loop .k < args .n = omega arith in
-    let q = begins (args .files .now) (args .regular .now) (args .corrections .now) (take (args .w) (args .wanted .now)) (args .n) (start .pre .0) (at-loop .loop .k) (f .result) (c .before .start-of .result) (at-loop .loop .reports) (at-loop .loop .objections) h (f .ensures .0) (inv .2) (inv .3) (c .before .start-of .ensures) in (
-      in-turn (args .n) (args .files .now) (args .regular .now) (args .corrections .now) (start .pre .0) (at-loop .loop .k) (f .result) (c .before .start-of .result) h (f .ensures .0) q,
+    let q = c .before .begin .ensures ∙ begins (args .n) (args .files .now) (args .regular .now) (args .corrections .now) (start .pre .0) (at-loop .loop .k) (f .result) (at-loop .loop .reports) (at-loop .loop .objections) h (f .ensures .0) (inv .2) (inv .3) in (
+      in-turn (args .n) (args .files .now) (args .regular .now) (args .corrections .now) (start .pre .0) (at-loop .loop .k) (f .result) (c .before .begin .result) h (f .ensures .0) q,
       (
         start .pre .1 .0,
         omega (
@@ -66,7 +66,7 @@ add-reports c =
     let at-loop = read .before .before in
     let start = at-loop .before .before .before .before .before in
     let args = start .args in
-    omega (arith, few-before (args .files .now) (args .regular .now) (args .corrections .now) (take (args .w) (args .wanted .now)) (args .n) (start .pre .0) (at-loop .loop .k) (at-loop .loop .inv .0) .0, at-loop .loop .inv .2, c .records-in .ensures .1, read .file-at .ensures .1)
+    omega (arith, reports-few (args .n) (args .files .now) (args .regular .now) (args .corrections .now) (start .pre .0) (at-loop .loop .k) (at-loop .loop .inv .0), at-loop .loop .inv .2, c .records-in .ensures .1, read .file-at .ensures .1)
 
 records-in-requires-2 : tie.Need-records-in-requires-2 Inv-loop μ-loop
 records-in-requires-2 c κs = search needs
@@ -77,7 +77,7 @@ add-objections c =
     let at-loop = read .before .before in
     let start = at-loop .before .before .before .before .before in
     let args = start .args in
-    omega (arith, few-before (args .files .now) (args .regular .now) (args .corrections .now) (take (args .w) (args .wanted .now)) (args .n) (start .pre .0) (at-loop .loop .k) (at-loop .loop .inv .0) .1, at-loop .loop .inv .3, c .records-in2 .ensures .1, read .file-at .ensures .1)
+    omega (arith, objections-few (args .n) (args .files .now) (args .regular .now) (args .corrections .now) (start .pre .0) (at-loop .loop .k) (at-loop .loop .inv .0), at-loop .loop .inv .3, c .records-in2 .ensures .1, read .file-at .ensures .1)
 
 add-k : tie.Need-add-k Inv-loop μ-loop
 add-k c = search needs
@@ -95,12 +95,12 @@ loop-again c =
     let args = start .args in
     let f = read .file-at in
     let inv = at-loop .loop .inv in
-    let q = begins (args .files .now) (args .regular .now) (args .corrections .now) (take (args .w) (args .wanted .now)) (args .n) (start .pre .0) (at-loop .loop .k) (f .result) (begun .start-of .result) (at-loop .loop .reports) (at-loop .loop .objections) (omega arith) (f .ensures .0) (inv .2) (inv .3) (begun .start-of .ensures) in (
+    let q = begun .begin .ensures ∙ begins (args .n) (args .files .now) (args .regular .now) (args .corrections .now) (start .pre .0) (at-loop .loop .k) (f .result) (at-loop .loop .reports) (at-loop .loop .objections) (omega arith) (f .ensures .0) (inv .2) (inv .3) in (
       search needs,
       listed .list-file .kept .1 .1 .1 .1 .1 .1 .0 ∙ inv .1,
       ap (λ (m : ℕ). at-loop .loop .reports + m) (c .before .records-in .ensures .0) ∙ records-next 0 (fileAt (args .files .now)) (at-loop .loop .k) (at-loop .loop .reports) (f .result) (f .ensures .0) (inv .2),
       ap (λ (m : ℕ). at-loop .loop .objections + m) (c .records-in2 .ensures .0) ∙ records-next 1 (fileAt (args .files .now)) (at-loop .loop .k) (at-loop .loop .objections) (f .result) (f .ensures .0) (inv .3),
-      files-more (args .files .now) (args .regular .now) (args .corrections .now) (take (args .w) (args .wanted .now)) (at-loop .loop .k) (f .result) (begun .start-of .result) (at-loop .loop .keys) _ (at-loop .loop .r) _ (f .ensures .0) q (inv .4) (listed .list-file .ensures),
+      files-more (args .files .now) (args .regular .now) (args .corrections .now) (take (args .w) (args .wanted .now)) (at-loop .loop .k) (f .result) (begun .begin .result) (at-loop .loop .keys) _ (at-loop .loop .r) _ (f .ensures .0) q (inv .4) (listed .list-file .ensures),
     )
 
 same-length : tie.Need-same-length Inv-loop μ-loop
@@ -121,7 +121,7 @@ list-files-spec =
     μ-loop
     loop-holds
     file-at-requires
-    start-of-requires
+    begin-requires
     list-file-requires
     records-in-requires
     add-reports
