@@ -2,7 +2,6 @@
 use asking::entry;
 use asking::showable;
 use asking::stand;
-use entries::same;
 use indexing::index;
 use journals::files;
 use numbers::lines;
@@ -17,7 +16,7 @@ ghost use Rattle.numbers.specs.Lines.{lineAt};
 ghost use Rattle.entry_slots.specs.Entries.{entryAt};
 ghost use Rattle.store.specs.Reads.{tableLine, lent, reads};
 ghost use Rattle.working.specs.Working.{Sound};
-ghost use Rattle.entries.specs.Same.{sameEntry};
+ghost use Rattle.comparing.specs.Same.{sameEntry};
 ghost use Rattle.indexing.specs.Index.{Wanted, Indexed};
 ghost use Rattle.answering.specs.Figure.{differs, differsShown, differing, figureAsked};
 
@@ -34,7 +33,7 @@ fn is_other(entries: &[u8], i: usize, s: Standing) -> bool
 {
     let worked = s.entry;
     let stored = entry_slots::entry::entry_at(entries, i);
-    !same::same_entry(stored, worked)
+    !comparing::same_entry(stored, worked)
 }
 
 // Whether the entry of the line i differs from the one worked out.

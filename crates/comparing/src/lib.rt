@@ -1,12 +1,12 @@
 // Whether two entries are equal.
-use crate::entry::Entry;
-use crate::entry::Last;
-use crate::entry::PLACES;
-use crate::entry::Place;
-use crate::report;
+use entries::entry::Entry;
+use entries::entry::Last;
+use entries::entry::PLACES;
+use entries::entry::Place;
+use entries::report;
 ghost use mathlib.Core.Path.{_≡_};
 ghost use Rattle.laws.specs.Lists.{sameLists};
-ghost use Rattle.entries.specs.Same.{samePlace, sameLast, sameEntry};
+ghost use Rattle.comparing.specs.Same.{samePlace, sameLast, sameEntry};
 
 pub fn same_place(p: Place, q: Place) -> bool
     ensures { λ b. ⌜ b ≡ samePlace p q ⌝ }

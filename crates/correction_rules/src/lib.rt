@@ -4,7 +4,6 @@ use entries::entry::Entry;
 use entries::entry::Listed;
 use entries::entry::PLACES;
 use entries::entry::Place;
-use entries::places;
 use entries::report;
 use entries::report::Published;
 use fields::code::Code;

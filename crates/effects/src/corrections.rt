@@ -3,7 +3,6 @@ use correction_rules::Named;
 use entries::entry::Entry;
 use entries::entry::PLACES;
 use entries::entry::Place;
-use entries::places;
 use entries::report;
 use fields::code::Code;
 use verdict_numbers::Verdict;

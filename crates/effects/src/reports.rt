@@ -3,7 +3,6 @@ use entries::entry::Entry;
 use entries::entry::Last;
 use entries::entry::PLACES;
 use entries::entry::Place;
-use entries::places;
 use entries::report::Report;
 use fields::kind::Kind;
 use verdict_numbers::Verdict;

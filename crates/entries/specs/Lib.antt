@@ -1,4 +1,2 @@
 pub mod Report
 pub mod Entry
-pub mod Places
-pub mod Same

@@ -16,12 +16,12 @@ use Rattle.laws.proofs.Tests.{and-left, and-right, and-true, or-left, or-right,
 use Rattle.laws.proofs.Firsts.{first-passes, none-at, none-set}
 use Rattle.calendar.specs.declared.dates.CalendarDays.{CalendarDays}
 use Rattle.fields.specs.declared.kind.Kind.{Kind}
 use Rattle.entries.specs.declared.report.Report.{Report}
 use Rattle.entries.specs.declared.entry.Place.{Place}
 use Rattle.entries.specs.Report.{kindNo, sameKind, matches}
 use Rattle.entries.specs.Entry.{freePlace}
-use Rattle.entries.specs.Places.{holdsOpen, isFree, isOpen, placeOf, lowestFree, keptIn, lapsed, noTwoEqual}
+use Rattle.places.specs.Places.{holdsOpen, isFree, isOpen, placeOf, lowestFree, keptIn, lapsed, noTwoEqual}
 use Rattle.entries.proofs.SameLaws.{same-kind}
 
 -- ---- some places are freed, the others are as they were
 pub data Thinned : List Place → List Place → Type 0 where

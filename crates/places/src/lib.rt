@@ -1,16 +1,16 @@
 // The places for open reports: searched, filled and freed.
-use crate::entry;
-use crate::entry::PLACES;
-use crate::entry::Place;
-use crate::report;
-use crate::report::Report;
 use calendar::dates::CalendarDays;
+use entries::entry;
+use entries::entry::PLACES;
+use entries::entry::Place;
+use entries::report;
+use entries::report::Report;
 use fields::kind::Kind;
 ghost use mathlib.Core.Path.{_≡_};
 ghost use mathlib.Core.List.{map};
 ghost use lib.ListN.{getD, set};
 ghost use Rattle.entries.specs.Entry.{freePlace};
-ghost use Rattle.entries.specs.Places.{holdsOpen, lowestFree, placeOf, isOpen, isFull, lapsed, keptIn};
+ghost use Rattle.places.specs.Places.{holdsOpen, lowestFree, placeOf, isOpen, isFull, lapsed, keptIn};
 
 // The place holds an open report of the kind k that matches r.
 pub fn holds(p: Place, k: Kind, r: Report) -> bool

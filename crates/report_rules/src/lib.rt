@@ -3,7 +3,6 @@ use calendar::dates::CalendarDays;
 use entries::entry;
 use entries::entry::Entry;
 use entries::entry::Listed;
-use entries::places;
 use entries::report;
 use entries::report::Report;
 use fields::code::Code;

@@ -6,7 +6,6 @@ use calendar::working_days::WorkingDays;
 use entries::entry::Last;
 use entries::entry::PLACES;
 use entries::entry::Place;
-use entries::places;
 use entries::report::Report;
 use fields::code::Code;
 use fields::kind::Kind;

@@ -1,6 +1,5 @@
 // Every line's entry worked out afresh and written, and the places of those lines whose stored entry was another.
 use asking::stand;
-use entries::same;
 use entry_slots::entry;
 use indexing::index;
 use numbers::lines;
@@ -57,7 +56,7 @@ fn rework_line<'a>(
     let worked = s.entry;
     let stored = entry::entry_at(entries, i);
     entry::put_entry(entries, i, worked);
-    !same::same_entry(stored, worked)
+    !comparing::same_entry(stored, worked)
 }
 
 // Lays the place i behind the first `count` of the list where its entry changed, and answers how many stand there then.

@@ -23,7 +23,7 @@ use Rattle.fields.specs.Number.{digitsFrom, digitsFieldOf, numberOf, sameNumber
 use Rattle.layout.specs.Part.{sixOf, partOf}
 use Rattle.layout.specs.Report.{wholeOf, reportFrom, reportOf}
 use Rattle.layout.specs.Correction.{headOf, reportedOf, isSound, soundOf, threeOf, correctionOf, namedNumber}
-use Rattle.entries.specs.Places.{holdsOpen, isFree, lapsed}
+use Rattle.places.specs.Places.{holdsOpen, isFree, lapsed}
 use Rattle.correction_rules.specs.Corrections.{isAmong}
 use Rattle.report_tests.specs.Tests.{returnPeriod}
 use Rattle.verdict.specs.Step.{standOn, entryAfter}

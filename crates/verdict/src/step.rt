@@ -7,7 +7,6 @@ use entries::entry::Line;
 use entries::entry::Listed;
 use entries::entry::PLACES;
 use entries::entry::Place;
-use entries::places;
 use entries::report;
 use entries::report::Published;
 use entries::report::Report;

@@ -7,7 +7,6 @@ use entries::entry;
 use entries::entry::Entry;
 use entries::entry::Line;
 use entries::entry::Listed;
-use entries::places;
 use entries::report;
 use fields::code::Code;
 use verdict::step;

@@ -1,8 +1,8 @@
--- `entries::same::same_entry` meets its contract: each operand of `&` is the definition's, by the callees' contracts. Assumes nothing.
-use Rattle.entries.specs.Same.{sameEntry}
+-- `comparing::same_entry` meets its contract: each operand of `&` is the definition's, by the callees' contracts. Assumes nothing.
+use Rattle.comparing.specs.Same.{sameEntry}
 use borrow.Author.Needs.{needs}
-use Rattle.entries.proofs.same.same_entry.Statement.{statement}
-use Rattle.entries.proofs.same.same_entry.Tie as tie
+use Rattle.comparing.proofs.same_entry.Statement.{statement}
+use Rattle.comparing.proofs.same_entry.Tie as tie
 
 same-last-requires : tie.Need-same-last-requires
 same-last-requires c κs = search needs

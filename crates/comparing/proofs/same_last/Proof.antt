@@ -1,7 +1,7 @@
--- `entries::same::same_last` meets its contract: the arms' equations and computation. Assumes nothing.
+-- `comparing::same_last` meets its contract: the arms' equations and computation. Assumes nothing.
 use borrow.Author.Needs.{needs}
-use Rattle.entries.proofs.same.same_last.Statement.{statement}
-use Rattle.entries.proofs.same.same_last.Tie as tie
+use Rattle.comparing.proofs.same_last.Statement.{statement}
+use Rattle.comparing.proofs.same_last.Tie as tie
 
 enum-told : tie.Need-enum-told
 enum-told c = search needs

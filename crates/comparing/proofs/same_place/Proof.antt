@@ -1,8 +1,8 @@
--- `entries::same::same_place` meets its contract: each operand of `&` is the definition's. Assumes nothing.
-use Rattle.entries.specs.Same.{samePlace}
+-- `comparing::same_place` meets its contract: each operand of `&` is the definition's. Assumes nothing.
+use Rattle.comparing.specs.Same.{samePlace}
 use borrow.Author.Needs.{needs}
-use Rattle.entries.proofs.same.same_place.Statement.{statement}
-use Rattle.entries.proofs.same.same_place.Tie as tie
+use Rattle.comparing.proofs.same_place.Statement.{statement}
+use Rattle.comparing.proofs.same_place.Tie as tie
 
 kind-no-requires : tie.Need-kind-no-requires
 kind-no-requires c κs = search needs

@@ -1,4 +1,4 @@
--- `entries::same::same_places` meets its contract: the loop compares from the front (`laws`). Assumes nothing.
+-- `comparing::same_places` meets its contract: the loop compares from the front (`laws`). Assumes nothing.
 use mathlib.Core.Path.{_≡_, _∙_, sym}
 use borrow.Author.Tests.{not-true, not-false}
 use Prim.Native.Nat.{_≤_, _-_}
@@ -6,11 +6,11 @@ use native.Mathlib.Omega.{arith}
 use lib.ListN.{drop}
 use Rattle.laws.specs.Lists.{sameLists}
 use Rattle.laws.proofs.Same.{same-on, same-failed, same-passed}
 use Rattle.entries.specs.Entry.{placeCount, freePlace}
-use Rattle.entries.specs.Same.{samePlace}
+use Rattle.comparing.specs.Same.{samePlace}
 use borrow.Author.Needs.{needs}
-use Rattle.entries.proofs.same.same_places.Statement.{statement}
-use Rattle.entries.proofs.same.same_places.Tie as tie
+use Rattle.comparing.proofs.same_places.Statement.{statement}
+use Rattle.comparing.proofs.same_places.Tie as tie
 
 abbrev Inv-loop : tie.InvT-loop
 Inv-loop ps qs i₀ i = (i ≤ placeCount) × (sameLists samePlace (drop i ps) (drop i qs) ≡ sameLists samePlace ps qs)

@@ -1,11 +1,11 @@
--- `entries::places::freed` meets its contract; past the last place a store changes nothing. Assumes nothing.
+-- `places::freed` meets its contract; past the last place a store changes nothing. Assumes nothing.
 use mathlib.Core.Path.{sym}
 use native.Mathlib.Omega.{arith}
 use lib.Seq.{set-out}
 use Rattle.entries.specs.Entry.{freePlace}
 use borrow.Author.Needs.{needs}
-use Rattle.entries.proofs.places.freed.Statement.{statement}
-use Rattle.entries.proofs.places.freed.Tie as tie
+use Rattle.places.proofs.freed.Statement.{statement}
+use Rattle.places.proofs.freed.Tie as tie
 
 free-place-requires : tie.Need-free-place-requires
 free-place-requires c κs = search needs

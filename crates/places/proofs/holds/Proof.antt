@@ -1,8 +1,8 @@
--- `entries::places::holds` meets its contract: each operand of `&` is the definition's. Assumes nothing.
-use Rattle.entries.specs.Places.{holdsOpen}
+-- `places::holds` meets its contract: each operand of `&` is the definition's. Assumes nothing.
+use Rattle.places.specs.Places.{holdsOpen}
 use borrow.Author.Needs.{needs}
-use Rattle.entries.proofs.places.holds.Statement.{statement}
-use Rattle.entries.proofs.places.holds.Tie as tie
+use Rattle.places.proofs.holds.Statement.{statement}
+use Rattle.places.proofs.holds.Tie as tie
 
 kind-no-requires : tie.Need-kind-no-requires
 kind-no-requires c κs = search needs

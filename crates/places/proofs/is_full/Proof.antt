@@ -1,12 +1,12 @@
--- `entries::places::is_full` meets its contract: some place passes exactly if the first that does is one of them (`laws`). Assumes nothing.
+-- `places::is_full` meets its contract: some place passes exactly if the first that does is one of them (`laws`). Assumes nothing.
 use lib.ListN.{length}
 use mathlib.Core.Path.{_≡_}
 use Rattle.laws.proofs.Firsts.{any-first}
 use Rattle.entries.specs.Entry.{placeCount}
-use Rattle.entries.specs.Places.{isFree}
+use Rattle.places.specs.Places.{isFree}
 use borrow.Author.Needs.{needs}
-use Rattle.entries.proofs.places.is_full.Statement.{statement}
-use Rattle.entries.proofs.places.is_full.Tie as tie
+use Rattle.places.proofs.is_full.Statement.{statement}
+use Rattle.places.proofs.is_full.Tie as tie
 
 lowest-free-requires : tie.Need-lowest-free-requires
 lowest-free-requires c κs = search needs

@@ -1,12 +1,12 @@
--- `entries::places::is_open` meets its contract: some place passes exactly if the first that does is one of them (`laws`). Assumes nothing.
+-- `places::is_open` meets its contract: some place passes exactly if the first that does is one of them (`laws`). Assumes nothing.
 use lib.ListN.{length}
 use mathlib.Core.Path.{_≡_}
 use Rattle.laws.proofs.Firsts.{any-first}
 use Rattle.entries.specs.Entry.{placeCount}
-use Rattle.entries.specs.Places.{holdsOpen}
+use Rattle.places.specs.Places.{holdsOpen}
 use borrow.Author.Needs.{needs}
-use Rattle.entries.proofs.places.is_open.Statement.{statement}
-use Rattle.entries.proofs.places.is_open.Tie as tie
+use Rattle.places.proofs.is_open.Statement.{statement}
+use Rattle.places.proofs.is_open.Tie as tie
 
 place-of-requires : tie.Need-place-of-requires
 place-of-requires c κs = search needs

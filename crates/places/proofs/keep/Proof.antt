@@ -1,11 +1,11 @@
--- `entries::places::keep` meets its contract; where all places are taken a store changes nothing. Assumes nothing.
+-- `places::keep` meets its contract; where all places are taken a store changes nothing. Assumes nothing.
 use mathlib.Core.Path.{sym}
 use native.Mathlib.Omega.{arith}
 use lib.Seq.{set-out}
-use Rattle.entries.specs.Places.{lowestFree}
+use Rattle.places.specs.Places.{lowestFree}
 use borrow.Author.Needs.{needs}
-use Rattle.entries.proofs.places.keep.Statement.{statement}
-use Rattle.entries.proofs.places.keep.Tie as tie
+use Rattle.places.proofs.keep.Statement.{statement}
+use Rattle.places.proofs.keep.Tie as tie
 
 lowest-free-requires : tie.Need-lowest-free-requires
 lowest-free-requires c κs = search needs

@@ -1,9 +1,9 @@
--- `entries::places::lapse` meets its contract: each return is found from the test that led there. Assumes nothing.
+-- `places::lapse` meets its contract: each return is found from the test that led there. Assumes nothing.
 use borrow.Author.Needs.{needs}
 use Rattle.laws.proofs.Tests.{rules}
-use Rattle.entries.specs.Places.{lapsed}
-use Rattle.entries.proofs.places.lapse.Statement.{statement}
-use Rattle.entries.proofs.places.lapse.Tie as tie
+use Rattle.places.specs.Places.{lapsed}
+use Rattle.places.proofs.lapse.Statement.{statement}
+use Rattle.places.proofs.lapse.Tie as tie
 
 free-place-requires : tie.Need-free-place-requires
 free-place-requires c κs = search needs

@@ -1,12 +1,12 @@
--- `entries::places::lapse_all` meets its contract: after i turns the function is done to the first i places (`laws`). Assumes nothing.
+-- `places::lapse_all` meets its contract: after i turns the function is done to the first i places (`laws`). Assumes nothing.
 use Prim.Native.Nat.{_≤_, _-_}
 use native.Mathlib.Omega.{arith}
 use Rattle.laws.proofs.Loops.{Mapped, map-on, map-done}
 use Rattle.entries.specs.Entry.{placeCount, freePlace}
-use Rattle.entries.specs.Places.{lapsed}
+use Rattle.places.specs.Places.{lapsed}
 use borrow.Author.Needs.{needs}
-use Rattle.entries.proofs.places.lapse_all.Statement.{statement}
-use Rattle.entries.proofs.places.lapse_all.Tie as tie
+use Rattle.places.proofs.lapse_all.Statement.{statement}
+use Rattle.places.proofs.lapse_all.Tie as tie
 
 abbrev Inv-loop : tie.InvT-loop
 Inv-loop d ps₀ i₀ ps i = (i ≤ placeCount) × Mapped (lapsed d) ps₀ ps i

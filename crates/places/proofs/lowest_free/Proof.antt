@@ -1,12 +1,12 @@
--- `entries::places::lowest_free` meets its contract: the loop's invariant is that of a search (`laws`). Assumes nothing.
+-- `places::lowest_free` meets its contract: the loop's invariant is that of a search (`laws`). Assumes nothing.
 use Prim.Native.Nat.{_≤_, _-_}
 use native.Mathlib.Omega.{arith}
 use Rattle.laws.proofs.Loops.{Searched, search-on, search-here, search-none}
 use Rattle.entries.specs.Entry.{placeCount, freePlace}
-use Rattle.entries.specs.Places.{isFree}
+use Rattle.places.specs.Places.{isFree}
 use borrow.Author.Needs.{needs}
-use Rattle.entries.proofs.places.lowest_free.Statement.{statement}
-use Rattle.entries.proofs.places.lowest_free.Tie as tie
+use Rattle.places.proofs.lowest_free.Statement.{statement}
+use Rattle.places.proofs.lowest_free.Tie as tie
 
 abbrev Inv-loop : tie.InvT-loop
 Inv-loop places i₀ i = (i ≤ placeCount) × Searched isFree places i

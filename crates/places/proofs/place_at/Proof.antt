@@ -1,11 +1,11 @@
--- `entries::places::place_at` meets its contract: past the last place `getD` has its default, the free place. Assumes nothing.
+-- `places::place_at` meets its contract: past the last place `getD` has its default, the free place. Assumes nothing.
 use mathlib.Core.Path.{_∙_, sym}
 use native.Mathlib.Omega.{arith}
 use lib.ListN.{List·getD-eq-default}
 use Rattle.entries.specs.Entry.{freePlace}
 use borrow.Author.Needs.{needs}
-use Rattle.entries.proofs.places.place_at.Statement.{statement}
-use Rattle.entries.proofs.places.place_at.Tie as tie
+use Rattle.places.proofs.place_at.Statement.{statement}
+use Rattle.places.proofs.place_at.Tie as tie
 
 mul-result : tie.Need-mul-result
 mul-result c = search needs

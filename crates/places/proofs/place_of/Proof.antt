@@ -1,13 +1,13 @@
--- `entries::places::place_of` meets its contract: the loop's invariant is that of a search (`laws`). Assumes nothing.
+-- `places::place_of` meets its contract: the loop's invariant is that of a search (`laws`). Assumes nothing.
 use mathlib.Core.Path.{_∙_, sym}
 use Prim.Native.Nat.{_≤_, _-_}
 use native.Mathlib.Omega.{arith}
 use Rattle.laws.proofs.Loops.{Searched, search-on, search-here, search-none}
 use Rattle.entries.specs.Entry.{placeCount, freePlace}
-use Rattle.entries.specs.Places.{holdsOpen}
+use Rattle.places.specs.Places.{holdsOpen}
 use borrow.Author.Needs.{needs}
-use Rattle.entries.proofs.places.place_of.Statement.{statement}
-use Rattle.entries.proofs.places.place_of.Tie as tie
+use Rattle.places.proofs.place_of.Statement.{statement}
+use Rattle.places.proofs.place_of.Tie as tie
 
 abbrev Inv-loop : tie.InvT-loop
 Inv-loop k r places i₀ i = (i ≤ placeCount) × Searched (holdsOpen k r) places i
