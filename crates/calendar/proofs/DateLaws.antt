@@ -4,7 +4,7 @@ use mathlib.Core.Path.{_≡_, refl, ap, _∙_}
 use mathlib.Core.Bool.{Bool, true, false, cond}
 use mathlib.Core.Logic.{⊎-elim}
 use mathlib.Core.List.{List}
-use Prim.Native.Nat.{ℕ, zero, suc, _+_, _-_, _*_, _≤_, _<_, zero-le}
+use Prim.Native.Nat.{ℕ, zero, suc, _+_, _-_, _*_, _/_, _≤_, _<_, zero-le}
 use native.Mathlib.Decide.{le-ind}
 use native.Mathlib.Numerals.{add-one}
 use native.Mathlib.Omega.{arith}
@@ -14,7 +14,7 @@ use borrow.Author.Tests.{leb-true, leb-false, eqb-true, lt-ltb, le-ltb}
 use Rattle.laws.specs.Sums.{sumTo}
 use Rattle.laws.proofs.Sums.{sumTo-suc, sumTo-mono}
 use Rattle.laws.specs.Lists.{all, table}
-use Rattle.laws.proofs.Tables.{all-at, getD-table, tested}
+use Rattle.laws.proofs.Tables.{all-at, tested}
 use Rattle.laws.proofs.Tests.{cond-le, le-or-lt}
 use Rattle.calendar.specs.Dates.{lastDay, leap, yearDays, months, monthDays, yearStart, monthStart, lastFrom, yearOf, monthOf}
 
@@ -89,29 +89,26 @@ pub monthStart-beyond : (y m : ℕ) → 12 < m → monthStart y m ≡ yearDays y
 monthStart-beyond y m h =
     le-ind (λ (k : ℕ). monthStart y k ≡ yearDays y) (monthStart-end y) (λ k g q. rw (← (add-one k)) (omega (arith, monthStart-next y k, monthDays-none y k g))) m h
 
-yearStart-le : (i : ℕ) → yearStart (1998 + i) ≤ 366 * i
-unfolding yearStart sumTo
-yearStart-le zero = zero-le
-yearStart-le (suc i) =
-    let e : 1998 + suc i ≡ 1998 + i + 1 = omega arith in
-    rw e (omega (arith, yearStart-next (1998 + i) (omega arith), yearDays-le (1998 + i), yearStart-le i))
-
 pub monthStart-le : (y m : ℕ) → monthStart y m ≤ 31 * m
 unfolding monthStart sumTo
 monthStart-le y zero = zero-le
 monthStart-le y (suc m) = rw (← (add-one m)) (omega (arith, monthStart-next y m, monthDays-le y m, monthStart-le y m))
 
--- ---- tables of where they start
-unfoldable pub yearStarts : List ℕ
-yearStarts = table 52 (λ i. yearStart (1998 + i))
+-- ---- where they start, in short: a test of each year
+unfoldable yearIn : ℕ → Bool
+yearIn i = eqb (365 * i + (i + 1) / 4) (yearStart (1998 + i))
 
-pub year-in : (y : ℕ) → 1998 ≤ y → y ≤ 2049 → (getD yearStarts (y - 1998) 0 ≡ yearStart y) × (getD yearStarts (y - 1998) 0 ≤ 366 * (y - 1998))
-unfolding yearStarts
+years-in : all yearIn (table 52 (λ (i : ℕ). i)) ≡ true
+unfolding yearIn all table sumTo yearStart yearDays leap
+years-in = refl
+
+pub year-in : (y : ℕ) → 1998 ≤ y → y ≤ 2049 → 365 * (y - 1998) + (y - 1998 + 1) / 4 ≡ yearStart y
+unfolding yearIn
 year-in y low high =
     let e : 1998 + (y - 1998) ≡ y = omega arith in
-    let p : getD yearStarts (y - 1998) 0 ≡ yearStart (1998 + (y - 1998)) = getD-table 52 (y - 1998) (λ i. yearStart (1998 + i)) 0 (omega arith) in
-    (p ∙ ap yearStart e, omega (arith, p, yearStart-le (y - 1998)))
+    eqb-true _ _ (tested yearIn 52 years-in (y - 1998) (omega arith)) ∙ ap yearStart e
 
+-- the months
 -- of a year that has no leap day
 unfoldable pub monthStarts : List ℕ
 monthStarts = table 13 (sumTo (λ k. getD (months false) k 0))

@@ -48,62 +48,6 @@ pub const LAST_DAY: u16 = 18992;
 
 const MONTHS: [u16; 13] = [0, 31, 28, 31, 30, 31, 30, 31, 31, 30, 31, 30, 31];
 
-// The day number of 1 January of each year from 1998 on.
-const YEAR_STARTS: [u16; 52] = [
-    0,
-    365,
-    730,
-    1096,
-    1461,
-    1826,
-    2191,
-    2557,
-    2922,
-    3287,
-    3652,
-    4018,
-    4383,
-    4748,
-    5113,
-    5479,
-    5844,
-    6209,
-    6574,
-    6940,
-    7305,
-    7670,
-    8035,
-    8401,
-    8766,
-    9131,
-    9496,
-    9862,
-    10227,
-    10592,
-    10957,
-    11323,
-    11688,
-    12053,
-    12418,
-    12784,
-    13149,
-    13514,
-    13879,
-    14245,
-    14610,
-    14975,
-    15340,
-    15706,
-    16071,
-    16436,
-    16801,
-    17167,
-    17532,
-    17897,
-    18262,
-    18628,
-];
-
 // The days before the first of each month, of a year that has no leap day; there is no month 0.
 const MONTH_STARTS: [u16; 13] = [0, 0, 31, 59, 90, 120, 151, 181, 212, 243, 273, 304, 334];
 
@@ -151,13 +95,13 @@ fn month_days(year: u16, month: u8) -> u16
     MONTHS[i]
 }
 
-// The day number of 1 January.
+// The day number of 1 January: each fourth year from 2000 on puts in a day.
 fn year_start(year: u16) -> u16
     requires { ⌜ (1998 ≤ year) × (year ≤ 2049) ⌝ }
     ensures { λ r. ⌜ (r ≡ yearStart year) × (r ≤ 366 * (year - 1998)) ⌝ }
 {
-    let i = (year - 1998) as usize;
-    YEAR_STARTS[i]
+    let i = year - 1998;
+    365 * i + (i + 1) / 4
 }
 
 // The days of a year before the first of a month.
