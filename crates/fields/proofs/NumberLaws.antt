@@ -3,7 +3,7 @@ use Prim.Native.Nat.{ℕ, _+_, _-_, _≤_}
 use native.Mathlib.Nat.{zero-add}
 use native.Mathlib.Omega.{arith}
 use mathlib.Core.Path.{_≡_, refl, sym, ap, ap₂, _∙_}
-use mathlib.Core.Bool.{Bool, true, false, cond}
+use mathlib.Core.Bool.{Bool, true, false, cond, and-false}
 use mathlib.Core.List.{List, [], _∷_}
 use lib.Dec.{leb, eqb}
 use lib.ListN.{length}
@@ -50,11 +50,11 @@ module _ (first last : Digits) where
   unfolding blockFits
   block-first p = rw p
 
-  module _ (p : digitsFits first ≡ true) where
-    pub block-last : digitsFits last ≡ false → blockFits first last ≡ false
-    unfolding blockFits
-    block-last q = rw (p, q)
+  pub block-unfit : digitsFits last ≡ false → blockFits first last ≡ false
+  unfolding blockFits
+  block-unfit q = rw q (and-false (digitsFits first))
 
+  module _ (p : digitsFits first ≡ true) where
     module _ (q : digitsFits last ≡ true) where
       pub block-sizes : (digitsSize first ≡ digitsSize last → ⊥) → blockFits first last ≡ false
       unfolding blockFits block
@@ -91,6 +91,29 @@ digits-back f d h = go (leb (length f) 11) refl (digitsOf true f) refl h
         rw (← same) (whole x (leb-true (length f) 11 p) q)
     go true p Spelt.Fault q e = absurd (let z : _≡_ {A = ℕ} 0 1 = cc in omega arith)
     go false p v q e = absurd (let z : _≡_ {A = ℕ} 0 1 = cc in omega arith)
+
+pub digits-counted : (f : List ℕ) (d : Digits) → digitsFieldOf f ≡ DigitsRead.Digits d → digitsSize d ≡ length f
+digits-counted f d h = sym (length-field d) ∙ ap length (digits-back f d h .0)
+
+-- a 1 before k digits
+lead-fits : (d : Digits) (k : ℕ) → k ≤ 11 → down k (d .0) ≡ 1 → (digitsFits d ≡ true) × (digitsSize d ≡ k)
+lead-fits d k l e =
+    let whole = read-whole (digits k (d .0)) (d .0) (omega (arith, length-digits k (d .0))) (all-digits k (d .0)) (rw e at (spelt-digits k (d .0))) in
+    (whole .1, sym (length-field d) ∙ ap length (whole .0) ∙ length-digits k (d .0))
+
+-- a block whose last field has k digits
+module _ (first last : Digits) (k : ℕ) (q : digitsFits last ≡ true) (size : digitsSize last ≡ k) where
+  pub lead-none : (down k (first .0) ≡ 1 → ⊥) → blockFits first last ≡ false
+  lead-none n = go (digitsFits first) refl
+    where
+      go : (t : Bool) → digitsFits first ≡ t → blockFits first last ≡ false
+      go true p = block-sizes first last p q (λ e. n (rw (e ∙ size) at (fits-leads first p)))
+      go false p = block-first first last p
+
+  pub lead-decades : down k (first .0) ≡ 1 → blockFits first last ≡ someDecade (digits k (first .0)) (digits k (last .0))
+  lead-decades e =
+      let w = lead-fits first k (omega (arith, fits-size last q)) e in
+      block-decades first last (w .0) q (w .1 ∙ sym size) ∙ rw (w .1)
 
 -- ---- both fields
 empty-text : digitsText (record { 0 = 1 }) ≡ []

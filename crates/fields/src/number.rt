@@ -1,6 +1,6 @@
 // A number: the digits of its two fields. The second field is empty, or names the last number of a block.
 ghost use mathlib.Core.Path.{_≡_};
-ghost use mathlib.Core.Bool.{_&&_};
+ghost use mathlib.Core.Bool.{true, _&&_};
 ghost use lib.Dec.{leb, eqb};
 ghost use Prim.Native.Nat.{_+_, _≤_, _/_};
 ghost use lib.ListN.{length};
@@ -103,20 +103,25 @@ fn decades(a: u64, b: u64, k: usize) -> bool
     false
 }
 
+// Whether a first field makes a block with a last one of `k` digits: it has as many, behind its leading 1.
+fn begins_block(first: Digits, last: Digits, k: usize) -> bool
+    requires { ⌜ (digitsFits last ≡ true) × (digitsSize last ≡ k) ⌝ }
+    ensures { λ r. ⌜ r ≡ blockFits first last ⌝ }
+{
+    if text::leading(first.0, k) != 1 {
+        return false;
+    }
+    decades(first.0, last.0, k)
+}
+
 // Whether two fields of digits are the first and the last number of a block.
 fn is_block(first: Digits, last: Digits) -> bool
     ensures { λ r. ⌜ r ≡ blockFits first last ⌝ }
 {
-    if !first.fits() {
-        return false;
-    }
     if !last.fits() {
         return false;
     }
-    if first.len() != last.len() {
-        return false;
-    }
-    decades(first.0, last.0, first.len())
+    begins_block(first, last, last.len())
 }
 
 pub struct Number {
@@ -143,7 +148,7 @@ impl Number {
         let DigitsRead::Digits(last) = Digits::read(f) else {
             return NumberRead::Fault;
         };
-        if !is_block(first, last) {
+        if !begins_block(first, last, f.len()) {
             return NumberRead::Fault;
         }
         NumberRead::Number(Number { first, last })
