@@ -1,5 +1,6 @@
 pub mod PartLaws
 pub mod WalkLaws
+pub mod WidthLaws
 pub mod PartTrip
 pub mod RecordBytes
 pub mod ReportLaws

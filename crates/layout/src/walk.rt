@@ -1,8 +1,9 @@
 // The fields of a line read one after the other, each from behind the comma that ends the one before it.
 ghost use mathlib.Core.Path.{_≡_};
+ghost use Prim.Native.Nat.{_≤_};
 ghost use lib.ListN.{drop};
 ghost use Rattle.fields.specs.Kind.{maybeKindOf};
-ghost use Rattle.layout.specs.Walk.{digitsAt, numberAt, dateAt, codeAt};
+ghost use Rattle.layout.specs.Walk.{endBy, digitsAt, numberAt, dateAt, codeAt};
 use fields::code::MaybeCode;
 use fields::code::MaybeCodeRead;
 use fields::date::MaybeDate;
@@ -45,7 +46,8 @@ pub(crate) fn digits_at(s: &[u8], at: usize) -> DigitsAt
     let DigitsRead::Digits(d) = Digits::read(&s[at..end]) else {
         return DigitsAt::Fault;
     };
-    DigitsAt::Digits(d, end + 1)
+    let next = end + 1;
+    DigitsAt::Digits(d, next)
 }
 
 pub(crate) fn number_at(first: Digits, s: &[u8], at: usize) -> NumberAt
@@ -58,33 +60,56 @@ pub(crate) fn number_at(first: Digits, s: &[u8], at: usize) -> NumberAt
     let NumberRead::Number(n) = Number::read(first, &s[at..end]) else {
         return NumberAt::Fault;
     };
-    NumberAt::Number(n, end + 1)
+    let next = end + 1;
+    NumberAt::Number(n, next)
+}
+
+// Where the field that starts at `at` ends if it is empty or has `k` bytes: a date and a code have as many as they have.
+fn end_by(s: &[u8], at: usize, k: usize) -> usize
+    requires { ⌜ k ≤ 8 ⌝ }
+    ensures { λ r. ⌜ r ≡ endBy k (now (s .entry)) at ⌝ }
+{
+    if s.len() <= at {
+        return at;
+    }
+    if s[at] == 44 {
+        return at;
+    }
+    at + k
 }
 
 pub(crate) fn date_at(s: &[u8], at: usize) -> DateAt
     ensures { λ r. ⌜ r ≡ dateAt (now (s .entry)) at ⌝ }
 {
-    let end = text::field_end(s, at, 44);
+    let end = end_by(s, at, 8);
     if s.len() <= end {
+        return DateAt::Fault;
+    }
+    if s[end] != 44 {
         return DateAt::Fault;
     }
     let MaybeDateRead::MaybeDate(d) = MaybeDate::read(&s[at..end]) else {
         return DateAt::Fault;
     };
-    DateAt::Date(d, end + 1)
+    let next = end + 1;
+    DateAt::Date(d, next)
 }
 
 pub(crate) fn code_at(s: &[u8], at: usize) -> CodeAt
     ensures { λ r. ⌜ r ≡ codeAt (now (s .entry)) at ⌝ }
 {
-    let end = text::field_end(s, at, 44);
+    let end = end_by(s, at, 4);
     if s.len() <= end {
+        return CodeAt::Fault;
+    }
+    if s[end] != 44 {
         return CodeAt::Fault;
     }
     let MaybeCodeRead::MaybeCode(c) = MaybeCode::read(&s[at..end]) else {
         return CodeAt::Fault;
     };
-    CodeAt::Code(c, end + 1)
+    let next = end + 1;
+    CodeAt::Code(c, next)
 }
 
 // All that is left is the kind, which no comma follows.

@@ -2,21 +2,31 @@
 use mathlib.Core.Path.{sym, _∙_}
 use native.Mathlib.Omega.{arith}
 use borrow.Author.Needs.{needs}
-use Rattle.layout.proofs.WalkLaws.{end-from, code-none, code-then}
+use Rattle.layout.proofs.WidthLaws.{end-by-from, code-beyond, code-open, code-wrong, code-right}
 use Rattle.layout.proofs.walk.code_at.Statement.{statement}
 use Rattle.layout.proofs.walk.code_at.Tie as tie
 
-field-end-requires : tie.Need-field-end-requires
-field-end-requires c κs = search needs
+end-by-requires : tie.Need-end-by-requires
+end-by-requires c κs = search needs
 
 returns : tie.Need-returns
-returns c = sym (code-none _ _ _ (c .before .field-end .ensures) (c .if1 .taken))
+returns c = sym (code-beyond _ _ _ (c .before .end-by .ensures) (c .if1 .taken))
+
+shared-slice-read-if2 : tie.Need-shared-slice-read-if2
+shared-slice-read-if2 c = omega arith
+
+returns-2 : tie.Need-returns-2
+returns-2 c = sym (code-open _ _ _ (c .before .before .before .end-by .ensures) (c .before .before .if1 .left) (c .if2 .taken))
 
 sub-read : tie.Need-sub-read
-sub-read c = let a = c .before .before .before .args in omega (arith, end-from (a .s .now) (a .at), c .before .field-end .ensures)
+sub-read c =
+    let a = c .before .before .before .before .before .args in
+    omega (arith, end-by-from (a .s .now) (a .at) 4, c .before .before .before .end-by .ensures)
 
 part-read-start : tie.Need-part-read-start
-part-read-start c = let a = c .before .before .before .args in omega (arith, end-from (a .s .now) (a .at), c .before .field-end .ensures)
+part-read-start c =
+    let a = c .before .before .before .before .before .args in
+    omega (arith, end-by-from (a .s .now) (a .at) 4, c .before .before .before .end-by .ensures)
 
 part-read-end : tie.Need-part-read-end
 part-read-end c = omega arith
@@ -30,31 +40,33 @@ enum-known-c c = search needs
 enum-told : tie.Need-enum-told
 enum-told c = search needs
 
-returns-2 : tie.Need-returns-2
-returns-2 c =
-    let l = c .before .before .before .before in
-    sym (code-then _ _ _ (l .before .field-end .ensures) (l .if1 .left) (sym (c .before .before .read .ensures) ∙ c .enum-told .given .1))
-
-add-t5 : tie.Need-add-t5
-add-t5 c = search needs
-
 returns-3 : tie.Need-returns-3
 returns-3 c =
+    let l = c .before .before .before .before in
+    sym (code-wrong _ _ _ (l .before .before .before .end-by .ensures) (l .before .before .if1 .left) (sym (c .before .before .read .ensures) ∙ c .enum-told .given .1))
+
+add-next : tie.Need-add-next
+add-next c = search needs
+
+returns-4 : tie.Need-returns-4
+returns-4 c =
     let l = c .before .before .before .before .before in
-    sym (code-then _ _ _ (l .before .field-end .ensures) (l .if1 .left) (sym (c .before .before .before .read .ensures) ∙ c .before .c .given .1))
+    sym (code-right _ _ _ (l .before .before .before .end-by .ensures) (l .before .before .if1 .left) (l .if2 .left) (sym (c .before .before .before .read .ensures) ∙ c .before .c .given .1))
 
 pub code-at-spec : {M : Type 1} → statement M
 code-at-spec =
     tie.close
     (tie.spec
-    field-end-requires
+    end-by-requires
     returns
+    shared-slice-read-if2
+    returns-2
     sub-read
     part-read-start
     part-read-end
     read-requires
     enum-known-c
     enum-told
-    returns-2
-    add-t5
-    returns-3)
+    returns-3
+    add-next
+    returns-4)

@@ -35,8 +35,8 @@ returns-2 c =
     let l = c .before .before .before .before in
     sym (number-then _ _ _ _ (l .before .field-end .ensures) (l .if1 .left) (sym (c .before .before .read .ensures) ∙ c .enum-told .given .1))
 
-add-t6 : tie.Need-add-t6
-add-t6 c = search needs
+add-next : tie.Need-add-next
+add-next c = search needs
 
 returns-3 : tie.Need-returns-3
 returns-3 c =
@@ -56,5 +56,5 @@ number-at-spec =
     enum-known-n
     enum-told
     returns-2
-    add-t6
+    add-next
     returns-3)
