@@ -20,17 +20,11 @@ use Rattle.working.specs.Working.{InFile}
 use Rattle.working.proofs.GatherLaws.{in-turn}
 use Rattle.working.proofs.Readable.{readable-sound}
 use Rattle.fitting.specs.Renewing.{lastFiled, renewedEntries}
-use Rattle.renewing.specs.Turns.{filedFrom, namedTo, newAt, countTo, Workable, Redone, RecordRenewed}
+use Rattle.renewing.specs.Turns.{filedFrom, namedTo, newAt, Workable, RecordRenewed, Staged}
 use Rattle.renewing.proofs.LastFile.{last-read}
 use Rattle.renewing.proofs.Renewed.{redone-all}
 use Rattle.renewing.proofs.Stages.{named-none, named-stage, named-all, all-read, count-none, count-all}
 use Rattle.renewing.proofs.Writing.{redone-none, redone-same, redone-then}
-
--- the entries of the numbers that the first j records of the file name are worked out, and the records of these numbers are counted
-pub record Staged (all : List Filed) (f : Filed) (j : ℕ) (lines before after : List ℕ) (sum : ℕ) : Type 0 where
-  pub redone : Redone (namedTo f j) all lines before after
-  pub counted : sum ≡ countTo all f j
-  pub few : sum ≤ 10240 * j
 
 module _ (all : List Filed) (f : Filed) (lines before : List ℕ) where
   pub staged-none : Staged all f 0 lines before before 0
@@ -55,6 +49,17 @@ module _ (all : List Filed) (f : Filed) (lines before : List ℕ) where
 
     pub staged-entries : lineCount lines * 100 ≤ length before → after ≡ renewedEntries all f (map tableLine (linesOf lines)) before
     staged-entries room = redone-all all f lines before room after (redone-same all lines (namedTo f j) (named rules f) (λ n. named-all f n j e) (s .redone))
+
+-- writing entries keeps what is asked
+pub still-workable : {n : ℕ} {lines files regular corrections entries : List ℕ} → Workable n lines files regular corrections entries → (now : List ℕ) → length now ≡ length entries → Workable n lines files regular corrections now
+still-workable w now e = record {
+  counted = w .counted;
+  sound = w .sound;
+  lineRoom = w .lineRoom;
+  fewLines = w .fewLines;
+  once = w .once;
+  entryRoom = omega (arith, w .entryRoom);
+}
 
 -- ---- what a store that reads as one gives
 module _ (lines files regular corrections entries : List ℕ) (whole : isReadable (lent lines files regular corrections entries) ≡ true) where

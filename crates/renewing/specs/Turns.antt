@@ -3,10 +3,12 @@ use mathlib.Core.Path.{_≡_}
 use mathlib.Core.Bool.{Bool, true, cond, not, _&&_}
 use mathlib.Core.List.{List}
 use Prim.Native.Nat.{ℕ, _+_, _*_, _≤_, _<_}
-use lib.ListN.{length, drop}
+use lib.Dec.{ltb}
+use lib.ListN.{length, take, drop}
 use Rattle.laws.specs.Lists.{table, any, keep, noneTwice}
 use Rattle.laws.specs.Overlay.{overlay}
 use Rattle.laws.specs.Slots.{slotAt}
+use Rattle.groups.specs.Groups.{tags}
 use Rattle.fields.specs.declared.number.Number.{Number}
 use Rattle.fields.specs.Number.{sameNumber}
 use Rattle.model.specs.Rules.{Event}
@@ -18,6 +20,7 @@ use Rattle.entry_slots.specs.Entries.{entrySlot}
 use Rattle.store.specs.Reads.{tableLine}
 use Rattle.rules.specs.Rules.{rules}
 use Rattle.working.specs.Working.{Sound}
+use Rattle.indexing.specs.Index.{front, Wanted, Indexed}
 
 -- a file whose records begin at `start` in its journal, as the model has it
 unfoldable pub filedFrom : (ℕ → ℕ → List ℕ) → File → ℕ → Filed
@@ -30,6 +33,20 @@ numberFrom f i = numberOf rules (eventAt f i)
 -- whether one of the file's first j records names the number
 unfoldable pub namedTo : Filed → ℕ → Number → Bool
 namedTo f j n = any (about rules n) (table j (eventAt f))
+
+-- whether a place is among the first j, and its record names the number
+unfoldable pub earlier : Filed → ℕ → Number → ℕ → Bool
+earlier f j n i = ltb i j && sameNumber (numberFrom f i) n
+
+-- the first field of the number that the record at a place names, as it stands in front of the place
+unfoldable pub frontFrom : Filed → ℕ → ℕ
+frontFrom f i = front (numberFrom f i .first .0)
+
+-- the first w tags are those of the file's records, in order
+pub record Tagged (f : Filed) (wanted : List ℕ) (w : ℕ) : Type 0 where
+  pub counted : w ≡ length (f .records)
+  pub few : w ≤ 10240
+  pub places : take w wanted ≡ tags (frontFrom f) (table w (λ (i : ℕ). i))
 
 -- whether the record at j is the first of the file that names the number
 unfoldable pub newAt : Filed → ℕ → Number → Bool
@@ -47,6 +64,11 @@ pub record Workable (n : ℕ) (lines files regular corrections entries : List �
   pub fewLines : lineCount lines ≤ 1024
   pub once : noneTwice sameNumber (table (lineCount lines) (numberAt lines)) ≡ true
   pub entryRoom : 102400 ≤ length entries
+
+-- what is asked of the index: it is that of the first n files for the first w tags
+pub record Ready (n : ℕ) (files regular corrections wanted : List ℕ) (w : ℕ) (keys places : List ℕ) (c : ℕ) : Type 0 where
+  pub ordered : Wanted wanted w
+  pub indexed : Indexed n files regular corrections (take w wanted) keys places c
 
 -- the entry of the line k, worked out afresh, as its slot
 abbrev pub slotAfresh : List Filed → List ℕ → ℕ → List ℕ
@@ -72,3 +94,9 @@ pub record RecordRenewed (all : List Filed) (f : Filed) (j : ℕ) (lines before 
   pub redone : Redone (newAt f j) all lines before after
   pub counted : countTo all f (j + 1) ≡ countTo all f j + r
   pub few : r ≤ 10240
+
+-- what `renew_records` and `renew_file` do and answer, up to the record at j: the entries of the numbers that the first j records of the file name are worked out, and the records of these numbers are counted
+pub record Staged (all : List Filed) (f : Filed) (j : ℕ) (lines before after : List ℕ) (sum : ℕ) : Type 0 where
+  pub redone : Redone (namedTo f j) all lines before after
+  pub counted : sum ≡ countTo all f j
+  pub few : sum ≤ 10240 * j

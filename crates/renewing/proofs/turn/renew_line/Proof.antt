@@ -7,8 +7,10 @@ use Rattle.renewing.proofs.turn.renew_line.Tie as tie
 line-at-requires : tie.Need-line-at-requires
 line-at-requires c κs = search needs
 
-work-out-requires : tie.Need-work-out-requires
-work-out-requires c κs = search needs
+work-indexed-requires : tie.Need-work-indexed-requires
+work-indexed-requires c κs =
+    let start = c .before .before .before .before .before .before .before .before .before in
+    (start .pre .0 .sound, (start .pre .1 .0 .ordered, start .pre .1 .0 .indexed))
 
 put-entry-requires : tie.Need-put-entry-requires
 put-entry-requires c κs = search needs
@@ -22,14 +24,14 @@ returns c =
     let read = worked .before .before .before .before in
     let start = read .before .before .before .before .before .before in
     let args = start .args in
-    line-worked (args .lines .now) (args .files .now) (args .regular .now) (args .corrections .now) _ _ (args .n) (args .k) (read .line-at .result) (worked .work-out .result .standing) (worked .work-out .result .count) (start .pre .0 .counted) (read .line-at .ensures) (worked .work-out .ensures) (c .before .before .put-entry .ensures)
+    line-worked (args .lines .now) (args .files .now) (args .regular .now) (args .corrections .now) _ _ (args .n) (args .k) (read .line-at .result) (worked .work-indexed .result .standing) (worked .work-indexed .result .count) (start .pre .0 .counted) (read .line-at .ensures) (worked .work-indexed .ensures) (c .before .before .put-entry .ensures)
 
 pub renew-line-spec : {M : Type 1} → statement M
 renew-line-spec =
     tie.close
     (tie.spec
     line-at-requires
-    work-out-requires
+    work-indexed-requires
     put-entry-requires
     same-length
     returns)

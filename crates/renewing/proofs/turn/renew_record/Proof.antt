@@ -3,6 +3,7 @@ use mathlib.Core.Path.{sym, _∙_}
 use Rattle.journals.specs.Reads.{recordsAt}
 use Rattle.renewing.specs.Turns.{filedFrom}
 use Rattle.renewing.proofs.Steps.{seen-before, seen-first}
+use native.Mathlib.Omega.{arith}
 use borrow.Author.Needs.{needs}
 use Rattle.renewing.proofs.turn.renew_record.Statement.{statement}
 use Rattle.renewing.proofs.turn.renew_record.Tie as tie
@@ -11,7 +12,9 @@ number-at-requires : tie.Need-number-at-requires
 number-at-requires c κs = search needs
 
 named-before-requires : tie.Need-named-before-requires
-named-before-requires c κs = search needs
+named-before-requires c κs =
+    let start = c .before .before .before .before .before .before in
+    (start .pre .1 .1 .0, (omega (arith, start .pre .1 .1 .1 .0), start .pre .1 .1 .1 .1))
 
 returns : tie.Need-returns
 returns c =

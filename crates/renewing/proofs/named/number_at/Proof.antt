@@ -1,9 +1,9 @@
--- `renewing::turn::number_at` meets its contract: the callees' contracts, one put into the other. Assumes nothing.
+-- `renewing::named::number_at` meets its contract: the callees' contracts, one put into the other. Assumes nothing.
 use Rattle.journals.specs.Reads.{recordsAt}
 use Rattle.renewing.proofs.Stages.{number-read}
 use borrow.Author.Needs.{needs}
-use Rattle.renewing.proofs.turn.number_at.Statement.{statement}
-use Rattle.renewing.proofs.turn.number_at.Tie as tie
+use Rattle.renewing.proofs.named.number_at.Statement.{statement}
+use Rattle.renewing.proofs.named.number_at.Tie as tie
 
 add-record-at : tie.Need-add-record-at
 add-record-at c = search needs
