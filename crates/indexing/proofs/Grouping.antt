@@ -1,9 +1,12 @@
 -- Groups as the code searches for them: where a group stands among tags in order, and tags laid and put in order. Assumes nothing.
 use mathlib.Core.Path.{_≡_, sym, ap, _∙_}
+use mathlib.Core.Bool.{_&&_}
+use mathlib.Core.Logic.{⊎-elim}
 use mathlib.Core.List.{List, _++_}
-use Prim.Native.Nat.{ℕ, suc, _+_, _-_, _*_, _≤_}
+use Prim.Native.Nat.{ℕ, suc, _+_, _-_, _*_, _≤_, _<_}
 use native.Mathlib.Omega.{arith}
-use lib.Dec.{leb}
+use borrow.Author.Tests.{lt-ltb, le-ltb}
+use lib.Dec.{leb, ltb}
 use lib.ListN.{length, take, drop, getD}
 use lib.Seq.{getD-take, length-take-le}
 use Rattle.laws.specs.Lists.{table}
@@ -12,8 +15,9 @@ use Rattle.laws.proofs.Order.{inOrder-ordered, inOrder-of-ordered}
 use Rattle.laws.proofs.ByKey.{by-number}
 use Rattle.laws.proofs.Rising.{take-sorted-any}
 use Rattle.laws.proofs.Tables.{table-cong}
+use Rattle.laws.proofs.Tests.{le-or-lt}
 use Rattle.groups.specs.Groups.{below, tag, tags, group}
-use Rattle.groups.proofs.Below.{below-most, below-rise}
+use Rattle.groups.proofs.Below.{sorted-ordered, below-most, below-past, below-here, below-rise}
 
 -- ---- where a group stands
 module _ (l : List ℕ) (digits : ℕ) where
@@ -22,6 +26,29 @@ module _ (l : List ℕ) (digits : ℕ) where
 
   pub group-to : (to : ℕ) → to ≡ below ((digits + 1) * 16384) l → to ≡ below (tag (suc digits) 0) l
   group-to to e = let at : (digits + 1) * 16384 ≡ tag (suc digits) 0 = omega arith in e ∙ ap (λ (k : ℕ). below k l) at
+
+  -- there is one exactly if the first that is not below it does not come behind it
+  pub group-some : sorted l ≡ l → (from : ℕ) → from ≡ below (digits * 16384) l → (ltb from (length l) && ltb (getD l from 0) ((digits + 1) * 16384)) ≡ ltb (below (tag digits 0) l) (below (tag (suc digits) 0) l)
+  group-some o from e = ap (λ (k : ℕ). ltb from (length l) && ltb (getD l from 0) k) end ∙ ⊎-elim none (λ (h : from < length l). ⊎-elim (behind h) (here h) (le-or-lt (tag (suc digits) 0) (getD l from 0))) (le-or-lt (length l) from)
+    where
+      end : (digits + 1) * 16384 ≡ tag (suc digits) 0
+      end = omega arith
+
+      at : from ≡ below (tag digits 0) l
+      at = group-from from e
+
+      none : length l ≤ from → (ltb from (length l) && ltb (getD l from 0) (tag (suc digits) 0)) ≡ ltb (below (tag digits 0) l) (below (tag (suc digits) 0) l)
+      none h = rw (le-ltb from (length l) h) (sym (le-ltb (below (tag digits 0) l) (below (tag (suc digits) 0) l) (omega (arith, at, below-most (tag (suc digits) 0) l))))
+
+      behind : from < length l → tag (suc digits) 0 ≤ getD l from 0 → (ltb from (length l) && ltb (getD l from 0) (tag (suc digits) 0)) ≡ ltb (below (tag digits 0) l) (below (tag (suc digits) 0) l)
+      behind h b =
+          rw (lt-ltb from (length l) h, le-ltb (getD l from 0) (tag (suc digits) 0) b)
+          (sym (le-ltb (below (tag digits 0) l) (below (tag (suc digits) 0) l) (omega (arith, at, below-here (tag (suc digits) 0) l (sorted-ordered l o) from h b))))
+
+      here : from < length l → getD l from 0 < tag (suc digits) 0 → (ltb from (length l) && ltb (getD l from 0) (tag (suc digits) 0)) ≡ ltb (below (tag digits 0) l) (below (tag (suc digits) 0) l)
+      here h b =
+          rw (lt-ltb from (length l) h, lt-ltb (getD l from 0) (tag (suc digits) 0) b)
+          (sym (lt-ltb (below (tag digits 0) l) (below (tag (suc digits) 0) l) (omega (arith, at, below-past (tag (suc digits) 0) l (sorted-ordered l o) from h b))))
 
   module _ (o : sorted l ≡ l) (from to : ℕ) (e : from ≡ below (digits * 16384) l) (f : to ≡ below ((digits + 1) * 16384) l) where
     pub group-within : (from ≤ to) × (to ≤ length l)

@@ -7,9 +7,9 @@ use journals::records::Journal;
 use journals::sums;
 use working::gather;
 ghost use mathlib.Core.Path.{_≡_};
-ghost use mathlib.Core.Bool.{cond};
+ghost use mathlib.Core.Bool.{cond, _&&_};
 ghost use Prim.Native.Nat.{_+_, _*_, _%_, _≤_, _<_};
-ghost use lib.Dec.{eqb};
+ghost use lib.Dec.{eqb, ltb};
 ghost use lib.ListN.{length, take, getD};
 ghost use Rattle.laws.specs.Lists.{table};
 ghost use Rattle.groups.specs.Groups.{tag, tags};
@@ -26,15 +26,25 @@ pub const FRONTS: u64 = 281474976710656;
 // How many places a tag can tell apart.
 pub const PLACES: u64 = 16384;
 
-// Whether one of the first w tags has the first field in front.
+// Whether there is a key at `at` among the first w, and it is below `end`.
+fn is_below(keys: &[u64], w: usize, at: usize, end: u64) -> bool
+    requires { ⌜ w ≤ length (now keys) ⌝ }
+    ensures { λ r. ⌜ r ≡ (ltb at (length (take w (now (keys .entry)))) && ltb (getD (take w (now (keys .entry))) at 0) end) ⌝ }
+{
+    if at < w {
+        return keys[at] < end;
+    }
+    false
+}
+
+// Whether one of the first w tags has the first field in front: the first that is not below them all.
 pub fn is_wanted(wanted: &[u64; 10240], w: usize, digits: u64) -> bool
     requires { ⌜ Wanted (now wanted) w ⌝ }
     ensures { λ r. ⌜ r ≡ isWanted (take w (now (wanted .entry))) digits ⌝ }
 {
     let front = digits % FRONTS;
     let from = groups::search(wanted, w, front * PLACES);
-    let to = groups::search(wanted, w, (front + 1) * PLACES);
-    from < to
+    is_below(wanted, w, from, (front + 1) * PLACES)
 }
 
 // Whether a record may name a number with a wanted first field, by the bytes up to its first comma.

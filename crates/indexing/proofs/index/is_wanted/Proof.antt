@@ -1,9 +1,9 @@
--- `indexing::index::is_wanted` meets its contract: two searches. Assumes nothing.
-use lib.Dec.{ltb}
+-- `indexing::index::is_wanted` meets its contract: a search, and a look at where it ends (`group-some`). Assumes nothing.
+use mathlib.Core.Path.{_∙_}
+use borrow.Author.Needs.{needs}
 use lib.ListN.{take}
 use Rattle.indexing.specs.Index.{front, isWanted}
-use Rattle.indexing.proofs.Grouping.{group-from, group-to}
-use borrow.Author.Needs.{needs}
+use Rattle.indexing.proofs.Grouping.{group-some}
 use Rattle.indexing.proofs.index.is_wanted.Statement.{statement}
 use Rattle.indexing.proofs.index.is_wanted.Tie as tie
 
@@ -13,24 +13,21 @@ mul-search c = search needs
 search-requires : tie.Need-search-requires
 search-requires c κs = search needs
 
-add-search : tie.Need-add-search
-add-search c = search needs
+add-is-below : tie.Need-add-is-below
+add-is-below c = search needs
 
-mul-search-2 : tie.Need-mul-search-2
-mul-search-2 c = search needs
+mul-is-below : tie.Need-mul-is-below
+mul-is-below c = search needs
 
-search-requires-2 : tie.Need-search-requires-2
-search-requires-2 c κs = search needs
+is-below-requires : tie.Need-is-below-requires
+is-below-requires c κs = search needs
 
 returns : tie.Need-returns
 unfolding isWanted
 returns c =
-    let args = c .before .before .args in
-    let from = c .before .search in
-    let to = c .search2 in
-    λ i. ltb (group-from (take (args .w) (args .wanted .now)) (front (args .digits)) (from .result) (from .ensures) i) (group-to (take (args .w) (args .wanted .now)) (front (args .digits)) (to .result) (to .ensures) i)
+    let from = c .before .before in
+    let start = from .before in
+    c .is-below .ensures ∙ group-some (take (start .args .w) (start .args .wanted .now)) (front (start .args .digits)) (start .pre .ordered) (from .search .result) (from .search .ensures)
 
 pub is-wanted-spec : {M : Type 1} → statement M
-is-wanted-spec =
-    tie.close
-    (tie.spec mul-search search-requires add-search mul-search-2 search-requires-2 returns)
+is-wanted-spec = tie.close (tie.spec mul-search search-requires add-is-below mul-is-below is-below-requires returns)
