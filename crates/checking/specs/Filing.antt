@@ -1,5 +1,4 @@
--- What filing answers, and what it leaves in the buffers: paper 01, "What filing answers". Assumes nothing: these are definitions.
-use mathlib.Core.Path.{_≡_}
+-- The limits, and the checks of filing in their order: paper 01, "What filing answers". Assumes nothing: these are definitions.
 use mathlib.Core.Bool.{Bool, cond, _&&_}
 use mathlib.Core.List.{List, [], _∷_, _++_, flatMap}
 use Prim.Native.Nat.{ℕ}
@@ -11,9 +10,8 @@ use Rattle.fields.specs.Code.{codeOf}
 use Rattle.fields.specs.declared.code.CodeRead.{CodeRead}
 use Rattle.files.specs.Judged.{judgedFile}
 use Rattle.files.specs.declared.judge.Judged.{Judged}
-use Rattle.model.specs.Model.{Filed, Store, alike}
-use Rattle.rules.specs.Rules.{rules}
-use Rattle.store.specs.Reads.{Buffers, Held, held, isReadable}
+use Rattle.model.specs.Model.{Filed, alike}
+use Rattle.store.specs.Reads.{Buffers, held, isReadable}
 use Rattle.entering.specs.declared.kind.Filable.{Filable}
 use Rattle.entering.specs.Entering.{fileKind, filedAs}
 use Rattle.checking.specs.declared.answer.Answer.{Answer}
