@@ -33,8 +33,8 @@ use Rattle.model.specs.Model as model
 use Rattle.model.proofs.Stores.{reached-once}
 use Rattle.rules.specs.Rules.{rules, standings, recordOf, lineBy}
 use Rattle.rules.proofs.Promises.{entry-worked-afresh, same-history, standing-entry}
-use Rattle.asking.specs.declared.why.Stored.{Stored}
-use Rattle.asking.specs.declared.why.WhyAnswer.{WhyAnswer}
+use Rattle.pairs.specs.declared.Stored.{Stored}
+use Rattle.pairs.specs.declared.WhyAnswer.{WhyAnswer}
 use Rattle.asking.specs.Items.{itemAt}
 use Rattle.asking.specs.Why.{storedAs, pairOf, whyOn, whyIn}
 use Rattle.asking.specs.Record.{pointVerdict, askedAs}

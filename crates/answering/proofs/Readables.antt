@@ -18,7 +18,7 @@ use Rattle.store.proofs.Checks.{Long, long, few-lines, few-files, few-reports, 
 use Rattle.store.proofs.Whole.{whole-long, whole-table, whole-files, files-good}
 use Rattle.asking.specs.declared.answer.Answer.{Answer}
 use Rattle.asking.specs.declared.entry.EntryAnswer.{EntryAnswer}
-use Rattle.asking.specs.declared.why.WhyAnswer.{WhyAnswer}
+use Rattle.pairs.specs.declared.WhyAnswer.{WhyAnswer}
 use Rattle.asking.specs.declared.record.Asked.{Asked}
 use Rattle.asking.specs.Showable.{isShowable}
 use Rattle.asking.specs.Standing.{linesIn, hasEntries, entryIn, entryBefore, notHeld}

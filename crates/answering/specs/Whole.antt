@@ -9,7 +9,7 @@ use Rattle.journals.specs.declared.records.Journal.{Journal}
 use Rattle.store.specs.Reads.{Held}
 use Rattle.asking.specs.declared.answer.Answer.{Answer}
 use Rattle.asking.specs.declared.entry.EntryAnswer.{EntryAnswer}
-use Rattle.asking.specs.declared.why.WhyAnswer.{WhyAnswer}
+use Rattle.pairs.specs.declared.WhyAnswer.{WhyAnswer}
 use Rattle.asking.specs.declared.record.Asked.{Asked}
 use Rattle.asking.specs.Standing.{notHeld, entryIn, entryBefore}
 use Rattle.asking.specs.Why.{whyIn}

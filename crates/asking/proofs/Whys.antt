@@ -17,11 +17,12 @@ use Rattle.numbers.specs.Lines.{lineAt, lineCount}
 use Rattle.numbers.specs.Find.{foundLine}
 use Rattle.numbers.specs.declared.find.FoundLine.the-variants.{At, Unknown}
 use Rattle.store.specs.Reads.{tableLine}
-use Rattle.asking.specs.declared.why.WhyAnswer.{WhyAnswer}
-use Rattle.asking.specs.declared.why.WhyAnswer.the-variants.{UnknownNumber, Unreadable}
+use Rattle.pairs.specs.declared.WhyAnswer.{WhyAnswer}
+use Rattle.pairs.specs.declared.WhyAnswer.the-variants.{UnknownNumber, Unreadable}
 use Rattle.asking.specs.Showable.{isShowable}
 use Rattle.asking.specs.Standing.{linesIn}
-use Rattle.asking.specs.Why.{pairOf, listedPair, whyOn, whyIn, whyShown}
+use Rattle.pairs.specs.Pairs.{listedPair}
+use Rattle.asking.specs.Why.{pairOf, whyOn, whyIn, whyShown}
 use Rattle.asking.proofs.Lines.{found-line, no-line}
 use Rattle.asking.proofs.Showing.{showable}
 use Rattle.asking.proofs.Standings.{length-first}

@@ -11,14 +11,12 @@ use Rattle.entries.specs.Report.{publisherOf}
 use Rattle.verdict.specs.declared.step.Why.{Why}
 use Rattle.model.specs.Rules.{TableLine}
 use Rattle.model.specs.Model.{Filed, entryOver, lineOf}
-use Rattle.journals.specs.Files.{recordsIn}
 use Rattle.journals.specs.Reads.{readFiles}
 use Rattle.journals.specs.Records.{recordIn}
-use Rattle.journals.specs.declared.files.File.{File}
 use Rattle.rules.specs.Rules.{rules, standings}
-use Rattle.asking.specs.declared.why.Stored.{Stored}
-use Rattle.asking.specs.declared.why.WhyAnswer.{WhyAnswer}
-use Rattle.asking.specs.declared.why.WhyAnswer.the-variants.{UnknownNumber, Unreadable}
+use Rattle.pairs.specs.declared.Stored.{Stored}
+use Rattle.pairs.specs.declared.WhyAnswer.{WhyAnswer}
+use Rattle.pairs.specs.declared.WhyAnswer.the-variants.{UnknownNumber, Unreadable}
 use Rattle.asking.specs.Showable.{isShowable}
 use Rattle.asking.specs.Standing.{linesIn}
 
@@ -76,22 +74,3 @@ secondPlace WhyAnswer.Unreadable = 8192
 -- the part of the regular journal at a place; beyond all reports it is empty
 abbrev pub partAt : List ℕ → ℕ → List ℕ
 partAt regular place = recordIn 45 8192 regular place
-
--- ---- the same over the list of files, as the buffer has it
-unfoldable pub isListedOf : ℕ → ℕ → File → Bool
-isListedOf publisher day f = eqb (f .kind) 0 && eqb (f .publisher) publisher && eqb (f .day) day
-
-unfoldable pub startBy : ℕ → ℕ → List File → ℕ
-startBy publisher day [] = 0
-startBy publisher day (f ∷ fs) = cond (isListedOf publisher day f) 0 (recordsIn 0 f + startBy publisher day fs)
-
-abbrev pub listedAs : List File → Place → Stored
-listedAs files p = record {
-  place = startBy (publisherOf (p .report) .0) (p .day .0) files + p .at;
-  publisher = publisherOf (p .report);
-  day = p .day;
-}
-
-abbrev pub listedPair : List File → Why → WhyAnswer
-listedPair files Why.Nothing = WhyAnswer.Nothing
-listedPair files (Why.Pair a b) = WhyAnswer.Pair (listedAs files a) (listedAs files b)

@@ -6,12 +6,12 @@ use asking::record;
 use asking::record::Asked;
 use asking::stand;
 use asking::why;
-use asking::why::Stored;
-use asking::why::WhyAnswer;
 use entries::entry::Last;
 use fields::number::Number;
 use journals::records::Journal;
 use numbers::lines;
+use pairs::Stored;
+use pairs::WhyAnswer;
 
 fn show_stored(s: Stored) {
     print::text(b" at ");

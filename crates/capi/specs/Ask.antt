@@ -7,7 +7,7 @@ use Rattle.journals.specs.declared.records.Journal.{Journal}
 use Rattle.journals.specs.declared.records.Journal.the-variants.{Regular, Correction}
 use Rattle.verdict_numbers.specs.Numbers.{numberOf}
 use Rattle.asking.specs.declared.record.Asked.{Asked}
-use Rattle.asking.specs.declared.why.WhyAnswer.{WhyAnswer}
+use Rattle.pairs.specs.declared.WhyAnswer.{WhyAnswer}
 use Rattle.asking.specs.Numbers.{whyNumber, askedNumber}
 use Rattle.asking.specs.Why.{firstPlace, secondPlace}
 use Rattle.answering.specs.declared.figure.FigureAnswer.{FigureAnswer}

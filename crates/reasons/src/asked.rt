@@ -1,9 +1,9 @@
 // What is asked of the library.
-use asking::why::WhyAnswer;
 use fields::number::NumberRead;
 use journals::records::Journal;
 use journals::records::REPORTS;
 use journals::records::record_bytes;
+use pairs::WhyAnswer;
 
 // Why the number that a word names stands where it does.
 pub fn why<'a>(

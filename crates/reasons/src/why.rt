@@ -1,7 +1,5 @@
 // why STORE NUMBER...: the two reports under which a number moved last.
 use crate::asked;
-use asking::why::Stored;
-use asking::why::WhyAnswer;
 use commands::end;
 use commands::opened;
 use desk::args;
@@ -15,6 +13,8 @@ use journals::records::Journal;
 use libc::STDOUT_FILENO;
 use page::Page;
 use page::ROOM;
+use pairs::Stored;
+use pairs::WhyAnswer;
 use shown::piece;
 
 // A tab, RECORD, a tab, PUBLISHED

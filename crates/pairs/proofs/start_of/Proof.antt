@@ -1,4 +1,4 @@
--- `asking::why::start_of` meets its contract: what was passed and what is left make the whole (`Starts`). Assumes nothing.
+-- `pairs::start_of` meets its contract: what was passed and what is left make the whole (`Starts`). Assumes nothing.
 use denote.Ref.{now}
 use mathlib.Core.Path.{_≡_, sym, _∙_, refl}
 use Prim.Native.Nat.{_+_, _*_, _-_, _≤_}
@@ -6,11 +6,11 @@ use native.Mathlib.Omega.{arith}
 use lib.ListN.{drop}
 use Rattle.laws.specs.Lists.{table}
 use Rattle.journals.specs.Files.{fileAt}
-use Rattle.asking.specs.Why.{startBy}
-use Rattle.asking.proofs.Starts.{start-on, start-here, start-end}
+use Rattle.pairs.specs.Pairs.{startBy}
+use Rattle.pairs.proofs.Starts.{start-on, start-here, start-end}
 use borrow.Author.Needs.{needs}
-use Rattle.asking.proofs.why.start_of.Statement.{statement}
-use Rattle.asking.proofs.why.start_of.Tie as tie
+use Rattle.pairs.proofs.start_of.Statement.{statement}
+use Rattle.pairs.proofs.start_of.Tie as tie
 
 abbrev Inv-loop : tie.InvT-loop
 Inv-loop files n publisher day start₀ k₀ start k = (k ≤ n) × (start ≤ 16777216 * k) × (start + startBy (publisher .0) (day .0) (drop k (table n (fileAt files))) ≡ startBy (publisher .0) (day .0) (table n (fileAt files)))

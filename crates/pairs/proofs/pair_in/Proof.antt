@@ -1,7 +1,7 @@
--- `asking::why::pair_in` meets its contract: the case, and the callees' contracts. Assumes nothing.
+-- `pairs::pair_in` meets its contract: the case, and the callees' contracts. Assumes nothing.
 use borrow.Author.Needs.{needs}
-use Rattle.asking.proofs.why.pair_in.Statement.{statement}
-use Rattle.asking.proofs.why.pair_in.Tie as tie
+use Rattle.pairs.proofs.pair_in.Statement.{statement}
+use Rattle.pairs.proofs.pair_in.Tie as tie
 
 enum-told : tie.Need-enum-told
 enum-told c = search needs

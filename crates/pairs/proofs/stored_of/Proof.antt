@@ -1,13 +1,13 @@
--- `asking::why::stored_of` meets its contract: the callees' contracts; no file begins behind the last report. Assumes nothing.
+-- `pairs::stored_of` meets its contract: the callees' contracts; no file begins behind the last report. Assumes nothing.
 use denote.Ref.{now}
 use Prim.Native.Nat.{_≤_}
 use native.Mathlib.Omega.{arith}
 use Rattle.laws.specs.Lists.{table}
 use Rattle.journals.specs.Files.{fileAt}
-use Rattle.asking.proofs.Starts.{start-below}
+use Rattle.pairs.proofs.Starts.{start-below}
 use borrow.Author.Needs.{needs}
-use Rattle.asking.proofs.why.stored_of.Statement.{statement}
-use Rattle.asking.proofs.why.stored_of.Tie as tie
+use Rattle.pairs.proofs.stored_of.Statement.{statement}
+use Rattle.pairs.proofs.stored_of.Tie as tie
 
 publisher-requires : tie.Need-publisher-requires
 publisher-requires c κs = search needs
