@@ -1,4 +1,2 @@
-pub mod Reading
-pub mod Spreading
 pub mod Beginning
 pub mod Readable

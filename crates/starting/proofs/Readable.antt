@@ -31,15 +31,15 @@ use Rattle.entries.specs.declared.entry.Entry.{Entry}
 use Rattle.journals.specs.Reads.{recordsAt, filedIn, firstFiles, readFiles}
 use Rattle.store.specs.Reads.{Buffers, Held, tableLine, held, longEnough, goodTable, goodFiles, goodRecords, isReadable, reads}
 use Rattle.store.proofs.Checks.{Long, long, reads-some}
-use Rattle.starting.specs.declared.given.LineRead.{LineRead}
-use Rattle.starting.specs.declared.given.LineRead.the-variants.{Fault}
-use Rattle.starting.specs.Given.{lineGiven, endGiven, withLine, linesGiven, numberOfLine, checked, tableOf}
+use Rattle.tables.specs.declared.given.LineRead.{LineRead}
+use Rattle.tables.specs.declared.given.LineRead.the-variants.{Fault}
+use Rattle.tables.specs.Given.{lineGiven, endGiven, withLine, linesGiven, numberOfLine, checked, tableOf}
 use Rattle.starting.specs.Start.{firstOf, firstSlot, answerOf, startAnswer, withTable, startBuffers, Starts, startedWith}
 use Rattle.starting.specs.declared.start.Started.{Started}
 use Rattle.starting.specs.declared.start.Started.the-variants.{Done, Short, BadTable}
 use Rattle.starting.proofs.Beginning.{length-first}
-use Rattle.starting.proofs.Reading.{line-good}
-use Rattle.starting.proofs.Spreading.{noLine}
+use Rattle.tables.proofs.Reading.{line-good}
+use Rattle.tables.proofs.Spreading.{noLine}
 
 -- ---- what is known of a table that a text gives
 not-some : (ls : List Line) → none ≡ some ls → ⊥

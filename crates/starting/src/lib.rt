@@ -1,4 +1,2 @@
 // Starting a store from a number table that is given as text.
-pub mod given;
-pub mod scratch;
 pub mod start;

@@ -1,6 +1,4 @@
 // Starting: the number table into an empty store, or a refusal that writes nothing.
-use crate::scratch;
-use crate::scratch::Counted;
 use entries::entry::Entry;
 use entries::entry::Line;
 use entry_slots::entry;
@@ -9,6 +7,8 @@ use numbers::lines;
 use numbers::lines::TABLE_LENGTH;
 use slots::run;
 use store::readable;
+use tables::scratch;
+use tables::scratch::Counted;
 ghost use mathlib.Core.Path.{_≡_};
 ghost use Prim.Native.Nat.{_+_, _*_, _≤_};
 ghost use lib.ListN.{length};

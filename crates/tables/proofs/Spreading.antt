@@ -24,10 +24,10 @@ use Rattle.numbers.specs.Lines.{lineSlot, lineOf, lineAt, numberAt, goodLine}
 use Rattle.numbers.specs.declared.lines.Line.{Line}
 use Rattle.numbers.proofs.Fitting.{good-roomy}
 use Rattle.numbers.proofs.Reading.{length-line, line-back}
-use Rattle.starting.specs.declared.given.LineRead.{LineRead}
-use Rattle.starting.specs.declared.given.LineRead.the-variants.{Fault}
-use Rattle.starting.specs.Given.{lineGiven, endGiven, withLine, linesGiven, numberOfLine, checked, tableOf, Spread}
-use Rattle.starting.proofs.Reading.{line-good}
+use Rattle.tables.specs.declared.given.LineRead.{LineRead}
+use Rattle.tables.specs.declared.given.LineRead.the-variants.{Fault}
+use Rattle.tables.specs.Given.{lineGiven, endGiven, withLine, linesGiven, numberOfLine, checked, tableOf, Spread}
+use Rattle.tables.proofs.Reading.{line-good}
 
 -- lines in front of lines, if there are any
 abbrev pub joined : List Line → Option (List Line) → Option (List Line)

@@ -7,7 +7,7 @@ use numbers::twice;
 ghost use mathlib.Core.Path.{_≡_};
 ghost use Prim.Native.Nat.{_≤_};
 ghost use lib.ListN.{length};
-ghost use Rattle.starting.specs.Given.{LaidOut, Judged};
+ghost use Rattle.tables.specs.Given.{LaidOut, Judged};
 
 // How many lines a well formed table has.
 pub enum Counted {
