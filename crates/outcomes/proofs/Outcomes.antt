@@ -27,7 +27,7 @@ use Rattle.entering.specs.Entering.{Joined}
 use Rattle.entering.proofs.Joining.{joined-one}
 use Rattle.files.specs.declared.judge.Judged.{Judged}
 use Rattle.asking.specs.declared.entry.EntryAnswer.{EntryAnswer}
-use Rattle.asking.specs.declared.why.WhyAnswer.{WhyAnswer}
+use Rattle.pairs.specs.declared.WhyAnswer.{WhyAnswer}
 use Rattle.asking.specs.declared.record.Asked.{Asked}
 use Rattle.answering.specs.declared.figure.FigureAnswer.{FigureAnswer}
 use Rattle.reworking.specs.declared.rework.Reworked.{Reworked}
