@@ -1,6 +1,6 @@
 // Writing files of each kind.
 use crate::kinds;
-use files::write;
+use composing::write;
 use names::written::Written;
 ghost use mathlib.Core.Path.{_≡_};
 ghost use lib.ListN.{length};

@@ -1,8 +1,5 @@
 pub mod JudgeLaws
 pub mod ReadLaws
-pub mod GroupLaws
-pub mod LayLaws
-pub mod WroteLaws
 pub mod LineTrip
 pub mod FileTrip
 pub mod Cursor

@@ -1,6 +1,5 @@
 pub mod Judged
 pub mod Reading
 pub mod Writing
-pub mod Measuring
 pub mod Cursor
 pub mod Values

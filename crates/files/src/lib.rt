@@ -1,6 +1,4 @@
-// Files of records: judged, read place by place, and written.
+// Files of records: judged, and read place by place.
 pub mod judge;
-pub mod measure;
 pub mod read;
 pub mod values;
-pub mod write;

@@ -149,7 +149,7 @@ fn rewrite(kind: FileKind, file: &[u8], n: usize, words: &mut [u64], out: &mut [
     if words.len() < used {
         return;
     }
-    let answer = files::write::write(kind, &words[0..used], out);
+    let answer = composing::write::write(kind, &words[0..used], out);
     show::written(answer);
     compared(file, answer, out);
 }

@@ -64,7 +64,7 @@ fn found(file: &[u8]) {
 
 fn large(words: &mut [u64], out: &mut [u8]) {
     fill(words);
-    let w = files::write::write(FileKind::Default, words, out);
+    let w = composing::write::write(FileKind::Default, words, out);
     show::written(w);
     let Written::Length(n) = w else {
         show::say(b"\n");

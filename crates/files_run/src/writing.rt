@@ -24,7 +24,7 @@ fn answer(kind: FileKind, words: &[u64], out: &mut [u8], room: usize) {
     if out.len() < room {
         return;
     }
-    let w = files::write::write(kind, words, &mut out[0..room]);
+    let w = composing::write::write(kind, words, &mut out[0..room]);
     show::written(w);
     show::say(b", ");
     let behind = match w {

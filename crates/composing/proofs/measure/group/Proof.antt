@@ -1,12 +1,12 @@
--- `files::measure::group` meets its contract. Assumes nothing.
+-- `composing::measure::group` meets its contract. Assumes nothing.
 use lib.Seq.{take-all}
 use lib.ListN.{length, take, drop, length-drop}
 use native.Mathlib.Omega.{arith}
 use Prim.Native.Nat.{ℕ, _+_, _-_}
 use mathlib.Core.Path.{_≡_, ap, sym, _∙_}
 use borrow.Author.Needs.{needs}
-use Rattle.files.proofs.measure.group.Statement.{statement}
-use Rattle.files.proofs.measure.group.Tie as tie
+use Rattle.composing.proofs.measure.group.Statement.{statement}
+use Rattle.composing.proofs.measure.group.Tie as tie
 
 sub-if1 : tie.Need-sub-if1
 sub-if1 c = search needs

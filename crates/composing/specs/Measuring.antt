@@ -7,8 +7,8 @@ use Rattle.laws.specs.Ended.{ended}
 use Rattle.closing.specs.Closing.{closingText}
 use Rattle.names.specs.declared.kind.FileKind.{FileKind}
 use Rattle.records.specs.Record.{fits, textOf}
-use Rattle.files.specs.declared.measure.Measured.{Measured}
-use Rattle.files.specs.declared.measure.Measured.the-variants.{Length, Fault}
+use Rattle.composing.specs.declared.measure.Measured.{Measured}
+use Rattle.composing.specs.declared.measure.Measured.the-variants.{Length, Fault}
 
 -- behind k records whose lines have `total` bytes
 unfoldable pub measuredFrom : FileKind → ℕ → ℕ → List (List ℕ) → Measured

@@ -2,8 +2,8 @@
 ghost use mathlib.Core.Path.{_≡_};
 ghost use Prim.Native.Nat.{_≤_};
 ghost use lib.ListN.{length, take, drop};
 ghost use Rattle.files.specs.Writing.{valuesIn};
-ghost use Rattle.files.specs.Measuring.{measuredFrom};
+ghost use Rattle.composing.specs.Measuring.{measuredFrom};
 use names::kind::FileKind;
 
 // How many records there are and how many bytes their lines have, or the place of the first that its layout can't hold.

@@ -19,11 +19,11 @@ use Rattle.names.specs.Kind.{hasClosing}
 use Rattle.names.specs.Written.{Wrote}
 use Rattle.records.specs.Record.{widthOf, fits, textOf}
 use Rattle.records.proofs.RecordLaws.{fits-width}
 use Rattle.files.specs.declared.judge.Judged.{Judged}
 use Rattle.files.specs.Writing.{valuesIn, heldAll, heldOne, held, linesOf, fileText, fileOf, answerTo}
-use Rattle.files.specs.Measuring.{recordLines, closedText}
-use Rattle.files.proofs.GroupLaws.{groups-end, group-more, width-some}
-use Rattle.files.proofs.LayLaws.{length-lines, lines-none}
+use Rattle.composing.specs.Measuring.{recordLines, closedText}
+use Rattle.composing.proofs.GroupLaws.{groups-end, group-more, width-some}
+use Rattle.composing.proofs.LayLaws.{length-lines, lines-none}
 
 -- ---- each answer
 module _ (h : Judged) (text before : List ℕ) where

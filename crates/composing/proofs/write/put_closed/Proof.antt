@@ -1,15 +1,15 @@
--- `files::write::put_closed` meets its contract. Assumes nothing.
-use Rattle.files.proofs.WroteLaws.{laid-closed}
-use Rattle.files.proofs.LayLaws.{length-closed}
+-- `composing::write::put_closed` meets its contract. Assumes nothing.
+use Rattle.composing.proofs.WroteLaws.{laid-closed}
+use Rattle.composing.proofs.LayLaws.{length-closed}
 use Rattle.files.specs.Writing.{valuesIn}
 use Rattle.closing.specs.Closing.{closingText}
 use Rattle.laws.proofs.Overlay.{laid-length}
 use lib.ListN.{length}
 use mathlib.Core.Path.{ap}
 use native.Mathlib.Omega.{arith}
 use borrow.Author.Needs.{needs}
-use Rattle.files.proofs.write.put_closed.Statement.{statement}
-use Rattle.files.proofs.write.put_closed.Tie as tie
+use Rattle.composing.proofs.write.put_closed.Statement.{statement}
+use Rattle.composing.proofs.write.put_closed.Tie as tie
 
 put-records-requires : tie.Need-put-records-requires
 put-records-requires c κs =

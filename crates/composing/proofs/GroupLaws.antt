@@ -11,9 +11,9 @@ use Rattle.names.specs.declared.kind.FileKind.{FileKind}
 use Rattle.names.specs.declared.kind.FileKind.the-variants.{Default, Correction, Request, Response}
 use Rattle.records.specs.Record.{widthOf, fits, textOf}
 use Rattle.records.proofs.RecordLaws.{fits-width, fits-short}
-use Rattle.files.specs.declared.measure.Measured.the-variants.{Length, Fault}
+use Rattle.composing.specs.declared.measure.Measured.the-variants.{Length, Fault}
 use Rattle.files.specs.Writing.{groupsTo, groups, valuesIn}
-use Rattle.files.specs.Measuring.{measuredFrom}
+use Rattle.composing.specs.Measuring.{measuredFrom}
 
 pub width-some : (k : FileKind) → 1 ≤ widthOf k
 width-some Default = omega arith

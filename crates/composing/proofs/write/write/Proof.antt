@@ -1,10 +1,10 @@
--- `files::write::write` meets its contract. Assumes nothing.
-use Rattle.files.proofs.WroteLaws.{closed-held, closed-text, open-held, open-text}
+-- `composing::write::write` meets its contract. Assumes nothing.
+use Rattle.composing.proofs.WroteLaws.{closed-held, closed-text, open-held, open-text}
 use Rattle.files.specs.Writing.{fileAnswer}
 use mathlib.Core.Path.{sym, _∙_}
 use borrow.Author.Needs.{needs}
-use Rattle.files.proofs.write.write.Statement.{statement}
-use Rattle.files.proofs.write.write.Tie as tie
+use Rattle.composing.proofs.write.write.Statement.{statement}
+use Rattle.composing.proofs.write.write.Tie as tie
 
 has-closing-requires : tie.Need-has-closing-requires
 has-closing-requires c κs = search needs

@@ -16,11 +16,11 @@ use Rattle.closing.specs.Closing.{closingText}
 use Rattle.names.specs.declared.kind.FileKind.{FileKind}
 use Rattle.names.specs.Kind.{hasClosing}
 use Rattle.records.specs.Record.{widthOf, fits, textOf}
 use Rattle.files.specs.declared.judge.Judged.{Judged}
-use Rattle.files.specs.declared.measure.Measured.{Measured}
+use Rattle.composing.specs.declared.measure.Measured.{Measured}
 use Rattle.files.specs.Writing.{valuesIn, unfit, heldAll}
-use Rattle.files.specs.Measuring.{measuredFrom, recordLines, closedText}
-use Rattle.files.proofs.GroupLaws.{groups-end, group-more}
+use Rattle.composing.specs.Measuring.{measuredFrom, recordLines, closedText}
+use Rattle.composing.proofs.GroupLaws.{groups-end, group-more}
 
 -- ---- the lines of records
 pub lines-cons : (kind : FileKind) (v : List ℕ) (vs : List (List ℕ)) → recordLines kind (v ∷ vs) ≡ textOf kind v ++ 13 ∷ recordLines kind vs

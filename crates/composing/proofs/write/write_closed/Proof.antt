@@ -1,9 +1,9 @@
--- `files::write::write_closed` meets its contract. Assumes nothing.
+-- `composing::write::write_closed` meets its contract. Assumes nothing.
 use Prim.Native.Nat.{_+_}
-use Rattle.files.proofs.WroteLaws.{wrote-fault, wrote-long, wrote-whole}
-use Rattle.files.proofs.LayLaws.{measured-fault, measured-length, held-all, length-closed, lines-long}
-use Rattle.files.specs.Measuring.{closedText}
+use Rattle.composing.proofs.WroteLaws.{wrote-fault, wrote-long, wrote-whole}
+use Rattle.composing.proofs.LayLaws.{measured-fault, measured-length, held-all, length-closed, lines-long}
+use Rattle.composing.specs.Measuring.{closedText}
 use Rattle.files.specs.Writing.{valuesIn, heldAll}
 use Rattle.closing.proofs.ClosingLaws.{length-closing, short-closing}
 use Rattle.closing.specs.Closing.{closingText}
 use lib.ListN.{length}
@@ -11,8 +11,8 @@ use mathlib.Core.Path.{sym, ap, _∙_}
 use native.Mathlib.Omega.{arith}
 use Prim.Native.Nat.{ℕ}
 use borrow.Author.Needs.{needs}
-use Rattle.files.proofs.write.write_closed.Statement.{statement}
-use Rattle.files.proofs.write.write_closed.Tie as tie
+use Rattle.composing.proofs.write.write_closed.Statement.{statement}
+use Rattle.composing.proofs.write.write_closed.Tie as tie
 
 measure-requires : tie.Need-measure-requires
 measure-requires c κs = search needs

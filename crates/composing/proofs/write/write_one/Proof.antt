@@ -1,14 +1,14 @@
--- `files::write::write_one` meets its contract. Assumes nothing.
-use Rattle.files.proofs.WroteLaws.{wrote-fault, wrote-long, wrote-whole, one-unfit, one-two, one-held, one-fit, one-length}
-use Rattle.files.proofs.GroupLaws.{group-whole}
-use Rattle.files.specs.Measuring.{recordLines}
+-- `composing::write::write_one` meets its contract. Assumes nothing.
+use Rattle.composing.proofs.WroteLaws.{wrote-fault, wrote-long, wrote-whole, one-unfit, one-two, one-held, one-fit, one-length}
+use Rattle.composing.proofs.GroupLaws.{group-whole}
+use Rattle.composing.specs.Measuring.{recordLines}
 use Rattle.files.specs.Writing.{valuesIn, heldOne}
 use borrow.Author.Tests.{not-true, not-false}
 use mathlib.Core.Path.{sym, _∙_}
 use native.Mathlib.Omega.{arith}
 use borrow.Author.Needs.{needs}
-use Rattle.files.proofs.write.write_one.Statement.{statement}
-use Rattle.files.proofs.write.write_one.Tie as tie
+use Rattle.composing.proofs.write.write_one.Statement.{statement}
+use Rattle.composing.proofs.write.write_one.Tie as tie
 
 width-requires : tie.Need-width-requires
 width-requires c κs = search needs

@@ -1,15 +1,15 @@
--- `files::measure::measure` meets its contract. The records from `at` on, measured behind the first `k`, measure as all do. Assumes nothing.
-use Rattle.files.proofs.GroupLaws.{group-whole, measure-on, measure-stop, measure-done}
-use Rattle.files.specs.Measuring.{measuredFrom}
+-- `composing::measure::measure` meets its contract. The records from `at` on, measured behind the first `k`, measure as all do. Assumes nothing.
+use Rattle.composing.proofs.GroupLaws.{group-whole, measure-on, measure-stop, measure-done}
+use Rattle.composing.specs.Measuring.{measuredFrom}
 use Rattle.files.specs.Writing.{valuesIn}
 use lib.ListN.{length, drop}
 use borrow.Author.Tests.{not-true, not-false}
 use native.Mathlib.Omega.{arith}
 use mathlib.Core.Path.{_≡_, refl, sym, _∙_}
 use Prim.Native.Nat.{_≤_, _-_, _*_}
 use borrow.Author.Needs.{needs}
-use Rattle.files.proofs.measure.measure.Statement.{statement}
-use Rattle.files.proofs.measure.measure.Tie as tie
+use Rattle.composing.proofs.measure.measure.Statement.{statement}
+use Rattle.composing.proofs.measure.measure.Tie as tie
 
 abbrev Inv-loop : tie.InvT-loop
 Inv-loop kind words w at₀ k₀ total₀ at k total = (at ≤ length words) × ((k ≤ at) × ((total ≤ 8 * at) × (measuredFrom kind k total (valuesIn kind (drop at words)) ≡ measuredFrom kind 0 0 (valuesIn kind words))))

@@ -1,8 +1,8 @@
--- `files::write::put_records` meets its contract. What is left to lay, laid from here on, gives what is to be laid in all. Assumes nothing.
-use Rattle.files.proofs.LayLaws.{lay-on, lay-end, lay-length, left-lines, left-length, first-fits, left-fit, left-none}
-use Rattle.files.proofs.GroupLaws.{group-whole}
-use Rattle.files.specs.Measuring.{recordLines}
+-- `composing::write::put_records` meets its contract. What is left to lay, laid from here on, gives what is to be laid in all. Assumes nothing.
+use Rattle.composing.proofs.LayLaws.{lay-on, lay-end, lay-length, left-lines, left-length, first-fits, left-fit, left-none}
+use Rattle.composing.proofs.GroupLaws.{group-whole}
+use Rattle.composing.specs.Measuring.{recordLines}
 use Rattle.files.specs.Writing.{valuesIn}
 use Rattle.records.specs.Record.{fits}
 use Rattle.laws.proofs.Overlay.{laid-length, overlay-none}
 use Rattle.laws.specs.Overlay.{overlay}
@@ -13,8 +13,8 @@ use mathlib.Core.Bool.{true}
 use mathlib.Core.Path.{_≡_, refl, sym, ap, _∙_}
 use Prim.Native.Nat.{_≤_, _-_, _+_}
 use borrow.Author.Needs.{needs}
-use Rattle.files.proofs.write.put_records.Statement.{statement}
-use Rattle.files.proofs.write.put_records.Tie as tie
+use Rattle.composing.proofs.write.put_records.Statement.{statement}
+use Rattle.composing.proofs.write.put_records.Tie as tie
 
 abbrev Inv-loop : tie.InvT-loop
 Inv-loop kind words out₀ w at₀ to₀ out at to = (at ≤ length words) × ((length out ≡ length out₀) × ((all (fits kind) (valuesIn kind (drop at words)) ≡ true) × ((to + length (recordLines kind (valuesIn kind (drop at words))) ≡ length (recordLines kind (valuesIn kind words))) × (overlay out₀ 0 (recordLines kind (valuesIn kind words)) ≡ overlay out to (recordLines kind (valuesIn kind (drop at words)))))))
