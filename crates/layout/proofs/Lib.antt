@@ -1,4 +1,5 @@
 pub mod PartLaws
+pub mod PutLaws
 pub mod WalkLaws
 pub mod WidthLaws
 pub mod PartTrip

@@ -1,9 +1,9 @@
 -- A part: which way its readers go, what is left to write, and how long its text is. Assumes nothing.
 use Prim.Native.Nat.{ℕ, _+_, _-_, _≤_}
 use native.Mathlib.Omega.{arith}
-use mathlib.Core.Path.{_≡_, refl}
+use mathlib.Core.Path.{_≡_, sym, ap, _∙_}
 use mathlib.Core.Bool.{true, false}
-use mathlib.Core.List.{List, _∷_, _++_}
+use mathlib.Core.List.{List, [], _∷_, _++_, append-assoc}
 use lib.ListN.{length, getD, length-append}
 use borrow.Author.Tests.{eq-eqb, ne-eqb}
 use Rattle.laws.proofs.Digits.{size-le}
@@ -30,6 +30,7 @@ use Rattle.layout.specs.declared.part.Part.{Part}
 use Rattle.layout.specs.declared.part.PartRead.{PartRead}
 use Rattle.layout.specs.declared.part.PartRead.the-variants.{Fault}
 use Rattle.layout.specs.Part.{sixOf, restOfWords, numberOfWords, partOfWords, partText}
+use Rattle.layout.specs.Putting.{followed, numberThen, networksThen}
 
 -- ---- six fields that have their values
 module _ (a b c d e f : List ℕ) {first : Digits} {number : Number} {date : MaybeDate} {gaining losing : MaybeCode} {kind : MaybeKind} where
@@ -78,46 +79,35 @@ module _ (number : Number) (c d e f : ℕ) where
         unfolding restOfWords
         rest-5 p₄ = rw (p₁, p₂, p₃, p₄)
 
--- ---- what is left to write before each of the calls of `write`
+-- ---- the text as the calls of `write` lay it: fields with the comma behind each
+followed-on : (field rest : List ℕ) → followed field ++ rest ≡ field ++ (44 ∷ rest)
+followed-on field rest = append-assoc field (44 ∷ []) rest
+
+pair-on : (a b rest : List ℕ) → (followed a ++ followed b) ++ rest ≡ a ++ (44 ∷ (b ++ (44 ∷ rest)))
+pair-on a b rest = append-assoc (followed a) (followed b) rest ∙ followed-on a (followed b ++ rest) ∙ ap (λ (r : List ℕ). a ++ (44 ∷ r)) (followed-on b rest)
+
 module _ (p : Part) where
-  abbrev pub left11 : List ℕ
-  left11 = maybeKindText (p .kind)
+  -- behind the date, and behind the number
+  abbrev pub networksOn : List ℕ
+  networksOn = networksThen (p .gaining) (p .losing) ++ maybeKindText (p .kind)
 
-  abbrev pub left10 : List ℕ
-  left10 = 44 ∷ left11
+  abbrev pub dateOn : List ℕ
+  dateOn = followed (maybeDateText (p .date)) ++ networksOn
 
-  abbrev pub left9 : List ℕ
-  left9 = maybeCodeText (p .losing) ++ left10
-
-  abbrev pub left8 : List ℕ
-  left8 = 44 ∷ left9
-
-  abbrev pub left7 : List ℕ
-  left7 = maybeCodeText (p .gaining) ++ left8
-
-  abbrev pub left6 : List ℕ
-  left6 = 44 ∷ left7
-
-  abbrev pub left5 : List ℕ
-  left5 = maybeDateText (p .date) ++ left6
-
-  abbrev pub left4 : List ℕ
-  left4 = 44 ∷ left5
-
-  abbrev pub left3 : List ℕ
-  left3 = digitsText (p .number .last) ++ left4
-
-  abbrev pub left2 : List ℕ
-  left2 = 44 ∷ left3
-
-  abbrev pub left1 : List ℕ
-  left1 = digitsText (p .number .first) ++ left2
-
-  pub whole : partText p ≡ left1
+  pub whole : partText p ≡ numberThen (p .number) ++ dateOn
   unfolding partText
-  whole = refl
+  whole =
+      sym
+      (pair-on (digitsText (p .number .first)) (digitsText (p .number .last)) dateOn
+      ∙ ap (λ (r : List ℕ). digitsText (p .number .first) ++ (44 ∷ (digitsText (p .number .last) ++ (44 ∷ r))))
+      (followed-on (maybeDateText (p .date)) networksOn
+      ∙ ap (λ (r : List ℕ). maybeDateText (p .date) ++ (44 ∷ r)) (pair-on (maybeCodeText (p .gaining)) (maybeCodeText (p .losing)) (maybeKindText (p .kind)))))
 
-  pub room-part : (o : List ℕ) (at : ℕ) → at + length (partText p) ≤ length o → Room o at left1
+  -- it begins with the number's first field
+  pub begins : partText p ≡ digitsText (p .number .first) ++ (44 ∷ (followed (digitsText (p .number .last)) ++ dateOn))
+  begins = whole ∙ append-assoc (followed (digitsText (p .number .first))) (followed (digitsText (p .number .last))) dateOn ∙ followed-on (digitsText (p .number .first)) (followed (digitsText (p .number .last)) ++ dateOn)
+
+  pub room-part : (o : List ℕ) (at : ℕ) → at + length (partText p) ≤ length o → Room o at (numberThen (p .number) ++ dateOn)
   room-part o at h = record { fits = rw whole at h }
 
 -- ---- how long the fields are

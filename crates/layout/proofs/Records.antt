@@ -25,7 +25,7 @@ use Rattle.layout.specs.Part.{partFits}
 use Rattle.layout.specs.Report.{reportOf, reportPart, reportFits, reportText}
 use Rattle.layout.specs.Correction.{correctionOf, correctionText}
 use Rattle.layout.specs.Request.{requestOf}
-use Rattle.layout.proofs.PartLaws.{whole, left2}
+use Rattle.layout.proofs.PartLaws.{begins}
 use Rattle.layout.proofs.CorrectionLaws as corrections
 use Rattle.layout.proofs.RecordBytes.{part-record-bytes, correction-bytes, request-bytes}
 use Rattle.layout.proofs.ReportLaws.{report-back}
@@ -54,7 +54,7 @@ report-digit r h =
     let f = first-fits (r .number) (and-left (numberFits (r .number)) _ (and-left (partFits (reportPart r)) _ h)) in
     let e = not-true (isEmpty (r .number .first)) (and-left (not (isEmpty (r .number .first))) _ (and-right (partFits (reportPart r)) _ h)) in
     let some : 0 < digitsSize (r .number .first) = positive (digitsSize (r .number .first)) (size-some (r .number .first) f e) in
-    rw (whole (reportPart r)) (digit-first (digitsSize (r .number .first)) (r .number .first .0) (left2 (reportPart r)) some)
+    rw (begins (reportPart r)) (digit-first (digitsSize (r .number .first)) (r .number .first .0) _ some)
   where
     positive : (n : ℕ) → (n ≡ 0 → ⊥) → 0 < n
     positive n no-zero = omega arith

@@ -3,3 +3,4 @@ pub mod Report
 pub mod Request
 pub mod Correction
 pub mod Walk
+pub mod Putting

@@ -5,4 +5,5 @@ pub mod correction;
 pub mod part;
 pub mod report;
 pub mod request;
+mod putting;
 mod walk;

@@ -9,6 +9,7 @@ use crate::walk::CodeAt;
 use crate::walk::DateAt;
 use crate::walk::DigitsAt;
 use crate::walk::NumberAt;
+use crate::putting;
 use fields::code::MaybeCode;
 use fields::code::MaybeCodeRead;
 use fields::date::MaybeDate;
@@ -121,18 +122,9 @@ impl Part {
         let gaining = self.gaining;
         let losing = self.losing;
         let kind = self.kind;
-        let first = number.first;
-        let last = number.last;
-        let a = first.write(out, at);
-        let a1 = text::put_byte(out, a, 44);
-        let b = last.write(out, a1);
-        let b1 = text::put_byte(out, b, 44);
-        let c = date.write(out, b1);
-        let c1 = text::put_byte(out, c, 44);
-        let d = gaining.write(out, c1);
-        let d1 = text::put_byte(out, d, 44);
-        let e = losing.write(out, d1);
-        let e1 = text::put_byte(out, e, 44);
-        kind.write(out, e1)
+        let a = putting::put_number(number, out, at);
+        let b = putting::put_date(date, out, a);
+        let c = putting::put_networks(gaining, losing, out, b);
+        kind.write(out, c)
     }
 }

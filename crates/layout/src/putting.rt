@@ -1,0 +1,56 @@
+// Fields with the comma behind each, laid into a lent buffer; what follows them is the answer.
+ghost use Prim.Native.Nat.{_+_, _≤_};
+ghost use lib.ListN.{length};
+ghost use Rattle.laws.specs.Overlay.{Laid};
+ghost use Rattle.fields.specs.Code.{maybeCodeText};
+ghost use Rattle.fields.specs.Date.{maybeDateText};
+ghost use Rattle.fields.specs.Number.{digitsText};
+ghost use Rattle.layout.specs.Putting.{followed, numberThen, networksThen};
+use fields::code::MaybeCode;
+use fields::date::MaybeDate;
+use fields::number::Digits;
+use fields::number::Number;
+
+fn put_digits(d: Digits, out: &mut [u8], at: usize) -> usize
+    requires { ⌜ at + length (followed (digitsText d)) ≤ length (now out) ⌝ }
+    ensures { λ r. ⌜ Laid (now (out .entry)) at (followed (digitsText d)) (now (out .exit)) r ⌝ }
+{
+    let behind = d.write(out, at);
+    text::put_byte(out, behind, 44)
+}
+
+fn put_code(code: MaybeCode, out: &mut [u8], at: usize) -> usize
+    requires { ⌜ at + length (followed (maybeCodeText code)) ≤ length (now out) ⌝ }
+    ensures { λ r. ⌜ Laid (now (out .entry)) at (followed (maybeCodeText code)) (now (out .exit)) r ⌝ }
+{
+    let behind = code.write(out, at);
+    text::put_byte(out, behind, 44)
+}
+
+pub fn put_date(date: MaybeDate, out: &mut [u8], at: usize) -> usize
+    requires { ⌜ at + length (followed (maybeDateText date)) ≤ length (now out) ⌝ }
+    ensures { λ r. ⌜ Laid (now (out .entry)) at (followed (maybeDateText date)) (now (out .exit)) r ⌝ }
+{
+    let behind = date.write(out, at);
+    text::put_byte(out, behind, 44)
+}
+
+// Both fields of a number.
+pub fn put_number(number: Number, out: &mut [u8], at: usize) -> usize
+    requires { ⌜ at + length (numberThen number) ≤ length (now out) ⌝ }
+    ensures { λ r. ⌜ Laid (now (out .entry)) at (numberThen number) (now (out .exit)) r ⌝ }
+{
+    let first = number.first;
+    let last = number.last;
+    let behind = put_digits(first, out, at);
+    put_digits(last, out, behind)
+}
+
+// Both networks.
+pub fn put_networks(gaining: MaybeCode, losing: MaybeCode, out: &mut [u8], at: usize) -> usize
+    requires { ⌜ at + length (networksThen gaining losing) ≤ length (now out) ⌝ }
+    ensures { λ r. ⌜ Laid (now (out .entry)) at (networksThen gaining losing) (now (out .exit)) r ⌝ }
+{
+    let behind = put_code(gaining, out, at);
+    put_code(losing, out, behind)
+}
