@@ -1,8 +1,8 @@
 -- A correction: which way its readers go, what is left to write, and how long its text is. Assumes nothing.
 use Prim.Native.Nat.{ℕ, _+_, _-_, _<_, _≤_}
 use native.Mathlib.Omega.{arith}
-use mathlib.Core.Path.{_≡_, refl}
-use mathlib.Core.List.{List, _∷_, _++_}
+use mathlib.Core.Path.{_≡_, refl, sym, _∙_}
+use mathlib.Core.List.{List, _∷_, _++_, [], append-assoc}
 use lib.ListN.{length, getD, take, length-append}
 use borrow.Author.Tests.{eq-eqb, ne-eqb, le-leb, lt-leb}
 use Rattle.laws.specs.Split.{split, pieceOf, between}
@@ -17,6 +17,7 @@ use Rattle.layout.specs.declared.correction.Correction.{Correction}
 use Rattle.layout.specs.declared.correction.CorrectionRead.the-variants.{Fault}
 use Rattle.layout.specs.Part.{partOf, partOfWords, partText}
 use Rattle.layout.specs.Correction.{headOf, reportedOf, soundOf, threeOf, correctionOf, correctionOfWords, correctionText}
+use Rattle.layout.specs.Putting.{headText, betweenParts}
 
 -- ---- before the first colon
 module _ (f : List ℕ) where
@@ -104,37 +105,24 @@ module _ (w : List ℕ) where
         unfolding correctionOfWords
         words-5 p₃ = rw (eq-eqb (length w) 13 l, p₁, p₂, p₃)
 
--- ---- what is left to write before each of the calls of `write`
+-- ---- the text as the calls of `write` lay it
 module _ (c : Correction) where
-  abbrev pub left8 : List ℕ
-  left8 = partText (c .k)
+  -- behind the U part, and behind the head
+  abbrev pub betweenOn : List ℕ
+  betweenOn = betweenParts ++ partText (c .k)
 
-  abbrev pub left7 : List ℕ
-  left7 = 58 ∷ left8
+  abbrev pub partsOn : List ℕ
+  partsOn = partText (c .u) ++ betweenOn
 
-  abbrev pub left6 : List ℕ
-  left6 = 75 ∷ left7
-
-  abbrev pub left5 : List ℕ
-  left5 = 44 ∷ left6
-
-  abbrev pub left4 : List ℕ
-  left4 = partText (c .u) ++ left5
-
-  abbrev pub left3 : List ℕ
-  left3 = 58 ∷ left4
-
-  abbrev pub left2 : List ℕ
-  left2 = 85 ∷ left3
-
-  abbrev pub left1 : List ℕ
-  left1 = correctionCodeText (c .code) ++ left2
-
-  pub whole : correctionText c ≡ left1
+  -- it begins with the code
+  pub begins : correctionText c ≡ correctionCodeText (c .code) ++ (85 ∷ 58 ∷ partsOn)
   unfolding correctionText
-  whole = refl
+  begins = refl
 
-  pub room-correction : (o : List ℕ) (at : ℕ) → at + length (correctionText c) ≤ length o → Room o at left1
+  pub whole : correctionText c ≡ headText (c .code) ++ partsOn
+  whole = begins ∙ sym (append-assoc (correctionCodeText (c .code)) (85 ∷ 58 ∷ []) partsOn)
+
+  pub room-correction : (o : List ℕ) (at : ℕ) → at + length (correctionText c) ≤ length o → Room o at (headText (c .code) ++ partsOn)
   room-correction o at h = record { fits = rw whole at h }
 
   pub length-correction : length (correctionText c) ≡ length (partText (c .u)) + length (partText (c .k)) + 9

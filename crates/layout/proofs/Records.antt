@@ -60,4 +60,4 @@ report-digit r h =
     positive n no-zero = omega arith
 
 pub correction-digit : (c : Correction) → isDigit (getD (correctionText c) 0 0) ≡ true
-correction-digit c = rw (corrections.whole c) (digit-first 4 (c .code .0) (corrections.left2 c) (omega arith))
+correction-digit c = rw (corrections.begins c) (digit-first 4 (c .code .0) _ (omega arith))

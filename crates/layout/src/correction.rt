@@ -7,6 +7,7 @@ ghost use Rattle.layout.specs.Report.{wholeOf};
 ghost use Rattle.layout.specs.Correction.{headOf, reportedOf, isSound, soundOf, correctionOf, correctionOfWords, namedNumber, correctionText};
 use crate::part::Part;
 use crate::part::PartRead;
+use crate::putting;
 use crate::report::Report;
 use crate::report::ReportRead;
 use fields::correction_code::CorrectionCode;
@@ -166,13 +167,9 @@ impl Correction {
         let code = self.code;
         let u = self.u;
         let k = self.k;
-        let a = code.write(out, at);
-        let a1 = text::put_byte(out, a, 85);
-        let a2 = text::put_byte(out, a1, 58);
-        let b = u.write(out, a2);
-        let b1 = text::put_byte(out, b, 44);
-        let b2 = text::put_byte(out, b1, 75);
-        let b3 = text::put_byte(out, b2, 58);
-        k.write(out, b3)
+        let a = putting::put_head(code, out, at);
+        let b = u.write(out, a);
+        let c = putting::put_between(out, b);
+        k.write(out, c)
     }
 }

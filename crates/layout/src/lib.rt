@@ -3,7 +3,7 @@
 // lays the record into a lent buffer and answers the place behind it.
 pub mod correction;
 pub mod part;
+mod putting;
 pub mod report;
 pub mod request;
-mod putting;
 mod walk;

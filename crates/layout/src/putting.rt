@@ -5,8 +5,9 @@ ghost use Rattle.laws.specs.Overlay.{Laid};
 ghost use Rattle.fields.specs.Code.{maybeCodeText};
 ghost use Rattle.fields.specs.Date.{maybeDateText};
 ghost use Rattle.fields.specs.Number.{digitsText};
-ghost use Rattle.layout.specs.Putting.{followed, numberThen, networksThen};
+ghost use Rattle.layout.specs.Putting.{followed, numberThen, networksThen, headText, betweenParts};
 use fields::code::MaybeCode;
+use fields::correction_code::CorrectionCode;
 use fields::date::MaybeDate;
 use fields::number::Digits;
 use fields::number::Number;
@@ -53,4 +54,24 @@ pub fn put_networks(gaining: MaybeCode, losing: MaybeCode, out: &mut [u8], at: u
 {
     let behind = put_code(gaining, out, at);
     put_code(losing, out, behind)
+}
+
+// The code of a correction, and `U:`.
+pub fn put_head(code: CorrectionCode, out: &mut [u8], at: usize) -> usize
+    requires { ⌜ at + length (headText code) ≤ length (now out) ⌝ }
+    ensures { λ r. ⌜ Laid (now (out .entry)) at (headText code) (now (out .exit)) r ⌝ }
+{
+    let behind = code.write(out, at);
+    let colon = text::put_byte(out, behind, 85);
+    text::put_byte(out, colon, 58)
+}
+
+// `,K:`, between the two parts.
+pub fn put_between(out: &mut [u8], at: usize) -> usize
+    requires { ⌜ at + 3 ≤ length (now out) ⌝ }
+    ensures { λ r. ⌜ Laid (now (out .entry)) at betweenParts (now (out .exit)) r ⌝ }
+{
+    let letter = text::put_byte(out, at, 44);
+    let colon = text::put_byte(out, letter, 75);
+    text::put_byte(out, colon, 58)
 }
