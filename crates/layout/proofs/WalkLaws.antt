@@ -47,6 +47,31 @@ last-here s at h = ⊎-elim (λ (l : length s ≤ at). rw (drop-of-length-le s l
 more-here : (s : List ℕ) (at : ℕ) → endOf 44 s at < length s → split 44 (drop at s) ≡ between s at (endOf 44 s at) ∷ split 44 (drop (endOf 44 s at + 1) s)
 more-here s at h = ends-more (ends-at 44 s at (omega (arith, end-from s at))) h
 
+-- ---- any field that a comma follows, whatever it holds: a reader of the pieces goes as one does that starts at a place of the line. `on` goes on with what a
+-- field says, `onAt` with what is found at a place and where the next field starts; a piece alone is the last field, which no comma follows
+module _ {X R : Type 0} (read : List ℕ → R) (on : R → (X → PartRead) → PartRead) where
+  unfoldable headed : (X → List (List ℕ) → PartRead) → List (List ℕ) → PartRead
+  headed K [] = Fault
+  headed K (f ∷ fs) = on (read f) λ x. K x fs
+
+module _ {X R A : Type 0} (read : List ℕ → R) (on : R → (X → PartRead) → PartRead) (onAt : A → (X → ℕ → PartRead) → PartRead) (then : R → ℕ → A) (found : List ℕ → ℕ → A) where
+  -- what is asked of them: where nothing follows there is a fault, and both go on alike
+  pub record Goes : Type 0 where
+    pub stops : (r : R) (k : X → PartRead) → ((x : X) → k x ≡ Fault) → on r k ≡ Fault
+    pub goes : (r : R) (k : X → ℕ → PartRead) (next : ℕ) → on r (λ x. k x next) ≡ onAt (then r next) k
+    pub none : (s : List ℕ) (at : ℕ) (k : X → ℕ → PartRead) → length s ≤ endOf 44 s at → onAt (found s at) k ≡ Fault
+    pub more : (s : List ℕ) (at : ℕ) → endOf 44 s at < length s → found s at ≡ then (read (between s at (endOf 44 s at))) (endOf 44 s at + 1)
+
+  field-at : Goes → (K : X → List (List ℕ) → PartRead) → ((x : X) → K x [] ≡ Fault) → (s : List ℕ) (at : ℕ) → headed read on K (split 44 (drop at s)) ≡ onAt (found s at) (λ x next. K x (split 44 (drop next s)))
+  unfolding headed
+  field-at g K none s at =
+      let e : ℕ = endOf 44 s at in
+      let k : X → ℕ → PartRead = λ x next. K x (split 44 (drop next s)) in
+      ⊎-elim
+      (λ (h : length s ≤ e). ap (headed read on K) (last-here s at h) ∙ g .stops (read (between s at e)) (λ x. K x []) none ∙ sym (g .none s at k h))
+      (λ (h : e < length s). ap (headed read on K) (more-here s at h) ∙ g .goes (read (between s at e)) k (e + 1) ∙ ap (λ (r : A). onAt r k) (sym (g .more s at h)))
+      (le-or-lt (length s) e)
+
 -- ---- the digits of a number's first field
 module _ (s : List ℕ) (at e : ℕ) (q : e ≡ endOf 44 s at) where
   pub digits-none : length s ≤ e → digitsAt s at ≡ DigitsAt.Fault
@@ -57,9 +82,8 @@ module _ (s : List ℕ) (at e : ℕ) (q : e ≡ endOf 44 s at) where
   unfolding digitsAt
   digits-then h p = rw (← q, lt-ltb e (length s) h, p)
 
-unfoldable digitsHead : (Digits → List (List ℕ) → PartRead) → List (List ℕ) → PartRead
-digitsHead K [] = Fault
-digitsHead K (f ∷ fs) = onDigits (digitsFieldOf f) Fault λ x. K x fs
+abbrev digitsHead : (Digits → List (List ℕ) → PartRead) → List (List ℕ) → PartRead
+digitsHead K = headed (digitsFieldOf) (λ r k. onDigits r Fault k) K
 
 abbrev onDigitsAt : DigitsAt → (Digits → ℕ → PartRead) → PartRead
 onDigitsAt (DigitsAt.Digits x next) k = k x next
@@ -74,14 +98,14 @@ digits-goes (DigitsRead.Digits x) k next = refl
 digits-goes DigitsRead.Fault k next = refl
 
 digits-at : (K : Digits → List (List ℕ) → PartRead) → ((x : Digits) → K x [] ≡ Fault) → (s : List ℕ) (at : ℕ) → digitsHead K (split 44 (drop at s)) ≡ onDigitsAt (digitsAt s at) (λ x next. K x (split 44 (drop next s)))
-unfolding digitsHead
-digits-at K none s at =
-    let e : ℕ = endOf 44 s at in
-    let k : Digits → ℕ → PartRead = λ x next. K x (split 44 (drop next s)) in
-    ⊎-elim
-    (λ (h : length s ≤ e). ap (digitsHead K) (last-here s at h) ∙ digits-stops (digitsFieldOf (between s at e)) (λ x. K x []) none ∙ ap (λ (r : DigitsAt). onDigitsAt r k) (sym (digits-none s at e refl h)))
-    (λ (h : e < length s). ap (digitsHead K) (more-here s at h) ∙ digits-goes (digitsFieldOf (between s at e)) k (e + 1) ∙ ap (λ (r : DigitsAt). onDigitsAt r k) (sym (digits-then s at e refl h refl)))
-    (le-or-lt (length s) e)
+digits-at =
+    field-at (digitsFieldOf) (λ r k. onDigits r Fault k) onDigitsAt digitsThen (digitsAt)
+    (record {
+      stops = digits-stops;
+      goes = digits-goes;
+      none = λ s at k h. ap (λ (r : DigitsAt). onDigitsAt r k) (digits-none s at (endOf 44 s at) refl h);
+      more = λ s at h. digits-then s at (endOf 44 s at) refl h refl;
+    })
 
 -- ---- a number's second field
 module _ (first : Digits) (s : List ℕ) (at e : ℕ) (q : e ≡ endOf 44 s at) where
@@ -93,9 +117,8 @@ module _ (first : Digits) (s : List ℕ) (at e : ℕ) (q : e ≡ endOf 44 s at) 
   unfolding numberAt
   number-then h p = rw (← q, lt-ltb e (length s) h, p)
 
-unfoldable numberHead : Digits → (Number → List (List ℕ) → PartRead) → List (List ℕ) → PartRead
-numberHead first K [] = Fault
-numberHead first K (f ∷ fs) = onNumber (numberOf first f) Fault λ x. K x fs
+abbrev numberHead : Digits → (Number → List (List ℕ) → PartRead) → List (List ℕ) → PartRead
+numberHead first K = headed (numberOf first) (λ r k. onNumber r Fault k) K
 
 abbrev onNumberAt : NumberAt → (Number → ℕ → PartRead) → PartRead
 onNumberAt (NumberAt.Number x next) k = k x next
@@ -110,14 +133,14 @@ number-goes (NumberRead.Number x) k next = refl
 number-goes NumberRead.Fault k next = refl
 
 number-at : (first : Digits) (K : Number → List (List ℕ) → PartRead) → ((x : Number) → K x [] ≡ Fault) → (s : List ℕ) (at : ℕ) → numberHead first K (split 44 (drop at s)) ≡ onNumberAt (numberAt first s at) (λ x next. K x (split 44 (drop next s)))
-unfolding numberHead
-number-at first K none s at =
-    let e : ℕ = endOf 44 s at in
-    let k : Number → ℕ → PartRead = λ x next. K x (split 44 (drop next s)) in
-    ⊎-elim
-    (λ (h : length s ≤ e). ap (numberHead first K) (last-here s at h) ∙ number-stops (numberOf first (between s at e)) (λ x. K x []) none ∙ ap (λ (r : NumberAt). onNumberAt r k) (sym (number-none first s at e refl h)))
-    (λ (h : e < length s). ap (numberHead first K) (more-here s at h) ∙ number-goes (numberOf first (between s at e)) k (e + 1) ∙ ap (λ (r : NumberAt). onNumberAt r k) (sym (number-then first s at e refl h refl)))
-    (le-or-lt (length s) e)
+number-at first =
+    field-at (numberOf first) (λ r k. onNumber r Fault k) onNumberAt numberThen (numberAt first)
+    (record {
+      stops = number-stops;
+      goes = number-goes;
+      none = λ s at k h. ap (λ (r : NumberAt). onNumberAt r k) (number-none first s at (endOf 44 s at) refl h);
+      more = λ s at h. number-then first s at (endOf 44 s at) refl h refl;
+    })
 
 -- ---- a date, or an empty field
 module _ (s : List ℕ) (at e : ℕ) (q : e ≡ endOf 44 s at) where
@@ -129,9 +152,8 @@ module _ (s : List ℕ) (at e : ℕ) (q : e ≡ endOf 44 s at) where
   unfolding dateAt
   date-then h p = rw (← q, lt-ltb e (length s) h, p)
 
-unfoldable dateHead : (MaybeDate → List (List ℕ) → PartRead) → List (List ℕ) → PartRead
-dateHead K [] = Fault
-dateHead K (f ∷ fs) = onDate (maybeDateOf f) Fault λ x. K x fs
+abbrev dateHead : (MaybeDate → List (List ℕ) → PartRead) → List (List ℕ) → PartRead
+dateHead K = headed (maybeDateOf) (λ r k. onDate r Fault k) K
 
 abbrev onDateAt : DateAt → (MaybeDate → ℕ → PartRead) → PartRead
 onDateAt (DateAt.Date x next) k = k x next
@@ -146,14 +168,14 @@ date-goes (MaybeDateRead.MaybeDate x) k next = refl
 date-goes MaybeDateRead.Fault k next = refl
 
 date-at : (K : MaybeDate → List (List ℕ) → PartRead) → ((x : MaybeDate) → K x [] ≡ Fault) → (s : List ℕ) (at : ℕ) → dateHead K (split 44 (drop at s)) ≡ onDateAt (dateAt s at) (λ x next. K x (split 44 (drop next s)))
-unfolding dateHead
-date-at K none s at =
-    let e : ℕ = endOf 44 s at in
-    let k : MaybeDate → ℕ → PartRead = λ x next. K x (split 44 (drop next s)) in
-    ⊎-elim
-    (λ (h : length s ≤ e). ap (dateHead K) (last-here s at h) ∙ date-stops (maybeDateOf (between s at e)) (λ x. K x []) none ∙ ap (λ (r : DateAt). onDateAt r k) (sym (date-none s at e refl h)))
-    (λ (h : e < length s). ap (dateHead K) (more-here s at h) ∙ date-goes (maybeDateOf (between s at e)) k (e + 1) ∙ ap (λ (r : DateAt). onDateAt r k) (sym (date-then s at e refl h refl)))
-    (le-or-lt (length s) e)
+date-at =
+    field-at (maybeDateOf) (λ r k. onDate r Fault k) onDateAt dateThen (dateAt)
+    (record {
+      stops = date-stops;
+      goes = date-goes;
+      none = λ s at k h. ap (λ (r : DateAt). onDateAt r k) (date-none s at (endOf 44 s at) refl h);
+      more = λ s at h. date-then s at (endOf 44 s at) refl h refl;
+    })
 
 -- ---- a code, or an empty field
 module _ (s : List ℕ) (at e : ℕ) (q : e ≡ endOf 44 s at) where
@@ -165,9 +187,8 @@ module _ (s : List ℕ) (at e : ℕ) (q : e ≡ endOf 44 s at) where
   unfolding codeAt
   code-then h p = rw (← q, lt-ltb e (length s) h, p)
 
-unfoldable codeHead : (MaybeCode → List (List ℕ) → PartRead) → List (List ℕ) → PartRead
-codeHead K [] = Fault
-codeHead K (f ∷ fs) = onCode (maybeCodeOf f) Fault λ x. K x fs
+abbrev codeHead : (MaybeCode → List (List ℕ) → PartRead) → List (List ℕ) → PartRead
+codeHead K = headed (maybeCodeOf) (λ r k. onCode r Fault k) K
 
 abbrev onCodeAt : CodeAt → (MaybeCode → ℕ → PartRead) → PartRead
 onCodeAt (CodeAt.Code x next) k = k x next
@@ -182,14 +203,14 @@ code-goes (MaybeCodeRead.MaybeCode x) k next = refl
 code-goes MaybeCodeRead.Fault k next = refl
 
 code-at : (K : MaybeCode → List (List ℕ) → PartRead) → ((x : MaybeCode) → K x [] ≡ Fault) → (s : List ℕ) (at : ℕ) → codeHead K (split 44 (drop at s)) ≡ onCodeAt (codeAt s at) (λ x next. K x (split 44 (drop next s)))
-unfolding codeHead
-code-at K none s at =
-    let e : ℕ = endOf 44 s at in
-    let k : MaybeCode → ℕ → PartRead = λ x next. K x (split 44 (drop next s)) in
-    ⊎-elim
-    (λ (h : length s ≤ e). ap (codeHead K) (last-here s at h) ∙ code-stops (maybeCodeOf (between s at e)) (λ x. K x []) none ∙ ap (λ (r : CodeAt). onCodeAt r k) (sym (code-none s at e refl h)))
-    (λ (h : e < length s). ap (codeHead K) (more-here s at h) ∙ code-goes (maybeCodeOf (between s at e)) k (e + 1) ∙ ap (λ (r : CodeAt). onCodeAt r k) (sym (code-then s at e refl h refl)))
-    (le-or-lt (length s) e)
+code-at =
+    field-at (maybeCodeOf) (λ r k. onCode r Fault k) onCodeAt codeThen (codeAt)
+    (record {
+      stops = code-stops;
+      goes = code-goes;
+      none = λ s at k h. ap (λ (r : CodeAt). onCodeAt r k) (code-none s at (endOf 44 s at) refl h);
+      more = λ s at h. code-then s at (endOf 44 s at) refl h refl;
+    })
 
 -- ---- the kind, which ends the part
 abbrev kindLast : Number → MaybeDate → MaybeCode → MaybeCode → List (List ℕ) → PartRead
@@ -240,32 +261,32 @@ kind-count number date gaining losing (f ∷ []) n = absurd (n refl)
 kind-count number date gaining losing (f ∷ g ∷ fs) n = refl
 
 losing-count : (number : Number) (date : MaybeDate) (gaining : MaybeCode) (fs : List (List ℕ)) → (length fs ≡ 2 → ⊥) → fromLosing number date gaining fs ≡ Fault
-unfolding codeHead
+unfolding headed
 losing-count number date gaining [] n = refl
 losing-count number date gaining (f ∷ fs) n = code-stops (maybeCodeOf f) _ (λ x. kind-count number date gaining x fs (λ e. n (omega arith)))
 
 gaining-count : (number : Number) (date : MaybeDate) (fs : List (List ℕ)) → (length fs ≡ 3 → ⊥) → fromGaining number date fs ≡ Fault
-unfolding codeHead
+unfolding headed
 gaining-count number date [] n = refl
 gaining-count number date (f ∷ fs) n = code-stops (maybeCodeOf f) _ (λ x. losing-count number date x fs (λ e. n (omega arith)))
 
 date-count : (number : Number) (fs : List (List ℕ)) → (length fs ≡ 4 → ⊥) → fromDate number fs ≡ Fault
-unfolding dateHead
+unfolding headed
 date-count number [] n = refl
 date-count number (f ∷ fs) n = date-stops (maybeDateOf f) _ (λ x. gaining-count number x fs (λ e. n (omega arith)))
 
 last-count : (first : Digits) (fs : List (List ℕ)) → (length fs ≡ 5 → ⊥) → fromLast first fs ≡ Fault
-unfolding numberHead
+unfolding headed
 last-count first [] n = refl
 last-count first (f ∷ fs) n = number-stops (numberOf first f) _ (λ x. date-count x fs (λ e. n (omega arith)))
 
 first-count : (fs : List (List ℕ)) → (length fs ≡ 6 → ⊥) → fromFirst fs ≡ Fault
-unfolding digitsHead
+unfolding headed
 first-count [] n = refl
 first-count (f ∷ fs) n = digits-stops (digitsFieldOf f) _ (λ x. last-count x fs (λ e. n (omega arith)))
 
 part-pieces : (fs : List (List ℕ)) → cond (eqb (length fs) 6) (sixOf (getD fs 0 []) (getD fs 1 []) (getD fs 2 []) (getD fs 3 []) (getD fs 4 []) (getD fs 5 [])) Fault ≡ fromFirst fs
-unfolding sixOf digitsHead numberHead dateHead codeHead
+unfolding sixOf headed
 part-pieces [] = sym (first-count [] (λ q. omega arith))
 part-pieces (a ∷ []) = sym (first-count (a ∷ []) (λ q. omega arith))
 part-pieces (a ∷ b ∷ []) = sym (first-count (a ∷ b ∷ []) (λ q. omega arith))
@@ -279,7 +300,7 @@ part-pieces (a ∷ b ∷ c ∷ d ∷ e ∷ f ∷ g ∷ fs) =
 -- ---- which way the walk goes
 module _ (s : List ℕ) where
   from-0 : partOf s ≡ onDigitsAt (digitsAt s 0) (λ first next. fromLast first (split 44 (drop next s)))
-  unfolding partOf numberHead
+  unfolding partOf headed
   from-0 = part-pieces (split 44 s) ∙ digits-at _ (λ first. refl) s 0
 
   pub walk-1 : digitsAt s 0 ≡ DigitsAt.Fault → partOf s ≡ Fault
@@ -287,7 +308,7 @@ module _ (s : List ℕ) where
 
   module _ {first : Digits} {a : ℕ} (p₁ : digitsAt s 0 ≡ DigitsAt.Digits first a) where
     from-1 : partOf s ≡ onNumberAt (numberAt first s a) (λ number next. fromDate number (split 44 (drop next s)))
-    unfolding dateHead
+    unfolding headed
     from-1 = from-0 ∙ rw p₁ (number-at first _ (λ number. refl) s a)
 
     pub walk-2 : numberAt first s a ≡ NumberAt.Fault → partOf s ≡ Fault
@@ -295,7 +316,7 @@ module _ (s : List ℕ) where
 
     module _ {number : Number} {b : ℕ} (p₂ : numberAt first s a ≡ NumberAt.Number number b) where
       from-2 : partOf s ≡ onDateAt (dateAt s b) (λ date next. fromGaining number date (split 44 (drop next s)))
-      unfolding codeHead
+      unfolding headed
       from-2 = from-1 ∙ rw p₂ (date-at _ (λ date. refl) s b)
 
       pub walk-3 : dateAt s b ≡ DateAt.Fault → partOf s ≡ Fault
@@ -303,7 +324,7 @@ module _ (s : List ℕ) where
 
       module _ {date : MaybeDate} {c : ℕ} (p₃ : dateAt s b ≡ DateAt.Date date c) where
         from-3 : partOf s ≡ onCodeAt (codeAt s c) (λ gaining next. fromLosing number date gaining (split 44 (drop next s)))
-        unfolding codeHead
+        unfolding headed
         from-3 = from-2 ∙ rw p₃ (code-at _ (λ gaining. refl) s c)
 
         pub walk-4 : codeAt s c ≡ CodeAt.Fault → partOf s ≡ Fault

@@ -8,7 +8,7 @@ use lib.ListN.{length}
 use Rattle.laws.specs.Lists.{table, any, keep}
 use Rattle.laws.proofs.Lists.{keep-none, keep-same, length-either}
 use Rattle.laws.proofs.Order.{length-inOrder}
-use Rattle.laws.proofs.Tables.{table-more, any-more, any-none, any-next, any-here, getD-table, length-table}
+use Rattle.laws.proofs.Tables.{table-more, any-more, any-none, getD-table, length-table}
 use Rattle.laws.proofs.Tests.{eqb-comm}
 use Rattle.fields.specs.declared.number.Number.{Number}
 use Rattle.fields.specs.Number.{sameNumber}
@@ -39,14 +39,6 @@ module _ (f : Filed) (n : Number) where
   pub named-none : namedTo f 0 n ≡ false
   unfolding namedTo
   named-none = any-none (about rules n) (eventAt f)
-
-  pub named-next : (i : ℕ) (x : Number) → x ≡ numberFrom f i → sameNumber x n ≡ false → namedTo f i n ≡ false → namedTo f (i + 1) n ≡ false
-  unfolding namedTo numberFrom about
-  named-next i x e q inv = any-next (about rules n) i (eventAt f) inv (ap (λ (m : Number). sameNumber m n) (sym e) ∙ q)
-
-  pub named-here : (i j : ℕ) (x : Number) → i < j → x ≡ numberFrom f i → sameNumber x n ≡ true → true ≡ namedTo f j n
-  unfolding namedTo numberFrom about
-  named-here i j x h e q = sym (any-here (about rules n) j i (eventAt f) h (ap (λ (m : Number). sameNumber m n) (sym e) ∙ q))
 
   -- all records
   pub named-all : (j : ℕ) → length (f .records) ≡ j → namedTo f j n ≡ named rules f n
