@@ -30,7 +30,7 @@ use Rattle.layout.specs.declared.part.Part.{Part}
 use Rattle.layout.specs.declared.part.PartRead.{PartRead}
 use Rattle.layout.specs.declared.part.PartRead.the-variants.{Fault}
 use Rattle.layout.specs.Part.{sixOf, restOfWords, numberOfWords, partOfWords, partText}
-use Rattle.layout.specs.Putting.{followed, numberThen, networksThen}
+use Rattle.layout.specs.Putting.{followed, numberFollowed, networksFollowed}
 
 -- ---- six fields that have their values
 module _ (a b c d e f : List ℕ) {first : Digits} {number : Number} {date : MaybeDate} {gaining losing : MaybeCode} {kind : MaybeKind} where
@@ -89,12 +89,12 @@ pair-on a b rest = append-assoc (followed a) (followed b) rest ∙ followed-on a
 module _ (p : Part) where
   -- behind the date, and behind the number
   abbrev pub networksOn : List ℕ
-  networksOn = networksThen (p .gaining) (p .losing) ++ maybeKindText (p .kind)
+  networksOn = networksFollowed (p .gaining) (p .losing) ++ maybeKindText (p .kind)
 
   abbrev pub dateOn : List ℕ
   dateOn = followed (maybeDateText (p .date)) ++ networksOn
 
-  pub whole : partText p ≡ numberThen (p .number) ++ dateOn
+  pub whole : partText p ≡ numberFollowed (p .number) ++ dateOn
   unfolding partText
   whole =
       sym
@@ -107,7 +107,7 @@ module _ (p : Part) where
   pub begins : partText p ≡ digitsText (p .number .first) ++ (44 ∷ (followed (digitsText (p .number .last)) ++ dateOn))
   begins = whole ∙ append-assoc (followed (digitsText (p .number .first))) (followed (digitsText (p .number .last))) dateOn ∙ followed-on (digitsText (p .number .first)) (followed (digitsText (p .number .last)) ++ dateOn)
 
-  pub room-part : (o : List ℕ) (at : ℕ) → at + length (partText p) ≤ length o → Room o at (numberThen (p .number) ++ dateOn)
+  pub room-part : (o : List ℕ) (at : ℕ) → at + length (partText p) ≤ length o → Room o at (numberFollowed (p .number) ++ dateOn)
   room-part o at h = record { fits = rw whole at h }
 
 -- ---- how long the fields are

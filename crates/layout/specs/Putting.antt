@@ -11,11 +11,11 @@ use Rattle.fields.specs.Number.{digitsText}
 abbrev pub followed : List ℕ → List ℕ
 followed field = field ++ (44 ∷ [])
 
-abbrev pub numberThen : Number → List ℕ
-numberThen n = followed (digitsText (n .first)) ++ followed (digitsText (n .last))
+abbrev pub numberFollowed : Number → List ℕ
+numberFollowed n = followed (digitsText (n .first)) ++ followed (digitsText (n .last))
 
-abbrev pub networksThen : MaybeCode → MaybeCode → List ℕ
-networksThen gaining losing = followed (maybeCodeText gaining) ++ followed (maybeCodeText losing)
+abbrev pub networksFollowed : MaybeCode → MaybeCode → List ℕ
+networksFollowed gaining losing = followed (maybeCodeText gaining) ++ followed (maybeCodeText losing)
 
 -- the code and "U:"; ",K:"
 abbrev pub headText : CorrectionCode → List ℕ

@@ -5,7 +5,7 @@ ghost use Rattle.laws.specs.Overlay.{Laid};
 ghost use Rattle.fields.specs.Code.{maybeCodeText};
 ghost use Rattle.fields.specs.Date.{maybeDateText};
 ghost use Rattle.fields.specs.Number.{digitsText};
-ghost use Rattle.layout.specs.Putting.{followed, numberThen, networksThen, headText, betweenParts};
+ghost use Rattle.layout.specs.Putting.{followed, numberFollowed, networksFollowed, headText, betweenParts};
 use fields::code::MaybeCode;
 use fields::correction_code::CorrectionCode;
 use fields::date::MaybeDate;
@@ -38,8 +38,8 @@ pub fn put_date(date: MaybeDate, out: &mut [u8], at: usize) -> usize
 
 // Both fields of a number.
 pub fn put_number(number: Number, out: &mut [u8], at: usize) -> usize
-    requires { ⌜ at + length (numberThen number) ≤ length (now out) ⌝ }
-    ensures { λ r. ⌜ Laid (now (out .entry)) at (numberThen number) (now (out .exit)) r ⌝ }
+    requires { ⌜ at + length (numberFollowed number) ≤ length (now out) ⌝ }
+    ensures { λ r. ⌜ Laid (now (out .entry)) at (numberFollowed number) (now (out .exit)) r ⌝ }
 {
     let first = number.first;
     let last = number.last;
@@ -49,8 +49,8 @@ pub fn put_number(number: Number, out: &mut [u8], at: usize) -> usize
 
 // Both networks.
 pub fn put_networks(gaining: MaybeCode, losing: MaybeCode, out: &mut [u8], at: usize) -> usize
-    requires { ⌜ at + length (networksThen gaining losing) ≤ length (now out) ⌝ }
-    ensures { λ r. ⌜ Laid (now (out .entry)) at (networksThen gaining losing) (now (out .exit)) r ⌝ }
+    requires { ⌜ at + length (networksFollowed gaining losing) ≤ length (now out) ⌝ }
+    ensures { λ r. ⌜ Laid (now (out .entry)) at (networksFollowed gaining losing) (now (out .exit)) r ⌝ }
 {
     let behind = put_code(gaining, out, at);
     put_code(losing, out, behind)

@@ -2,7 +2,7 @@
 use Rattle.laws.proofs.Overlay.{room-first, room-next, laid-then, laid-length}
 use Rattle.fields.specs.Date.{maybeDateText}
 use Rattle.fields.specs.Kind.{maybeKindText}
-use Rattle.layout.specs.Putting.{followed, numberThen, networksThen}
+use Rattle.layout.specs.Putting.{followed, numberFollowed, networksFollowed}
 use Rattle.layout.proofs.PartLaws.{whole, room-part, networksOn, dateOn}
 use Rattle.layout.proofs.part.Part.write.Statement.{statement}
 use Rattle.layout.proofs.part.Part.write.Tie as tie
@@ -11,7 +11,7 @@ put-number-requires : tie.Need-put-number-requires
 put-number-requires c κs =
     let s = c .before .before .before in
     let p = s .args .self in
-    room-first (numberThen (p .number)) (dateOn p) (room-part p (s .args .out .now) (s .args .at) (s .pre))
+    room-first (numberFollowed (p .number)) (dateOn p) (room-part p (s .args .out .now) (s .args .at) (s .pre))
 
 put-date-requires : tie.Need-put-date-requires
 put-date-requires c κs =
@@ -28,7 +28,7 @@ put-networks-requires c κs =
     let s = w1 .before .before .before .before in
     let p = s .args .self in
     let r1 = room-next (dateOn p) (room-part p (s .args .out .now) (s .args .at) (s .pre)) (w1 .put-number .ensures) in
-    room-first (networksThen (p .gaining) (p .losing)) (maybeKindText (p .kind)) (room-next (networksOn p) r1 (w2 .put-date .ensures))
+    room-first (networksFollowed (p .gaining) (p .losing)) (maybeKindText (p .kind)) (room-next (networksOn p) r1 (w2 .put-date .ensures))
 
 write-requires : tie.Need-write-requires
 write-requires c κs =
