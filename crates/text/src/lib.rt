@@ -122,13 +122,13 @@ pub fn size(n: u64, most: usize) -> usize
 pub fn leading(n: u64, k: usize) -> u64
     ensures { λ r. ⌜ r ≡ down k n ⌝ }
 {
-    let mut m = n;
+    let mut front = n;
     let mut i = k;
     while 0 < i {
-        m = m / 10;
+        front = front / 10;
         i -= 1;
     }
-    m
+    front
 }
 
 // One byte into a lent buffer; what follows it is the answer.
