@@ -46,7 +46,7 @@ impl FileKind {
         match self {
             FileKind::Default => true,
             FileKind::Correction => true,
-            FileKind::Request => false,
+            FileKind::Request => false, // only read and written
             FileKind::Response => false,
         }
     }
@@ -58,7 +58,7 @@ impl FileKind {
         match self {
             FileKind::Default => true,
             FileKind::Correction => true,
-            FileKind::Request => false,
+            FileKind::Request => false, // one record, and nothing behind it
             FileKind::Response => true,
         }
     }
