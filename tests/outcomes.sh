@@ -7,6 +7,8 @@ theorems=crates/outcomes/proofs/Outcomes.antt
 
 # rooms of a caller's own, that no user lends: what stands behind the keys and places laid, and what a table that is refused left
 exceptions='working::gather::gather_all indexing::index::index indexing::find::gather_indexed renewing::named::tag_file tables::scratch::judge'
+# rooms of a caller's own too, lent down so that they aren't cleared for each number: only what becomes of `room` is left out, all else is asked
+rooms='indexing::find::work_indexed overview::lines::line_standing renewing::turn::renew_record'
 # the program's crates: what they print and keep has no contract, and is tested
 program='desk words disk shown commands offers questions reasons'
 
@@ -14,7 +16,7 @@ for root in crates/*/src/lib.rt; do
     crate=${root#crates/} crate=${crate%%/*}
     case " $program " in *" $crate "*) continue ;; esac
     find "crates/$crate/src" -name '*.rt'
-done | sort | xargs awk -v theorems="$theorems" -v exceptions="$exceptions" '
+done | sort | xargs awk -v theorems="$theorems" -v exceptions="$exceptions" -v rooms="$rooms" '
     BEGIN {
         while ((getline line <theorems) > 0)
             if (match(line, /Settles \(λ \(o : [^.]*\. /)) {
@@ -25,6 +27,9 @@ done | sort | xargs awk -v theorems="$theorems" -v exceptions="$exceptions" '
         count = split(exceptions, listed, " ")
         for (i = 1; i <= count; i++)
             excepted[listed[i]] = 1
+        rooms_count = split(rooms, with_room, " ")
+        for (i = 1; i <= rooms_count; i++)
+            excepted[with_room[i] " room"] = 1
     }
     function fail(why) { printf "outcomes: %s: %s\n", here, why; failed++ }
     # the contract of the function whose head has ended
@@ -33,7 +38,8 @@ done | sort | xargs awk -v theorems="$theorems" -v exceptions="$exceptions" '
         if (contract == "") { fail("no ensures"); return }
         n = split(lent, names, " ")
         for (i = 1; i <= n; i++)
-            if (index(contract, "(" names[i] " .exit)") == 0)
+            if ((here " " names[i]) in excepted) met[here] = 1
+            else if (index(contract, "(" names[i] " .exit)") == 0)
                 fail("what becomes of " names[i] " is not said")
         if (form != "" && !(form in settled)) fail("no theorem says that " form " settles its outcome")
         if (gives && form == "" && !answered) fail("no equation for the answer")
@@ -68,6 +74,8 @@ done | sort | xargs awk -v theorems="$theorems" -v exceptions="$exceptions" '
     END {
         for (i = 1; i <= count; i++)
             if (!(listed[i] in met)) { printf "outcomes: %s is left out and is not there\n", listed[i]; failed++ }
-        printf "outcomes: %d public functions, each with one outcome; %d left out\n", functions, count
+        for (i = 1; i <= rooms_count; i++)
+            if (!(with_room[i] in met)) { printf "outcomes: %s has no room that is left out\n", with_room[i]; failed++ }
+        printf "outcomes: %d public functions, each with one outcome, %d of them but for a room; %d left out\n", functions, rooms_count, count
         exit failed > 0
     }'

@@ -77,6 +77,7 @@ fn differing_by<'a>(
     keys: &'a [u64; 10240],
     places: &'a [u64; 10240],
     c: usize,
+    room: &mut [u64; 10240],
 ) -> usize
     requires { ⌜ Sound n (now files) (now regular) (now corrections) ⌝ }
     requires { ⌜ (2 + m * 14 ≤ length (now table)) × (m * 100 ≤ length (now entries)) × (m ≤ 1024) ⌝ }
@@ -99,6 +100,7 @@ fn differing_by<'a>(
             places,
             c,
             i,
+            room,
         );
         count += counts(is_other(entries, i, s));
         i += 1;
@@ -123,6 +125,7 @@ fn differing_among<'a>(
     let mut wanted = [0u64; 10240];
     let mut keys = [0u64; 10240];
     let mut places = [0u64; 10240];
+    let mut room = [0u64; 10240];
     overview::lines::want_lines(table, m, &mut wanted);
     let c = index::index(
         files,
@@ -146,6 +149,7 @@ fn differing_among<'a>(
         &keys,
         &places,
         c,
+        &mut room,
     )
 }
 

@@ -141,7 +141,8 @@ pub fn gather_indexed<'a>(
     gather::gather_all(files, n, regular, corrections, number, out)
 }
 
-// Where a number with this line stands over the first n files, worked out afresh, and how many records name it.
+// Where a number with this line stands over the first n files, worked out afresh, and how many records name it; their keys are
+// laid into `room`, which is lent so that it isn't cleared for each number.
 pub fn work_indexed<'a>(
     files: &'a [u8],
     n: usize,
@@ -154,13 +155,13 @@ pub fn work_indexed<'a>(
     c: usize,
     number: Number,
     line: Line,
+    room: &mut [u64; 10240],
 ) -> Worked
     requires { ⌜ Sound n (now files) (now regular) (now corrections) ⌝ }
     requires { ⌜ Wanted (now wanted) w ⌝ }
     requires { ⌜ Indexed n (now files) (now regular) (now corrections) (take w (now wanted)) (now keys) (now places) c ⌝ }
     ensures { λ r. ⌜ WorkedAfresh n (now (files .entry)) (now (regular .entry)) (now (corrections .entry)) number line (r .standing) (r .count) ⌝ }
 {
-    let mut out = [0u64; 10240];
     let r = gather_indexed(
         files,
         n,
@@ -172,10 +173,10 @@ pub fn work_indexed<'a>(
         places,
         c,
         number,
-        &mut out,
+        room,
     );
-    work::sort_first(&mut out, r);
-    let s = work::fold_all(regular, corrections, line, &out, r);
+    work::sort_first(room, r);
+    let s = work::fold_all(regular, corrections, line, room, r);
     Worked {
         standing: s,
         count: r,

@@ -72,6 +72,7 @@ pub fn line_standing<'a>(
     places: &'a [u64; 10240],
     c: usize,
     i: usize,
+    room: &mut [u64; 10240],
 ) -> Standing
     requires { ⌜ Sound n (now files) (now regular) (now corrections) ⌝ }
     requires { ⌜ Wanted (now wanted) w ⌝ }
@@ -99,6 +100,7 @@ pub fn line_standing<'a>(
         c,
         number,
         line,
+        room,
     );
     worked.standing
 }

@@ -31,6 +31,7 @@ fn renew_records<'a>(
     keys: &'a [u64; 10240],
     places: &'a [u64; 10240],
     c: usize,
+    room: &mut [u64; 10240],
     entries: &mut [u8],
     f: File,
     start: usize,
@@ -56,6 +57,7 @@ fn renew_records<'a>(
             keys,
             places,
             c,
+            room,
             entries,
             f,
             start,
@@ -84,6 +86,7 @@ fn renew_file<'a>(
     let mut wanted = [0u64; 10240];
     let mut keys = [0u64; 10240];
     let mut places = [0u64; 10240];
+    let mut room = [0u64; 10240];
     let w = named::tag_file(regular, corrections, f, start, &mut wanted);
     let c = index::index(
         files,
@@ -106,6 +109,7 @@ fn renew_file<'a>(
         &keys,
         &places,
         c,
+        &mut room,
         entries,
         f,
         start,

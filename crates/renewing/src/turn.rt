@@ -28,12 +28,12 @@ fn count_all<'a>(
     places: &'a [u64; 10240],
     c: usize,
     number: Number,
+    room: &mut [u64; 10240],
 ) -> usize
     requires { ⌜ Sound n (now files) (now regular) (now corrections) ⌝ }
     requires { ⌜ Ready n (now files) (now regular) (now corrections) (now wanted) w (now keys) (now places) c ⌝ }
     ensures { λ r. ⌜ r ≡ length (history rules (take n (readFiles (now (files .entry)) (now (regular .entry)) (now (corrections .entry)))) number) ⌝ }
 {
-    let mut out = [0u64; 10240];
     find::gather_indexed(
         files,
         n,
@@ -45,7 +45,7 @@ fn count_all<'a>(
         places,
         c,
         number,
-        &mut out,
+        room,
     )
 }
 
@@ -61,6 +61,7 @@ fn renew_line<'a>(
     keys: &'a [u64; 10240],
     places: &'a [u64; 10240],
     c: usize,
+    room: &mut [u64; 10240],
     entries: &mut [u8],
     k: usize,
 ) -> usize
@@ -86,6 +87,7 @@ fn renew_line<'a>(
         c,
         number,
         line,
+        room,
     );
     let s = worked.standing;
     let e = s.entry;
@@ -105,6 +107,7 @@ fn renew_number<'a>(
     keys: &'a [u64; 10240],
     places: &'a [u64; 10240],
     c: usize,
+    room: &mut [u64; 10240],
     entries: &mut [u8],
     number: Number,
 ) -> usize
@@ -126,6 +129,7 @@ fn renew_number<'a>(
             keys,
             places,
             c,
+            room,
             entries,
             k,
         );
@@ -141,6 +145,7 @@ fn renew_number<'a>(
         places,
         c,
         number,
+        room,
     )
 }
 
@@ -156,6 +161,7 @@ pub fn renew_record<'a>(
     keys: &'a [u64; 10240],
     places: &'a [u64; 10240],
     c: usize,
+    room: &mut [u64; 10240],
     entries: &mut [u8],
     f: File,
     start: usize,
@@ -183,6 +189,7 @@ pub fn renew_record<'a>(
         keys,
         places,
         c,
+        room,
         entries,
         number,
     )

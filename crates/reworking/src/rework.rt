@@ -31,6 +31,7 @@ fn rework_line<'a>(
     keys: &'a [u64; 10240],
     places: &'a [u64; 10240],
     c: usize,
+    room: &mut [u64; 10240],
     entries: &mut [u8],
     i: usize,
 ) -> bool
@@ -52,6 +53,7 @@ fn rework_line<'a>(
         places,
         c,
         i,
+        room,
     );
     let worked = s.entry;
     let stored = entry::entry_at(entries, i);
@@ -83,6 +85,7 @@ fn rework_lines<'a>(
     keys: &'a [u64; 10240],
     places: &'a [u64; 10240],
     c: usize,
+    room: &mut [u64; 10240],
     entries: &mut [u8],
     m: usize,
     list: &mut [u16],
@@ -108,6 +111,7 @@ fn rework_lines<'a>(
             keys,
             places,
             c,
+            room,
             entries,
             i,
         );
@@ -136,6 +140,7 @@ fn rework_all<'a>(
     let mut wanted = [0u64; 10240];
     let mut keys = [0u64; 10240];
     let mut places = [0u64; 10240];
+    let mut room = [0u64; 10240];
     overview::lines::want_lines(table, m, &mut wanted);
     let c = index::index(
         files,
@@ -158,6 +163,7 @@ fn rework_all<'a>(
         &keys,
         &places,
         c,
+        &mut room,
         entries,
         m,
         list,

@@ -16,7 +16,7 @@ index-requires c κs =
 
 differing-by-requires : tie.Need-differing-by-requires
 differing-by-requires c κs =
-    let indexed = c .before .before .before in
+    let indexed = c .before .before .before .before in
     let wanted = indexed .before .before .before .before in
     let start = wanted .before .before .before .before .before .before .before in
     (start .pre .0, (start .pre .1, (wanted-sorted (start .args .m) _ _ (omega (arith, start .pre .1 .2)) (wanted .want-lines .ensures), indexed .index .ensures)))

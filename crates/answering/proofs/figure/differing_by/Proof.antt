@@ -12,10 +12,10 @@ use Rattle.answering.proofs.figure.differing_by.Statement.{statement}
 use Rattle.answering.proofs.figure.differing_by.Tie as tie
 
 abbrev Inv-loop : tie.InvT-loop
-Inv-loop table files n regular corrections entries m wanted keys places c count₀ i₀ count i = (i ≤ m) × (count ≤ i) × (count ≡ differing (take n (readFiles files regular corrections)) table entries i)
+Inv-loop table files n regular corrections entries m wanted keys places c room₀ count₀ i₀ room count i = (i ≤ m) × (count ≤ i) × (count ≡ differing (take n (readFiles files regular corrections)) table entries i)
 
 abbrev μ-loop : tie.MeasureT-loop
-μ-loop table files n regular corrections entries m wanted keys places c count₀ i₀ count i = m - i
+μ-loop table files n regular corrections entries m wanted keys places c room₀ count₀ i₀ room count i = m - i
 
 loop-holds : tie.Need-loop-holds Inv-loop μ-loop
 loop-holds c =
@@ -24,12 +24,12 @@ loop-holds c =
 
 line-standing-requires : tie.Need-line-standing-requires Inv-loop μ-loop
 line-standing-requires c κs =
-    let start = c .before .before .before .before .before .before .before in
+    let start = c .before .before .before .before .before .before .before .before in
     (start .pre .0, (start .pre .1 .1 .0, (start .pre .1 .1 .1, omega (arith, start .pre .1 .0 .0))))
 
 is-other-requires : tie.Need-is-other-requires Inv-loop μ-loop
 is-other-requires c κs =
-    let start = c .before .before .before .before .before .before .before .before in
+    let start = c .before .before .before .before .before .before .before .before .before in
     omega (arith, start .pre .1 .0 .1)
 
 counts-requires : tie.Need-counts-requires Inv-loop μ-loop
@@ -47,7 +47,7 @@ loop-less c = search needs
 loop-again : tie.Need-loop-again Inv-loop μ-loop
 loop-again c =
     let stood = c .before .before in
-    let at-loop = stood .before .before in
+    let at-loop = stood .before .before .before in
     let a = at-loop .before .before .before .before .before .before .args in
     let files = take (a .n) (readFiles (now (a .files)) (now (a .regular)) (now (a .corrections))) in
     let other = c .before .is-other in (

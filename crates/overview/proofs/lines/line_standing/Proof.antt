@@ -10,7 +10,7 @@ work-indexed-requires : tie.Need-work-indexed-requires
 work-indexed-requires c κs = search needs
 
 returns : tie.Need-returns
-returns c = rw (← c .before .before .before .before .before .line-at .ensures) (c .before .work-indexed .ensures .stands)
+returns c = rw (← c .before .before .before .before .before .before .line-at .ensures) (c .before .work-indexed .ensures .stands)
 
 pub line-standing-spec : {M : Type 1} → statement M
 line-standing-spec = tie.close (tie.spec line-at-requires work-indexed-requires returns)

@@ -18,7 +18,7 @@ index-requires c κs =
 
 renew-records-requires : tie.Need-renew-records-requires
 renew-records-requires c κs =
-    let indexed = c .before .before .before .before in
+    let indexed = c .before .before .before .before .before in
     let tags = indexed .before .before .before .before in
     let start = tags .before .before .before .before .before .before .before in
     let a = start .args in

@@ -11,12 +11,12 @@ use Rattle.renewing.proofs.renew.renew_records.Statement.{statement}
 use Rattle.renewing.proofs.renew.renew_records.Tie as tie
 
 abbrev Inv-loop : tie.InvT-loop
-Inv-loop lines files n regular corrections wanted w keys places c entries₀ f start count sum₀ j₀ entries sum j =
+Inv-loop lines files n regular corrections wanted w keys places c room₀ entries₀ f start count sum₀ j₀ room entries sum j =
     (j ≤ count) × (length entries ≡ length entries₀)
     × Staged (readFiles files regular corrections) (filedFrom (recordsAt regular corrections) f start) j lines entries₀ entries sum
 
 abbrev μ-loop : tie.MeasureT-loop
-μ-loop lines files n regular corrections wanted w keys places c entries₀ f start count sum₀ j₀ entries sum j = count - j
+μ-loop lines files n regular corrections wanted w keys places c room₀ entries₀ f start count sum₀ j₀ room entries sum j = count - j
 
 cast-count : tie.Need-cast-count Inv-loop μ-loop
 cast-count c = search needs
@@ -28,14 +28,14 @@ loop-holds c =
 
 renew-record-requires : tie.Need-renew-record-requires Inv-loop μ-loop
 renew-record-requires c κs =
-    let at-loop = c .before .before in
+    let at-loop = c .before .before .before in
     let start = at-loop .before .before .before .before .before .before .before in
     (still-workable (start .pre .0) (at-loop .loop .entries) (at-loop .loop .inv .1), (start .pre .1 .0, (start .pre .1 .1 .0, (search needs, start .pre .1 .1 .1))))
 
 add-sum : tie.Need-add-sum Inv-loop μ-loop
 add-sum c =
     let done = c .before .before in
-    let at-loop = done .before .before .before in
+    let at-loop = done .before .before .before .before in
     let start = at-loop .before .before .before .before .before .before .before in
     omega (arith, at-loop .loop .inv .2 .few, done .renew-record .ensures .few, at-loop .loop .inv .0, start .pre .1 .1 .0 .within)
 
@@ -48,7 +48,7 @@ loop-less c = search needs
 loop-again : tie.Need-loop-again Inv-loop μ-loop
 loop-again c =
     let done = c .before .before in
-    let at-loop = done .before .before .before in
+    let at-loop = done .before .before .before .before in
     let args = at-loop .before .before .before .before .before .before .before .args in (
       search needs,
       search needs,

@@ -13,16 +13,16 @@ line-of-requires c κs = search needs
 
 renew-line-requires : tie.Need-renew-line-requires
 renew-line-requires c κs =
-    let counted = c .before .before .before in
+    let counted = c .before .before .before .before in
     let start = counted .before .before .before .before .before .before in
-    (start .pre .0, (start .pre .1, omega (arith, c .before .if1 .taken, counted .line-count .ensures .0)))
+    (start .pre .0, (start .pre .1, omega (arith, c .before .before .if1 .taken, counted .line-count .ensures .0)))
 
 same-length : tie.Need-same-length
 same-length c = search needs
 
 returns : tie.Need-returns
 returns c =
-    let chosen = c .before .before .before .before in
+    let chosen = c .before .before .before .before .before in
     let found = chosen .before in
     let counted = found .before in
     let start = counted .before .before .before .before .before .before in
@@ -32,12 +32,12 @@ returns c =
 
 count-all-requires : tie.Need-count-all-requires
 count-all-requires c κs =
-    let start = c .before .before .before .before .before .before .before .before in
+    let start = c .before .before .before .before .before .before .before .before .before in
     (start .pre .0 .sound, start .pre .1)
 
 returns-2 : tie.Need-returns-2
 returns-2 c =
-    let left = c .before in
+    let left = c .before .before in
     let found = left .before in
     let counted = found .before in
     let start = counted .before .before .before .before .before .before in

@@ -33,7 +33,7 @@ same-length c = search needs
 returns-2 : tie.Need-returns-2
 returns-2 c =
     let done = c .before .before in
-    let left = done .before .before in
+    let left = done .before .before .before in
     let named = left .before in
     let read = named .before in
     let start = read .before .before .before .before .before .before in

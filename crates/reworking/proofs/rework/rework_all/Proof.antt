@@ -16,7 +16,7 @@ index-requires c κs =
 
 rework-lines-requires : tie.Need-rework-lines-requires
 rework-lines-requires c κs =
-    let indexed = c .before .before .before .before .before in
+    let indexed = c .before .before .before .before .before .before in
     let wanted = indexed .before .before .before .before in
     let start = wanted .before .before .before .before .before .before .before .before in
     (start .pre .0, (wanted-sorted (start .args .m) _ _ (omega (arith, start .pre .1 .0 .3)) (wanted .want-lines .ensures), (indexed .index .ensures, (start .pre .1 .0, start .pre .1 .1))))

@@ -12,10 +12,10 @@ use Rattle.reworking.proofs.rework.rework_lines.Statement.{statement}
 use Rattle.reworking.proofs.rework.rework_lines.Tie as tie
 
 abbrev Inv-loop : tie.InvT-loop
-Inv-loop table files n regular corrections wanted w keys places c entries₀ m list₀ count₀ i₀ entries list count i = (i ≤ m) × (length entries ≡ length entries₀) × (length list ≡ length list₀) × (count ≤ i) × LinesReworked (take n (readFiles files regular corrections)) table i entries₀ entries list₀ list count
+Inv-loop table files n regular corrections wanted w keys places c room₀ entries₀ m list₀ count₀ i₀ room entries list count i = (i ≤ m) × (length entries ≡ length entries₀) × (length list ≡ length list₀) × (count ≤ i) × LinesReworked (take n (readFiles files regular corrections)) table i entries₀ entries list₀ list count
 
 abbrev μ-loop : tie.MeasureT-loop
-μ-loop table files n regular corrections wanted w keys places c entries₀ m list₀ count₀ i₀ entries list count i = m - i
+μ-loop table files n regular corrections wanted w keys places c room₀ entries₀ m list₀ count₀ i₀ room entries list count i = m - i
 
 loop-holds : tie.Need-loop-holds Inv-loop μ-loop
 loop-holds c =
@@ -24,13 +24,13 @@ loop-holds c =
 
 rework-line-requires : tie.Need-rework-line-requires Inv-loop μ-loop
 rework-line-requires c κs =
-    let at-loop = c .before .before in
+    let at-loop = c .before .before .before in
     let start = at-loop .before .before .before .before .before .before .before in
     (start .pre .0, (start .pre .1 .0, (start .pre .1 .1 .0, (omega (arith, start .pre .1 .1 .1 .0 .0), omega (arith, start .pre .1 .1 .1 .0 .1, at-loop .loop .inv .1)))))
 
 note-requires : tie.Need-note-requires Inv-loop μ-loop
 note-requires c κs =
-    let at-loop = c .before .before .before .before .before .before in
+    let at-loop = c .before .before .before .before .before .before .before in
     let start = at-loop .before .before .before .before .before .before .before in
     (omega (arith, start .pre .1 .1 .1 .0 .2, at-loop .loop .inv .2, at-loop .loop .inv .3), omega (arith, start .pre .1 .1 .1 .0 .3, at-loop .loop .inv .3), omega (arith, start .pre .1 .1 .1 .0 .3))
 
@@ -44,11 +44,11 @@ loop-again : tie.Need-loop-again Inv-loop μ-loop
 loop-again c =
     let noted = c .before .before in
     let line = noted .before .before .before .before in
-    let at-loop = line .before .before .before in
+    let at-loop = line .before .before .before .before in
     let start = at-loop .before .before .before .before .before .before .before in
     let a = start .args in
     let files = take (a .n) (readFiles (now (a .files)) (now (a .regular)) (now (a .corrections))) in
-    let next = line-more files (now (a .table)) (now (a .entries)) (now (a .list)) (a .m) (at-loop .loop .i) (start .pre .1 .1 .1 .1) (line .before .before .loop-test .taken) (at-loop .loop .entries) _ (at-loop .loop .list) _ (at-loop .loop .count) (noted .note .result) (line .rework-line .result) (at-loop .loop .inv .4) (line .rework-line .ensures) (noted .note .ensures) in
+    let next = line-more files (now (a .table)) (now (a .entries)) (now (a .list)) (a .m) (at-loop .loop .i) (start .pre .1 .1 .1 .1) (line .before .before .before .loop-test .taken) (at-loop .loop .entries) _ (at-loop .loop .list) _ (at-loop .loop .count) (noted .note .result) (line .rework-line .result) (at-loop .loop .inv .4) (line .rework-line .ensures) (noted .note .ensures) in
     (search needs, reworked-long next, listed-long next, reworked-few next, next)
 
 same-length : tie.Need-same-length Inv-loop μ-loop
