@@ -8,23 +8,24 @@ ghost use lib.ListN.{length, getD};
 ghost use Rattle.laws.specs.Lists.{any};
 ghost use Rattle.calendar.specs.Holidays.{holidays};
 
-// An entry of the list.
-fn holiday_at(i: usize) -> u16
-    requires { ⌜ i < length holidays ⌝ }
+// An entry of the list, which is lent: a constant table is laid down anew wherever it is named.
+fn holiday_at(list: &[u16; COUNT], i: usize) -> u16
+    requires { ⌜ (i < length holidays) × (now list ≡ holidays) ⌝ }
     ensures { λ r. ⌜ r ≡ getD holidays i 0 ⌝ }
 {
-    HOLIDAYS[i]
+    list[i]
 }
 
 // Whether a day is in the list, which never falls: looked for by halves.
 pub fn is_holiday(day: u16) -> bool
     ensures { λ r. ⌜ r ≡ any (eqb day) holidays ⌝ }
 {
+    let list = HOLIDAYS;
     let mut lo: usize = 0;
     let mut hi: usize = COUNT;
     while lo < hi {
         let middle = (lo + hi) / 2;
-        let there = holiday_at(middle);
+        let there = holiday_at(&list, middle);
         if there == day {
             return true;
         }
