@@ -1,3 +1,4 @@
 pub mod Widths
 pub mod Held
 pub mod Sorted
+pub mod Zeros

@@ -83,7 +83,7 @@ fn spell(f: &[u8], start: u64) -> Spelt
         if 57 < b {
             return Spelt::Fault;
         }
-        n = n * 10 + wide(b - 48);
+        n = n * 10 + (wide(b) - 48);
         i += 1;
     }
     Spelt::Value(n)

@@ -39,10 +39,13 @@ mul-n c =
 wide-requires : tie.Need-wide-requires Inv-loop μ-loop
 wide-requires c κs = search needs
 
+sub-n : tie.Need-sub-n Inv-loop μ-loop
+sub-n c = omega (arith, c .wide .ensures)
+
 add-n : tie.Need-add-n Inv-loop μ-loop
 add-n c =
     let l = c .before .before .before .before .before in
-    omega (arith, bound (l .loop .n) (l .loop .i) (l .loop .inv .1 .1) (omega arith))
+    omega (arith, c .wide .ensures, bound (l .loop .n) (l .loop .i) (l .loop .inv .1 .1) (omega arith))
 
 add-i : tie.Need-add-i Inv-loop μ-loop
 add-i c = omega arith
@@ -57,7 +60,7 @@ loop-again c =
       omega arith,
       (
         l .loop .inv .1 .0 ∙ turn f (l .loop .n) (l .loop .i) (omega arith) (omega arith) (omega arith) ∙ rw (c .wide .ensures) refl,
-        bound-more (l .loop .n) (c .wide .result) (l .loop .i) (l .loop .inv .1 .1) (omega arith),
+        bound-more (l .loop .n) (c .wide .result - 48) (l .loop .i) (l .loop .inv .1 .1) (omega (arith, c .wide .ensures)),
       ),
     )
 
@@ -78,6 +81,7 @@ spell-spec =
     returns-2
     mul-n
     wide-requires
+    sub-n
     add-n
     add-i
     loop-less

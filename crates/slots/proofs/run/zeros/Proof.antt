@@ -1,13 +1,13 @@
--- `slots::run::zeros` meets its contract. Assumes nothing.
-use denote.Ref.{now}
+-- `slots::run::zeros` meets its contract: what is left of the bytes says what all of them say. Assumes nothing.
 use borrow.Author.Needs.{needs}
+use borrow.Author.Tests.{not-true, not-false}
 use Prim.Native.Nat.{_-_, _≤_}
-use mathlib.Core.Path.{_≡_, refl}
+use mathlib.Core.Path.{_≡_, refl, sym, _∙_}
+use native.Mathlib.Omega.{arith}
 use lib.ListN.{length, drop}
 use Rattle.laws.specs.Lists.{all}
 use Rattle.laws.specs.Slots.{isZero}
-use Rattle.laws.proofs.Loops.{all-on, all-failed, all-passed}
-use borrow.Author.Tests.{eq-eqb, ne-eqb}
+use Rattle.slots.proofs.Zeros.{eight-failed, eight-passed, rest}
 use Rattle.slots.proofs.run.zeros.Statement.{statement}
 use Rattle.slots.proofs.run.zeros.Tie as tie
 
@@ -18,29 +18,48 @@ abbrev μ-loop : tie.MeasureT-loop
 μ-loop s i₀ i = length s - i
 
 loop-holds : tie.Need-loop-holds Inv-loop μ-loop
-loop-holds c = (search needs, refl)
+loop-holds c = (omega arith, refl)
 
-shared-slice-read-if1 : tie.Need-shared-slice-read-if1 Inv-loop μ-loop
-shared-slice-read-if1 c = search needs
+sub-loop : tie.Need-sub-loop Inv-loop μ-loop
+sub-loop c = search needs
+
+eight-zeros-requires : tie.Need-eight-zeros-requires Inv-loop μ-loop
+eight-zeros-requires c κs = omega arith
 
 returns : tie.Need-returns Inv-loop μ-loop
-unfolding isZero
-returns c = let at-loop = c .before .before .before in
-    all-failed isZero 0 (now (at-loop .before .args .s)) (at-loop .loop .i) (search needs) (ne-eqb _ _ (c .if1 .taken)) (at-loop .loop .inv .1)
+returns c =
+    let l = c .before .before .before in
+    sym (eight-failed (l .before .before .args .s .now) (l .loop .i) (c .before .eight-zeros .result) (c .before .eight-zeros .ensures) (not-true _ (c .if1 .taken))) ∙ l .loop .inv .1
 
 add-i : tie.Need-add-i Inv-loop μ-loop
-add-i c = search needs
+add-i c = omega arith
 
 loop-less : tie.Need-loop-less Inv-loop μ-loop
-loop-less c = search needs
+loop-less c = omega arith
 
 loop-again : tie.Need-loop-again Inv-loop μ-loop
-unfolding isZero
-loop-again c = let at-loop = c .before .before .before in
-    (search needs, all-on isZero 0 (now (at-loop .before .args .s)) (at-loop .loop .i) (search needs) (eq-eqb _ _ (c .if1 .left)) (at-loop .loop .inv .1))
+loop-again c =
+    let l = c .before .before .before in (
+      omega arith,
+      sym (eight-passed (l .before .before .args .s .now) (l .loop .i) (c .before .eight-zeros .result) (c .before .eight-zeros .ensures) (not-false _ (c .if1 .left))) ∙ l .loop .inv .1,
+    )
+
+sub-each-zero : tie.Need-sub-each-zero Inv-loop μ-loop
+sub-each-zero c = search needs
+
+part-each-zero-start : tie.Need-part-each-zero-start Inv-loop μ-loop
+part-each-zero-start c = search needs
+
+part-each-zero-end : tie.Need-part-each-zero-end Inv-loop μ-loop
+part-each-zero-end c = search needs
+
+each-zero-requires : tie.Need-each-zero-requires Inv-loop μ-loop
+each-zero-requires c κs = search needs
 
 returns-2 : tie.Need-returns-2 Inv-loop μ-loop
-returns-2 c = all-passed isZero 0 (now (c .before .before .args .s)) (c .before .loop .i) (c .loop-test .left) (c .before .loop .inv .1)
+returns-2 c =
+    let l = c .before .before .before in
+    c .each-zero .ensures ∙ rest (l .before .before .args .s .now) (l .loop .i) ∙ l .loop .inv .1
 
 pub zeros-spec : {M : Type 1} → statement M
 zeros-spec =
@@ -49,9 +68,14 @@ zeros-spec =
     Inv-loop
     μ-loop
     loop-holds
-    shared-slice-read-if1
+    sub-loop
+    eight-zeros-requires
     returns
     add-i
     loop-less
     loop-again
+    sub-each-zero
+    part-each-zero-start
+    part-each-zero-end
+    each-zero-requires
     returns-2)
