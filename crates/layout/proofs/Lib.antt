@@ -1,6 +1,7 @@
 pub mod PartLaws
 pub mod PutLaws
 pub mod WalkLaws
+pub mod DigitsWalk
 pub mod WidthLaws
 pub mod PartTrip
 pub mod RecordBytes

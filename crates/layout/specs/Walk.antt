@@ -3,7 +3,7 @@
 use Prim.Native.Nat.{ℕ, _+_}
 use mathlib.Core.Bool.{cond}
 use mathlib.Core.List.{List}
-use lib.Dec.{eqb, ltb}
+use lib.Dec.{leb, eqb, ltb}
 use lib.ListN.{length, getD}
 use Rattle.laws.specs.Split.{between, endOf}
 use Rattle.fields.specs.declared.code.MaybeCodeRead.{MaybeCodeRead}
@@ -28,6 +28,10 @@ unfoldable pub endBy : ℕ → List ℕ → ℕ → ℕ
 endBy k s at = cond (ltb at (length s)) (cond (eqb (getD s at 0) 44) at (at + k)) at
 
 -- ---- the digits of a number's first field
+-- how far the field and its comma reach at most: 11 digits and the comma, and not beyond the line
+unfoldable pub reachOf : List ℕ → ℕ → ℕ
+reachOf s at = cond (leb (length s) (at + 12)) (length s) (at + 12)
+
 abbrev pub digitsThen : DigitsRead → ℕ → DigitsAt
 digitsThen (DigitsRead.Digits d) next = DigitsAt.Digits d next
 digitsThen DigitsRead.Fault next = DigitsAt.Fault

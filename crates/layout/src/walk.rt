@@ -3,7 +3,7 @@ ghost use mathlib.Core.Path.{_≡_};
 ghost use Prim.Native.Nat.{_≤_};
 ghost use lib.ListN.{drop};
 ghost use Rattle.fields.specs.Kind.{maybeKindOf};
-ghost use Rattle.layout.specs.Walk.{endBy, digitsAt, numberAt, dateAt, codeAt};
+ghost use Rattle.layout.specs.Walk.{endBy, reachOf, digitsAt, numberAt, dateAt, codeAt};
 use fields::code::MaybeCode;
 use fields::code::MaybeCodeRead;
 use fields::date::MaybeDate;
@@ -11,7 +11,6 @@ use fields::date::MaybeDateRead;
 use fields::kind::MaybeKind;
 use fields::kind::MaybeKindRead;
 use fields::number::Digits;
-use fields::number::DigitsRead;
 use fields::number::Number;
 use fields::number::NumberRead;
 
@@ -36,23 +35,66 @@ pub enum CodeAt {
     Fault,
 }
 
+fn wide(b: u8) -> u64
+    ensures { λ r. ⌜ r ≡ b ⌝ }
+{
+    b as u64
+}
+
+// How far a field of digits and its comma reach at most: 12 bytes, and not beyond the line.
+fn reach(s: &[u8], at: usize) -> usize
+    ensures { λ r. ⌜ r ≡ reachOf (now (s .entry)) at ⌝ }
+{
+    if s.len() <= at {
+        return s.len();
+    }
+    if s.len() - at <= 12 {
+        return s.len();
+    }
+    at + 12
+}
+
+// What the digits are worth is known as they are passed.
 pub(crate) fn digits_at(s: &[u8], at: usize) -> DigitsAt
     ensures { λ r. ⌜ r ≡ digitsAt (now (s .entry)) at ⌝ }
 {
-    let end = text::field_end(s, at, 44);
-    if s.len() <= end {
-        return DigitsAt::Fault;
+    let stop = reach(s, at);
+    let mut n: u64 = 1;
+    let mut i = at;
+    while i < stop {
+        let b = s[i];
+        if b < 48 {
+            if b != 44 {
+                return DigitsAt::Fault;
+            }
+            let next = i + 1;
+            return DigitsAt::Digits(Digits(n), next);
+        }
+        if 57 < b {
+            return DigitsAt::Fault;
+        }
+        n = n * 10 + (wide(b) - 48);
+        i += 1;
     }
-    let DigitsRead::Digits(d) = Digits::read(&s[at..end]) else {
-        return DigitsAt::Fault;
-    };
-    let next = end + 1;
-    DigitsAt::Digits(d, next)
+    DigitsAt::Fault
 }
 
 pub(crate) fn number_at(first: Digits, s: &[u8], at: usize) -> NumberAt
     ensures { λ r. ⌜ r ≡ numberAt first (now (s .entry)) at ⌝ }
 {
+    if s.len() <= at {
+        return NumberAt::Fault;
+    }
+    if s[at] == 44 {
+        let next = at + 1;
+        return NumberAt::Number(
+            Number {
+                first,
+                last: Digits::EMPTY,
+            },
+            next,
+        );
+    }
     let end = text::field_end(s, at, 44);
     if s.len() <= end {
         return NumberAt::Fault;
