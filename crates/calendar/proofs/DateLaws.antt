@@ -1,10 +1,10 @@
 -- Laws of years and months: how many days they have, where they start, and in which one a day lies.
 -- Assumes nothing.
-use mathlib.Core.Path.{_≡_, refl, ap, _∙_}
-use mathlib.Core.Bool.{Bool, true, false, cond}
+use mathlib.Core.Path.{_≡_, refl, sym, ap, _∙_}
+use mathlib.Core.Bool.{Bool, true, false, cond, not}
 use mathlib.Core.Logic.{⊎-elim}
 use mathlib.Core.List.{List}
-use Prim.Native.Nat.{ℕ, zero, suc, _+_, _-_, _*_, _/_, _≤_, _<_, zero-le}
+use Prim.Native.Nat.{ℕ, zero, suc, _+_, _-_, _*_, _/_, _%_, _≤_, _<_, zero-le}
 use native.Mathlib.Decide.{le-ind}
 use native.Mathlib.Numerals.{add-one}
 use native.Mathlib.Omega.{arith}
@@ -107,6 +107,26 @@ unfolding yearIn
 year-in y low high =
     let e : 1998 + (y - 1998) ≡ y = omega arith in
     eqb-true _ _ (tested yearIn 52 years-in (y - 1998) (omega arith)) ∙ ap yearStart e
+
+-- ---- in the calendar each fourth year is a leap year: a test of each
+unfoldable leapIn : ℕ → Bool
+leapIn i = cond (eqb ((1998 + i) % 4) 0) (leap (1998 + i)) (not (leap (1998 + i)))
+
+leaps-in : all leapIn (table 52 (λ (i : ℕ). i)) ≡ true
+unfolding leapIn all table leap
+leaps-in = refl
+
+agree : (t x : Bool) → cond t x (not x) ≡ true → t ≡ x
+agree true x h = sym h
+agree false true h = h
+agree false false h = refl
+
+pub leap-in : (y : ℕ) → 1998 ≤ y → y ≤ 2049 → eqb (y % 4) 0 ≡ leap y
+unfolding leapIn
+leap-in y low high =
+    let e : 1998 + (y - 1998) ≡ y = omega arith in
+    let same : eqb ((1998 + (y - 1998)) % 4) 0 ≡ leap (1998 + (y - 1998)) = agree _ _ (tested leapIn 52 leaps-in (y - 1998) (omega arith)) in
+    rw e at same
 
 -- the months
 -- of a year that has no leap day

@@ -73,6 +73,14 @@ fn is_leap(year: u16) -> bool
     year % 4 == 0
 }
 
+// In the calendar's years each fourth one is a leap year.
+fn leap_in_calendar(year: u16) -> bool
+    requires { ⌜ (1998 ≤ year) × (year ≤ 2049) ⌝ }
+    ensures { λ r. ⌜ r ≡ leap year ⌝ }
+{
+    year % 4 == 0
+}
+
 fn year_days(year: u16) -> u16
     ensures { λ r. ⌜ r ≡ yearDays year ⌝ }
 {
@@ -80,13 +88,14 @@ fn year_days(year: u16) -> u16
 }
 
 fn month_days(year: u16, month: u8) -> u16
+    requires { ⌜ (1998 ≤ year) × (year ≤ 2049) ⌝ }
     ensures { λ r. ⌜ r ≡ monthDays year month ⌝ }
 {
     if 12 < month {
         return 0;
     }
     if month == 2 {
-        if is_leap(year) {
+        if leap_in_calendar(year) {
             return 29;
         }
         return 28;
@@ -106,6 +115,7 @@ fn year_start(year: u16) -> u16
 
 // The days of a year before the first of a month.
 fn month_start(year: u16, month: u8) -> u16
+    requires { ⌜ (1998 ≤ year) × (year ≤ 2049) ⌝ }
     ensures { λ r. ⌜ (r ≡ monthStart year month) × (r ≤ 31 * month) ⌝ }
 {
     if 12 < month {
@@ -116,7 +126,7 @@ fn month_start(year: u16, month: u8) -> u16
     if month < 3 {
         return before;
     }
-    if is_leap(year) {
+    if leap_in_calendar(year) {
         return before + 1;
     }
     before
@@ -161,7 +171,7 @@ fn year_of(n: u16) -> u16
 
 // The month in which the day `n` of a year lies, from 0.
 fn month_of(year: u16, n: u16) -> u8
-    requires { ⌜ n < yearDays year ⌝ }
+    requires { ⌜ (1998 ≤ year) × (year ≤ 2049) × (n < yearDays year) ⌝ }
     ensures { λ r. ⌜ r ≡ monthOf year n ⌝ }
 {
     let mut month: u8 = 1;

@@ -32,7 +32,10 @@ month-of-requires c κs =
     omega arith
 
 month-start-requires : tie.Need-month-start-requires
-month-start-requires c κs = search needs
+month-start-requires c κs =
+    let before = c .before .before in
+    let at = year-found (before .before .before .args .day .0) (before .year-of .result) (before .before .if1 .left) (before .year-of .ensures) in
+    omega arith
 
 sub-d : tie.Need-sub-d
 sub-d c =

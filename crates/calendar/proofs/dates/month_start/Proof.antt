@@ -32,21 +32,21 @@ returns-2 c =
     let e = month-early (a .year) (a .month) (c .before .if1 .left) (c .if2 .taken) in
     (e, omega (arith, e, monthStart-le (a .year) (a .month)))
 
-is-leap-requires : tie.Need-is-leap-requires
-is-leap-requires c κs = search needs
+leap-in-calendar-requires : tie.Need-leap-in-calendar-requires
+leap-in-calendar-requires c κs = search needs
 
 add-result : tie.Need-add-result
 unfolding sumTo table monthStarts
 add-result c =
     let a = c .before .before .before .before .args in
-    let leap = sym (c .before .is-leap .ensures) ∙ c .if3 .taken in
+    let leap = sym (c .before .leap-in-calendar .ensures) ∙ c .if3 .taken in
     omega (arith, month-leap (a .year) (a .month) (c .before .before .before .if1 .left) (c .before .before .if2 .left) leap, monthStart-le (a .year) (a .month))
 
 returns-3 : tie.Need-returns-3
 unfolding sumTo table monthStarts
 returns-3 c =
     let a = c .before .before .before .before .args in
-    let leap = sym (c .before .is-leap .ensures) ∙ c .if3 .taken in
+    let leap = sym (c .before .leap-in-calendar .ensures) ∙ c .if3 .taken in
     let e = month-leap (a .year) (a .month) (c .before .before .before .if1 .left) (c .before .before .if2 .left) leap in
     (e, omega (arith, e, monthStart-le (a .year) (a .month)))
 
@@ -54,7 +54,7 @@ returns-4 : tie.Need-returns-4
 unfolding sumTo table monthStarts
 returns-4 c =
     let a = c .before .before .before .before .args in
-    let plain = sym (c .before .is-leap .ensures) ∙ c .if3 .left in
+    let plain = sym (c .before .leap-in-calendar .ensures) ∙ c .if3 .left in
     let e = month-plain (a .year) (a .month) (c .before .before .before .if1 .left) (c .before .before .if2 .left) plain in
     (e, omega (arith, e, monthStart-le (a .year) (a .month)))
 
@@ -67,7 +67,7 @@ month-start-spec =
     mul-before
     array-read-before
     returns-2
-    is-leap-requires
+    leap-in-calendar-requires
     add-result
     returns-3
     returns-4)
