@@ -65,14 +65,14 @@ fn second_place(answer: WhyAnswer) -> usize
 pub fn first_part<'a>(regular: &'a [u8], corrections: &'a [u8], answer: WhyAnswer) -> &'a [u8]
     ensures { λ r. ⌜ now r ≡ partAt (now (regular .entry)) (firstPlace answer) ⌝ }
 {
-    let place = first_place(answer);
-    records::record_bytes(regular, corrections, Journal::Regular, REPORTS, place)
+    let first = first_place(answer);
+    records::record_bytes(regular, corrections, Journal::Regular, REPORTS, first)
 }
 
 // The bytes of its second report.
 pub fn second_part<'a>(regular: &'a [u8], corrections: &'a [u8], answer: WhyAnswer) -> &'a [u8]
     ensures { λ r. ⌜ now r ≡ partAt (now (regular .entry)) (secondPlace answer) ⌝ }
 {
-    let place = second_place(answer);
-    records::record_bytes(regular, corrections, Journal::Regular, REPORTS, place)
+    let second = second_place(answer);
+    records::record_bytes(regular, corrections, Journal::Regular, REPORTS, second)
 }
