@@ -34,7 +34,7 @@ for folder in crates/${1:-*}/; do
         # the function in whose text a place lies
         function inside(text, at,    lines, i, head) {
             for (i = split(substr(text, 1, at), lines, "\n"); i > 0; i--)
-                if (match(lines[i], /^ *(pub )?(extern "C" )?fn [a-zA-Z_0-9]+/)) {
+                if (match(lines[i], /^ *(pub |pub\(crate\) )?(extern "C" )?fn [a-zA-Z_0-9]+/)) {
                     head = substr(lines[i], RSTART, RLENGTH)
                     sub(/.* /, "", head)
                     return head

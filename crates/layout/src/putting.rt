@@ -32,8 +32,8 @@ pub fn put_date(date: MaybeDate, out: &mut [u8], at: usize) -> usize
     requires { ⌜ at + length (followed (maybeDateText date)) ≤ length (now out) ⌝ }
     ensures { λ r. ⌜ Laid (now (out .entry)) at (followed (maybeDateText date)) (now (out .exit)) r ⌝ }
 {
-    let behind = date.write(out, at);
-    text::put_byte(out, behind, 44)
+    let comma = date.write(out, at);
+    text::put_byte(out, comma, 44)
 }
 
 // Both fields of a number.

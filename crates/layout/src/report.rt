@@ -110,10 +110,10 @@ impl Report {
     pub fn of_words(w: &[u64]) -> ReportRead
         ensures { λ r. ⌜ r ≡ reportOfWords (now (w .entry)) ⌝ }
     {
-        let PartRead::Part(p) = Part::of_words(w) else {
+        let PartRead::Part(six) = Part::of_words(w) else {
             return ReportRead::Fault;
         };
-        Report::of_part(p)
+        Report::of_part(six)
     }
 
     // How many bytes its text has.

@@ -8,8 +8,8 @@ use Rattle.layout.proofs.report.Report.of_words.Tie as tie
 of-words-requires : tie.Need-of-words-requires
 of-words-requires c κs = search needs
 
-enum-known-p : tie.Need-enum-known-p
-enum-known-p c = search needs
+enum-known-six : tie.Need-enum-known-six
+enum-known-six c = search needs
 
 enum-told : tie.Need-enum-told
 enum-told c = search needs
@@ -23,9 +23,9 @@ of-part-requires c κs = search needs
 
 returns-2 : tie.Need-returns-2
 unfolding reportOfWords reportFrom
-returns-2 c = simp (sym (c .before .before .before .before .of-words .ensures) ∙ c .before .before .p .given .1) (c .of-part .ensures)
+returns-2 c = simp (sym (c .before .before .before .before .of-words .ensures) ∙ c .before .before .six .given .1) (c .of-part .ensures)
 
 pub of-words-spec : {M : Type 1} → statement M
 of-words-spec =
     tie.close
-    (tie.spec of-words-requires enum-known-p enum-told returns of-part-requires returns-2)
+    (tie.spec of-words-requires enum-known-six enum-told returns of-part-requires returns-2)
