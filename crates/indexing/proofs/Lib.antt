@@ -1,4 +1,5 @@
 pub mod Laying
 pub mod Listing
 pub mod Grouping
+pub mod Marking
 pub mod Finding

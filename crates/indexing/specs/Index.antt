@@ -1,9 +1,9 @@
 -- The records of the first files that may name one of many wanted numbers, listed once and grouped by the first field of the number that each
 -- names. Assumes nothing: these are definitions.
 use mathlib.Core.Path.{_≡_}
-use mathlib.Core.Bool.{Bool, _||_}
+use mathlib.Core.Bool.{Bool, true, false, _||_}
 use mathlib.Core.List.{List, map}
-use Prim.Native.Nat.{ℕ, suc, _%_, _≤_}
+use Prim.Native.Nat.{ℕ, suc, _/_, _%_, _≤_, _<_}
 use lib.Dec.{eqb, ltb}
 use lib.ListN.{length, take, getD}
 use Rattle.laws.specs.Lists.{keep}
@@ -30,6 +30,15 @@ isWanted wanted digits = ltb (below (tag (front digits) 0) wanted) (below (tag (
 pub record Wanted (wanted : List ℕ) (w : ℕ) : Type 0 where
   pub few : w ≤ 10240
   pub ordered : sorted (take w wanted) ≡ take w wanted
+
+-- a mark for each tag, by the last bits of what it has in front
+pub record Marked (wanted : List ℕ) (marks : List Bool) : Type 0 where
+  pub each : (i : ℕ) → i < length wanted → getD marks (getD wanted i 0 / 16384 % 1024) false ≡ true
+
+-- the first w tags, in order and marked
+pub record Sought (wanted : List ℕ) (w : ℕ) (marks : List Bool) : Type 0 where
+  pub ordered : Wanted wanted w
+  pub marked : Marked (take w wanted) marks
 
 -- ---- a record may name a number with a wanted first field: the field that comes first in its bytes is empty, or is wanted
 unfoldable pub mayName : List ℕ → ℕ → List ℕ → Bool

@@ -18,13 +18,16 @@ ghost use Rattle.journals.specs.Records.{shownIn};
 ghost use Rattle.journals.specs.Reads.{recordsAt};
 ghost use Rattle.journals.specs.declared.records.Journal.the-variants.{Regular, Correction};
 ghost use Rattle.working.specs.Working.{Sound, Stored, InFile, Behind};
-ghost use Rattle.indexing.specs.Index.{isWanted, Wanted, mayName, candidate, listedIn, numberBehind, frontBehind, Listed, Indexed};
+ghost use Rattle.indexing.specs.Index.{isWanted, Wanted, Marked, Sought, mayName, candidate, listedIn, numberBehind, frontBehind, Listed, Indexed};
 
 // As many numbers as 48 bits can tell apart: more than a field of digits needs.
 pub const FRONTS: u64 = 281474976710656;
 
 // How many places a tag can tell apart.
 pub const PLACES: u64 = 16384;
+
+// How many marks there are for first fields.
+const MARKS: u64 = 1024;
 
 // Whether there is a key at `at` among the first w, and it is below `end`.
 fn is_below(keys: &[u64], w: usize, at: usize, end: u64) -> bool
@@ -47,16 +50,55 @@ pub fn is_wanted(wanted: &[u64; 10240], w: usize, digits: u64) -> bool
     is_below(wanted, w, from, (front + 1) * PLACES)
 }
 
+// Marks the first fields that the first w tags have in front, by their last bits.
+fn mark(wanted: &[u64], w: usize, marks: &mut [bool])
+    requires { ⌜ (w ≤ length (now wanted)) × (1024 ≤ length (now marks)) ⌝ }
+    ensures { λ _. ⌜ Marked (take w (now (wanted .entry))) (now (marks .exit)) ⌝ }
+{
+    let mut i = 0;
+    while i < w {
+        let at = (wanted[i] / PLACES % MARKS) as usize;
+        marks[at] = true;
+        i += 1;
+    }
+}
+
+// The same, of arrays.
+fn mark_all(wanted: &[u64; 10240], w: usize, marks: &mut [bool; 1024])
+    requires { ⌜ w ≤ 10240 ⌝ }
+    ensures { λ _. ⌜ Marked (take w (now (wanted .entry))) (now (marks .exit)) ⌝ }
+{
+    mark(wanted, w, marks);
+}
+
+// Whether one of the first w tags has the first field in front: most that none has are told by their mark, and not searched for.
+fn is_sought<'a>(wanted: &'a [u64; 10240], w: usize, marks: &'a [bool; 1024], digits: u64) -> bool
+    requires { ⌜ Sought (now wanted) w (now marks) ⌝ }
+    ensures { λ r. ⌜ r ≡ isWanted (take w (now (wanted .entry))) digits ⌝ }
+{
+    let at = (digits % FRONTS % MARKS) as usize;
+    if marks[at] {
+        return is_wanted(wanted, w, digits);
+    }
+    false
+}
+
 // Whether a record may name a number with a wanted first field, by the bytes up to its first comma.
-fn may_name<'a>(kind: u8, bytes: &'a [u8], wanted: &'a [u64; 10240], w: usize) -> bool
-    requires { ⌜ Wanted (now wanted) w ⌝ }
+fn may_name<'a>(
+    kind: u8,
+    bytes: &'a [u8],
+    wanted: &'a [u64; 10240],
+    w: usize,
+    marks: &'a [bool; 1024],
+) -> bool
+    requires { ⌜ Sought (now wanted) w (now marks) ⌝ }
     ensures { λ r. ⌜ r ≡ mayName (take w (now (wanted .entry))) kind (now (bytes .entry)) ⌝ }
 {
     let digits = rules::records::first_in(kind, bytes);
     if digits == 1 {
         return true;
     }
-    is_wanted(wanted, w, digits)
+    is_sought(wanted, w, marks, digits)
 }
 
 // Whether the record at a place may name one.
@@ -67,13 +109,14 @@ fn is_candidate<'a>(
     place: usize,
     wanted: &'a [u64; 10240],
     w: usize,
+    marks: &'a [bool; 1024],
 ) -> bool
     requires { ⌜ Stored (now regular) (now corrections) kind place ⌝ }
-    requires { ⌜ Wanted (now wanted) w ⌝ }
+    requires { ⌜ Sought (now wanted) w (now marks) ⌝ }
     ensures { λ r. ⌜ r ≡ mayName (take w (now (wanted .entry))) kind (recordsAt (now (regular .entry)) (now (corrections .entry)) kind place) ⌝ }
 {
     let bytes = gather::record_at(regular, corrections, kind, place);
-    may_name(kind, bytes, wanted, w)
+    may_name(kind, bytes, wanted, w, marks)
 }
 
 // Lays the keys of a file's candidates behind the first `at` keys, and answers how many keys there are then.
@@ -84,11 +127,12 @@ fn list_file<'a>(
     start: usize,
     wanted: &'a [u64; 10240],
     w: usize,
+    marks: &'a [bool; 1024],
     keys: &mut [u64],
     at: usize,
 ) -> usize
     requires { ⌜ InFile (now regular) (now corrections) f start (f .count) ⌝ }
-    requires { ⌜ Wanted (now wanted) w ⌝ }
+    requires { ⌜ Sought (now wanted) w (now marks) ⌝ }
     requires { ⌜ at + f .count ≤ length (now keys) ⌝ }
     ensures { λ r. ⌜ Behind (now (keys .entry)) at (listedIn (candidate (recordsAt (now (regular .entry)) (now (corrections .entry))) (take w (now (wanted .entry)))) (recordsAt (now (regular .entry)) (now (corrections .entry))) f start (f .count)) (now (keys .exit)) r ⌝ }
 {
@@ -96,7 +140,7 @@ fn list_file<'a>(
     let mut r = at;
     let mut i = 0;
     while i < count {
-        if is_candidate(regular, corrections, f.kind, start + i, wanted, w) {
+        if is_candidate(regular, corrections, f.kind, start + i, wanted, w, marks) {
             keys[r] = gather::key_at(regular, corrections, f, start, i);
             r += 1;
         }
@@ -113,10 +157,11 @@ fn list_files<'a>(
     corrections: &'a [u8],
     wanted: &'a [u64; 10240],
     w: usize,
+    marks: &'a [bool; 1024],
     keys: &mut [u64],
 ) -> usize
     requires { ⌜ Sound n (now files) (now regular) (now corrections) ⌝ }
-    requires { ⌜ Wanted (now wanted) w ⌝ }
+    requires { ⌜ Sought (now wanted) w (now marks) ⌝ }
     requires { ⌜ 10240 ≤ length (now keys) ⌝ }
     ensures { λ r. ⌜ Listed n (now (files .entry)) (now (regular .entry)) (now (corrections .entry)) (take w (now (wanted .entry))) (now (keys .exit)) r ⌝ }
 {
@@ -127,7 +172,7 @@ fn list_files<'a>(
     while k < n {
         let f = files::file_at(files, k);
         let start = gather::begin(reports, objections, f.kind);
-        r = list_file(regular, corrections, f, start, wanted, w, keys, r);
+        r = list_file(regular, corrections, f, start, wanted, w, marks, keys, r);
         reports += sums::records_in(f, 0);
         objections += sums::records_in(f, 1);
         k += 1;
@@ -143,13 +188,14 @@ fn list_all<'a>(
     corrections: &'a [u8],
     wanted: &'a [u64; 10240],
     w: usize,
+    marks: &'a [bool; 1024],
     keys: &mut [u64; 10240],
 ) -> usize
     requires { ⌜ Sound n (now files) (now regular) (now corrections) ⌝ }
-    requires { ⌜ Wanted (now wanted) w ⌝ }
+    requires { ⌜ Sought (now wanted) w (now marks) ⌝ }
     ensures { λ r. ⌜ Listed n (now (files .entry)) (now (regular .entry)) (now (corrections .entry)) (take w (now (wanted .entry))) (now (keys .exit)) r ⌝ }
 {
-    list_files(files, n, regular, corrections, wanted, w, keys)
+    list_files(files, n, regular, corrections, wanted, w, marks, keys)
 }
 
 // The number that the record at a place names, by its class: corrections are of class 2.
@@ -230,7 +276,9 @@ pub fn index<'a>(
     requires { ⌜ Wanted (now wanted) w ⌝ }
     ensures { λ r. ⌜ Indexed n (now (files .entry)) (now (regular .entry)) (now (corrections .entry)) (take w (now (wanted .entry))) (now (keys .exit)) (now (places .exit)) r ⌝ }
 {
-    let c = list_all(files, n, regular, corrections, wanted, w, keys);
+    let mut marks = [false; 1024];
+    mark_all(wanted, w, &mut marks);
+    let c = list_all(files, n, regular, corrections, wanted, w, &marks, keys);
     lay_all_tags(regular, corrections, keys, c, places);
     order::sort(places, c);
     c

@@ -7,13 +7,18 @@ use borrow.Author.Needs.{needs}
 use Rattle.indexing.proofs.index.index.Statement.{statement}
 use Rattle.indexing.proofs.index.index.Tie as tie
 
+mark-all-requires : tie.Need-mark-all-requires
+mark-all-requires c κs = search needs
+
 list-all-requires : tie.Need-list-all-requires
-list-all-requires c κs = search needs
+list-all-requires c κs =
+    let start = c .before .before .before .before .before .before .before in
+    (start .pre .0, record { ordered = start .pre .1; marked = c .before .before .mark-all .ensures })
 
 lay-all-tags-requires : tie.Need-lay-all-tags-requires
 lay-all-tags-requires c κs =
     let listed = c .before .before in
-    let start = listed .before .before .before .before .before in
+    let start = listed .before .before .before .before .before .before .before .before in
     let args = start .args in
     room-all (args .files .now) (args .regular .now) (args .corrections .now) (take (args .w) (args .wanted .now)) (args .n) (start .pre .0) _ (listed .list-all .result) (listed .list-all .ensures)
 
@@ -24,7 +29,7 @@ returns : tie.Need-returns
 returns c =
     let tagged = c .before .before in
     let listed = tagged .before .before .before in
-    let start = listed .before .before .before .before .before in
+    let start = listed .before .before .before .before .before .before .before .before in
     let args = start .args in
     let g = listed .list-all .ensures in record {
       candidates = g;
@@ -35,4 +40,4 @@ returns c =
     }
 
 pub index-spec : {M : Type 1} → statement M
-index-spec = tie.close (tie.spec list-all-requires lay-all-tags-requires sort-requires returns)
+index-spec = tie.close (tie.spec mark-all-requires list-all-requires lay-all-tags-requires sort-requires returns)

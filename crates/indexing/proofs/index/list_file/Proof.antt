@@ -14,10 +14,10 @@ use Rattle.indexing.proofs.index.list_file.Statement.{statement}
 use Rattle.indexing.proofs.index.list_file.Tie as tie
 
 abbrev Inv-loop : tie.InvT-loop
-Inv-loop regular corrections f start wanted w keys₀ at count r₀ i₀ keys r i = (i ≤ count) × (length keys ≡ length keys₀) × (r ≤ at + i) × Behind keys₀ at (listedIn (candidate (recordsAt regular corrections) (take w wanted)) (recordsAt regular corrections) f start i) keys r
+Inv-loop regular corrections f start wanted w marks keys₀ at count r₀ i₀ keys r i = (i ≤ count) × (length keys ≡ length keys₀) × (r ≤ at + i) × Behind keys₀ at (listedIn (candidate (recordsAt regular corrections) (take w wanted)) (recordsAt regular corrections) f start i) keys r
 
 abbrev μ-loop : tie.MeasureT-loop
-μ-loop regular corrections f start wanted w keys₀ at count r₀ i₀ keys r i = count - i
+μ-loop regular corrections f start wanted w marks keys₀ at count r₀ i₀ keys r i = count - i
 
 cast-count : tie.Need-cast-count Inv-loop μ-loop
 cast-count c = search needs

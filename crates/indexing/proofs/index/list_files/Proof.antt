@@ -15,12 +15,12 @@ use Rattle.indexing.proofs.index.list_files.Statement.{statement}
 use Rattle.indexing.proofs.index.list_files.Tie as tie
 
 abbrev Inv-loop : tie.InvT-loop
-Inv-loop files n regular corrections wanted w keys₀ reports₀ objections₀ r₀ k₀ keys reports objections r k =
+Inv-loop files n regular corrections wanted w marks keys₀ reports₀ objections₀ r₀ k₀ keys reports objections r k =
     (k ≤ n) × (length keys ≡ length keys₀) × (reports ≡ recordsOf 0 (table k (fileAt files))) × (objections ≡ recordsOf 1 (table k (fileAt files)))
     × Listed k files regular corrections (take w wanted) keys r
 
 abbrev μ-loop : tie.MeasureT-loop
-μ-loop files n regular corrections wanted w keys₀ reports₀ objections₀ r₀ k₀ keys reports objections r k = n - k
+μ-loop files n regular corrections wanted w marks keys₀ reports₀ objections₀ r₀ k₀ keys reports objections r k = n - k
 
 loop-holds : tie.Need-loop-holds Inv-loop μ-loop
 loop-holds c =
@@ -97,7 +97,7 @@ loop-again c =
     let inv = at-loop .loop .inv in
     let q = begun .begin .ensures ∙ begins (args .n) (args .files .now) (args .regular .now) (args .corrections .now) (start .pre .0) (at-loop .loop .k) (f .result) (at-loop .loop .reports) (at-loop .loop .objections) (omega arith) (f .ensures .0) (inv .2) (inv .3) in (
       search needs,
-      listed .list-file .kept .1 .1 .1 .1 .1 .1 .0 ∙ inv .1,
+      listed .list-file .kept .1 .1 .1 .1 .1 .1 .1 .0 ∙ inv .1,
       ap (λ (m : ℕ). at-loop .loop .reports + m) (c .before .records-in .ensures .0) ∙ records-next 0 (fileAt (args .files .now)) (at-loop .loop .k) (at-loop .loop .reports) (f .result) (f .ensures .0) (inv .2),
       ap (λ (m : ℕ). at-loop .loop .objections + m) (c .records-in2 .ensures .0) ∙ records-next 1 (fileAt (args .files .now)) (at-loop .loop .k) (at-loop .loop .objections) (f .result) (f .ensures .0) (inv .3),
       files-more (args .files .now) (args .regular .now) (args .corrections .now) (take (args .w) (args .wanted .now)) (at-loop .loop .k) (f .result) (begun .begin .result) (at-loop .loop .keys) _ (at-loop .loop .r) _ (f .ensures .0) q (inv .4) (listed .list-file .ensures),

@@ -19,16 +19,16 @@ returns c =
     let first = c .before .first-in in
     sym (ap (λ (b : Bool). b || isWanted (take (args .w) (args .wanted .now)) (firstIn (args .kind) (args .bytes .now))) (eq-eqb _ 1 (sym (first .ensures) ∙ c .if1 .taken)))
 
-is-wanted-requires : tie.Need-is-wanted-requires
-is-wanted-requires c κs = search needs
+is-sought-requires : tie.Need-is-sought-requires
+is-sought-requires c κs = search needs
 
 returns-2 : tie.Need-returns-2
 unfolding mayName
 returns-2 c =
     let args = c .before .before .before .before .args in
     let first = c .before .before .first-in in
-    c .is-wanted .ensures ∙ ap (isWanted (take (args .w) (args .wanted .now))) (first .ensures)
+    c .is-sought .ensures ∙ ap (isWanted (take (args .w) (args .wanted .now))) (first .ensures)
     ∙ sym (ap (λ (b : Bool). b || isWanted (take (args .w) (args .wanted .now)) (firstIn (args .kind) (args .bytes .now))) (ne-eqb _ 1 (λ e. c .before .if1 .left (first .ensures ∙ e))))
 
 pub may-name-spec : {M : Type 1} → statement M
-may-name-spec = tie.close (tie.spec first-in-requires returns is-wanted-requires returns-2)
+may-name-spec = tie.close (tie.spec first-in-requires returns is-sought-requires returns-2)
