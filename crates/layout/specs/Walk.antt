@@ -3,8 +3,8 @@
 use Prim.Native.Nat.{ℕ, _+_}
 use mathlib.Core.Bool.{cond}
 use mathlib.Core.List.{List}
-use lib.Dec.{leb, eqb, ltb}
-use lib.ListN.{length, getD}
+use lib.Dec.{leb, ltb}
+use lib.ListN.{length}
 use Rattle.laws.specs.Split.{between, endOf}
 use Rattle.fields.specs.declared.code.MaybeCodeRead.{MaybeCodeRead}
 use Rattle.fields.specs.declared.date.MaybeDateRead.{MaybeDateRead}
@@ -22,10 +22,6 @@ use Rattle.layout.specs.declared.walk.CodeAt.{CodeAt}
 -- the field that starts at `at`
 abbrev pub fieldAt : List ℕ → ℕ → List ℕ
 fieldAt s at = between s at (endOf 44 s at)
-
--- where the field that starts at `at` ends if it is empty or has k bytes
-unfoldable pub endBy : ℕ → List ℕ → ℕ → ℕ
-endBy k s at = cond (ltb at (length s)) (cond (eqb (getD s at 0) 44) at (at + k)) at
 
 -- ---- the digits of a number's first field
 -- how far the field and its comma reach at most: 11 digits and the comma, and not beyond the line

@@ -1,13 +1,15 @@
 // The fields of a line read one after the other, each from behind the comma that ends the one before it.
 ghost use mathlib.Core.Path.{_≡_};
-ghost use Prim.Native.Nat.{_≤_};
 ghost use lib.ListN.{drop};
 ghost use Rattle.fields.specs.Kind.{maybeKindOf};
-ghost use Rattle.layout.specs.Walk.{endBy, reachOf, digitsAt, numberAt, dateAt, codeAt};
+ghost use Rattle.layout.specs.Walk.{reachOf, digitsAt, numberAt, dateAt, codeAt};
+use fields::code::Code;
+use fields::code::CodeRead;
 use fields::code::MaybeCode;
-use fields::code::MaybeCodeRead;
+use fields::date::DateRead;
 use fields::date::MaybeDate;
-use fields::date::MaybeDateRead;
+use fields::kind::Kind;
+use fields::kind::KindRead;
 use fields::kind::MaybeKind;
 use fields::kind::MaybeKindRead;
 use fields::number::Digits;
@@ -106,60 +108,65 @@ pub(crate) fn number_at(first: Digits, s: &[u8], at: usize) -> NumberAt
     NumberAt::Number(n, next)
 }
 
-// Where the field that starts at `at` ends if it is empty or has `k` bytes: a date and a code have as many as they have.
-fn end_by(s: &[u8], at: usize, k: usize) -> usize
-    requires { ⌜ k ≤ 8 ⌝ }
-    ensures { λ r. ⌜ r ≡ endBy k (now (s .entry)) at ⌝ }
-{
-    if s.len() <= at {
-        return at;
-    }
-    if s[at] == 44 {
-        return at;
-    }
-    at + k
-}
-
+// A date has eight bytes, or none.
 pub(crate) fn date_at(s: &[u8], at: usize) -> DateAt
     ensures { λ r. ⌜ r ≡ dateAt (now (s .entry)) at ⌝ }
 {
-    let end = end_by(s, at, 8);
-    if s.len() <= end {
+    if s.len() <= at {
         return DateAt::Fault;
     }
+    if s[at] == 44 {
+        let next = at + 1;
+        return DateAt::Date(MaybeDate::Empty, next);
+    }
+    if s.len() - at <= 8 {
+        return DateAt::Fault;
+    }
+    let end = at + 8;
     if s[end] != 44 {
         return DateAt::Fault;
     }
-    let MaybeDateRead::MaybeDate(d) = MaybeDate::read(&s[at..end]) else {
+    let DateRead::Date(d) = fields::date::read(&s[at..end]) else {
         return DateAt::Fault;
     };
     let next = end + 1;
-    DateAt::Date(d, next)
+    DateAt::Date(MaybeDate::Date(d), next)
 }
 
+// A code has four bytes, or none.
 pub(crate) fn code_at(s: &[u8], at: usize) -> CodeAt
     ensures { λ r. ⌜ r ≡ codeAt (now (s .entry)) at ⌝ }
 {
-    let end = end_by(s, at, 4);
-    if s.len() <= end {
+    if s.len() <= at {
         return CodeAt::Fault;
     }
+    if s[at] == 44 {
+        let next = at + 1;
+        return CodeAt::Code(MaybeCode::Empty, next);
+    }
+    if s.len() - at <= 4 {
+        return CodeAt::Fault;
+    }
+    let end = at + 4;
     if s[end] != 44 {
         return CodeAt::Fault;
     }
-    let MaybeCodeRead::MaybeCode(c) = MaybeCode::read(&s[at..end]) else {
+    let CodeRead::Code(c) = Code::read(&s[at..end]) else {
         return CodeAt::Fault;
     };
     let next = end + 1;
-    CodeAt::Code(c, next)
+    CodeAt::Code(MaybeCode::Code(c), next)
 }
 
 // All that is left is the kind, which no comma follows.
 pub(crate) fn kind_at(s: &[u8], at: usize) -> MaybeKindRead
     ensures { λ r. ⌜ r ≡ maybeKindOf (drop at (now (s .entry))) ⌝ }
 {
-    if s.len() < at {
+    if s.len() <= at {
         return MaybeKindRead::MaybeKind(MaybeKind::Empty);
     }
-    MaybeKind::read(&s[at..])
+    let KindRead::Kind(k) = Kind::read(&s[at..]) else {
+        return MaybeKindRead::Fault;
+    };
+    MaybeKindRead::MaybeKind(MaybeKind::Kind(k))
 }
