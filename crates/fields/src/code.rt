@@ -3,7 +3,7 @@ ghost use mathlib.Core.Path.{_≡_};
 ghost use Prim.Native.Nat.{_+_, _≤_};
 ghost use lib.ListN.{length};
 ghost use Rattle.laws.specs.Overlay.{Laid};
-ghost use Rattle.fields.specs.Code.{codeOf, codeFits, codeOfWord, codeText, maybeCodeOf, maybeCodeOfWord, maybeCodeText};
+ghost use Rattle.fields.specs.Code.{codeOf, codeFits, codeOfWord, codeText, maybeCodeOfWord, maybeCodeText};
 use text::Spelt;
 
 pub struct Code(pub u16);
@@ -73,18 +73,6 @@ pub enum MaybeCodeRead {
 impl MaybeCode {
     // The word for an empty field.
     pub const NONE: u64 = 1000;
-
-    pub fn read(f: &[u8]) -> MaybeCodeRead
-        ensures { λ r. ⌜ r ≡ maybeCodeOf (now (f .entry)) ⌝ }
-    {
-        if f.len() == 0 {
-            return MaybeCodeRead::MaybeCode(MaybeCode::Empty);
-        }
-        let CodeRead::Code(c) = Code::read(f) else {
-            return MaybeCodeRead::Fault;
-        };
-        MaybeCodeRead::MaybeCode(MaybeCode::Code(c))
-    }
 
     pub fn of_word(w: u64) -> MaybeCodeRead
         ensures { λ r. ⌜ r ≡ maybeCodeOfWord w ⌝ }

@@ -3,7 +3,7 @@ ghost use mathlib.Core.Path.{_≡_};
 ghost use Prim.Native.Nat.{_+_, _≤_};
 ghost use lib.ListN.{length};
 ghost use Rattle.laws.specs.Overlay.{Laid};
-ghost use Rattle.fields.specs.Kind.{kindOf, kindOfWord, kindText, maybeKindOf, maybeKindOfWord, maybeKindText};
+ghost use Rattle.fields.specs.Kind.{kindOf, kindOfWord, kindText, maybeKindOfWord, maybeKindText};
 
 pub enum Kind {
     P,
@@ -69,18 +69,6 @@ pub enum MaybeKindRead {
 impl MaybeKind {
     // The word for an empty field.
     pub const NONE: u64 = 3;
-
-    pub fn read(f: &[u8]) -> MaybeKindRead
-        ensures { λ r. ⌜ r ≡ maybeKindOf (now (f .entry)) ⌝ }
-    {
-        if f.len() == 0 {
-            return MaybeKindRead::MaybeKind(MaybeKind::Empty);
-        }
-        let KindRead::Kind(k) = Kind::read(f) else {
-            return MaybeKindRead::Fault;
-        };
-        MaybeKindRead::MaybeKind(MaybeKind::Kind(k))
-    }
 
     pub fn of_word(w: u64) -> MaybeKindRead
         ensures { λ r. ⌜ r ≡ maybeKindOfWord w ⌝ }

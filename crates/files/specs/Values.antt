@@ -16,11 +16,6 @@ use Rattle.files.specs.declared.values.RequestAt.{RequestAt}
 use Rattle.files.specs.Reading.{foundAt}
 
 -- reports of default and response files
-abbrev pub reportNumber : ReportAt → ℕ
-reportNumber (ReportAt.Report x) = 0
-reportNumber (ReportAt.Fault i) = 4
-reportNumber ReportAt.Beyond = 7
-
 abbrev pub reportFound : Found → ℕ → ReportRead → ReportAt
 reportFound (Found.Fault i) k r = ReportAt.Fault i
 reportFound Found.Beyond k r = ReportAt.Beyond
@@ -31,11 +26,6 @@ unfoldable pub reportAt : List ℕ → ℕ → ReportAt
 reportAt file k = reportFound (foundAt FileKind.Default file k) k (reportOf (pieceOf 13 file k))
 
 -- corrections
-abbrev pub correctionNumber : CorrectionAt → ℕ
-correctionNumber (CorrectionAt.Correction x) = 0
-correctionNumber (CorrectionAt.Fault i) = 4
-correctionNumber CorrectionAt.Beyond = 7
-
 abbrev pub correctionFound : Found → ℕ → CorrectionRead → CorrectionAt
 correctionFound (Found.Fault i) k r = CorrectionAt.Fault i
 correctionFound Found.Beyond k r = CorrectionAt.Beyond
@@ -46,11 +36,6 @@ unfoldable pub correctionAt : List ℕ → ℕ → CorrectionAt
 correctionAt file k = correctionFound (foundAt FileKind.Correction file k) k (correctionOf (pieceOf 13 file k))
 
 -- the request of a request file
-abbrev pub requestNumber : RequestAt → ℕ
-requestNumber (RequestAt.Request x) = 0
-requestNumber (RequestAt.Fault i) = 4
-requestNumber RequestAt.Beyond = 7
-
 abbrev pub requestFound : Found → ℕ → RequestRead → RequestAt
 requestFound (Found.Fault i) k r = RequestAt.Fault i
 requestFound Found.Beyond k r = RequestAt.Beyond

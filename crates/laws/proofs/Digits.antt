@@ -3,7 +3,7 @@ use Prim.Native.Nat.{ℕ, zero, suc, _+_, _-_, _*_, _/_, _%_, _^_, _<_, _≤_}
 use native.Mathlib.Nat.{add-zero, zero-add, add-suc, mul-assoc, pow-succ', mul-le-mul-right, lt-of-lt-of-le}
 use native.Mathlib.Numerals.{add-one}
 use native.Mathlib.Omega.{arith}
-use mathlib.Core.Path.{_≡_, refl, sym, ap, ap₂, _∙_}
+use mathlib.Core.Path.{_≡_, refl, sym, ap, _∙_}
 use mathlib.Core.Bool.{Bool, true, false, cond}
 use mathlib.Core.List.{List, [], _∷_, _++_, append-assoc, append-nil}
 use lib.Dec.{leb, ltb}
@@ -143,18 +143,6 @@ size-spelt (x ∷ l) k n p h =
     ap (λ (j : ℕ). sizeOf j (spelt (n * 10 + (x - 48)) l)) e
     ∙ size-spelt l (suc k) (n * 10 + (x - 48)) (and-right (isDigit x) (allDigits l) p) (omega arith)
     ∙ rw (size-suc, high) (omega arith)
-
--- behind a leading 1 a number says all its digits: equal codes exactly if equal digits
-pub spelt-injective : (a b : List ℕ) → allDigits a ≡ true → allDigits b ≡ true → spelt 1 a ≡ spelt 1 b → a ≡ b
-unfolding digits
-spelt-injective a b p q e =
-    let la = size-spelt a (length b) 1 p (omega arith) in
-    let lb = size-spelt b (length a) 1 q (omega arith) in
-    let swap : length a + length b ≡ length b + length a = omega arith in
-    let same : length a ≡ length b = omega (arith, la, rw (swap, ← e) at lb, size-none (length b) 1 (omega arith), size-none (length a) 1 (omega arith)) in
-    let da = digits-spelt a 0 1 p in
-    let db = digits-spelt b 0 1 q in
-    sym da ∙ ap₂ (λ (k n : ℕ). digits (0 + k) n) same e ∙ db
 
 -- a turn of `leading`
 pub down-turn : (i m : ℕ) → 0 < i → down i m ≡ down (i - 1) (m / 10)

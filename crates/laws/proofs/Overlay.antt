@@ -176,10 +176,6 @@ pub laid-front : {o l o₁ : List ℕ} {n : ℕ} → length l ≤ length o → L
 unfolding part
 laid-front {o} {l} {o₁} h p = ap (λ (k : ℕ). take k o₁) (p .ends ∙ zero-add (length l)) ∙ laid-part (omega arith) p
 
--- there is room for q behind p, where there is room for a t that is no shorter than both
-pub laid-room : {o p o₁ : List ℕ} {at m : ℕ} → Laid o at p o₁ m → (q t : List ℕ) → length (p ++ q) ≤ length t → at + length t ≤ length o → m + length q ≤ length o₁
-laid-room {o} {p} {o₁} {at} {m} l q t h k = omega (arith, laid-length l, l .ends, length-append p q)
-
 -- ---- room for what is left to write
 pub record Room (o : List ℕ) (at : ℕ) (t : List ℕ) : Type 0 where
   pub fits : at + length t ≤ length o
@@ -193,7 +189,3 @@ room-byte r = omega (arith, r .fits)
 
 pub room-next : (t : List ℕ) {o a o₁ : List ℕ} {at m : ℕ} → Room o at (a ++ t) → Laid o at a o₁ m → Room o₁ m t
 room-next t {o} {a} r l = record { fits = omega (arith, r .fits, laid-length l, l .ends, length-append a t) }
-
--- `Laid` settles the buffer and the place behind
-pub laid-same : {o l o₁ o₂ : List ℕ} {at m n : ℕ} → Laid o at l o₁ m → Laid o at l o₂ n → (o₁ ≡ o₂) × (m ≡ n)
-laid-same p q = (p .bytes ∙ sym (q .bytes), p .ends ∙ sym (q .ends))

@@ -1,11 +1,8 @@
 -- Sums over a range: they grow with their end, and a number lies in one place among them. Assumes nothing.
 use mathlib.Core.Path.{_≡_, refl, sym}
-use mathlib.Core.Bool.{Bool, true, false}
 use Prim.Native.Nat.{ℕ, zero, suc, _+_, _-_, _≤_, _<_}
 use native.Mathlib.Nat.{add-zero, add-suc, le-refl}
 use native.Mathlib.Omega.{arith}
-use lib.Dec.{leb}
-use borrow.Author.Tests.{leb-true, leb-false}
 use Rattle.laws.specs.Sums.{sumTo}
 
 pub sumTo-suc : (f : ℕ → ℕ) (n : ℕ) → sumTo f (suc n) ≡ sumTo f n + f n
@@ -21,13 +18,6 @@ pub sumTo-mono : (f : ℕ → ℕ) (i j : ℕ) → i ≤ j → sumTo f i ≤ sum
 sumTo-mono f i j h =
     let e : i + (j - i) ≡ j = omega arith in
     rw e at (sumTo-grows f i (j - i))
-
-pub sumTo-reflects : (f : ℕ → ℕ) (i j : ℕ) → sumTo f i < sumTo f j → i < j
-sumTo-reflects f i j h = go (leb j i) refl
-  where
-    go : (v : Bool) → leb j i ≡ v → i < j
-    go true e = absurd (omega (arith, sumTo-mono f j i (leb-true j i e)))
-    go false e = leb-false j i e
 
 -- where a number lies among the sums: at one place alone
 not-before : (f : ℕ → ℕ) (i j a b : ℕ) → a < f i → sumTo f i + a ≡ sumTo f j + b → i < j → ⊥

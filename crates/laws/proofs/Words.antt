@@ -14,7 +14,7 @@ use Rattle.laws.specs.Lists.{all}
 use Rattle.laws.specs.Overlay.{overlay, part}
 use Rattle.laws.specs.Words.{lowFirst, wordOf, wordAt}
 use Rattle.laws.proofs.Tests.{and-left, and-right}
-use Rattle.laws.proofs.Overlay.{part-same, part-before, part-after, part-part}
+use Rattle.laws.proofs.Overlay.{part-same, part-before, part-part}
 
 pub length-lowFirst : (k n : ℕ) → length (lowFirst k n) ≡ k
 unfolding lowFirst
@@ -62,10 +62,6 @@ word-same k xs at n h b =
 pub word-before : (k : ℕ) (xs : List ℕ) (at : ℕ) (ys : List ℕ) (j : ℕ) → j + k ≤ at → wordAt k (overlay xs at ys) j ≡ wordAt k xs j
 unfolding wordAt
 word-before k xs at ys j h = ap wordOf (part-before xs at ys j k h)
-
-pub word-after : (k : ℕ) (xs : List ℕ) (at : ℕ) (ys : List ℕ) (j : ℕ) → at + length ys ≤ j → wordAt k (overlay xs at ys) j ≡ wordAt k xs j
-unfolding wordAt
-word-after k xs at ys j h = ap wordOf (part-after xs at ys j k h)
 
 -- a number in a part
 pub word-part : (k : ℕ) (xs : List ℕ) (at n i : ℕ) → i + k ≤ n → wordAt k (part xs at n) i ≡ wordAt k xs (at + i)

@@ -1,29 +1,22 @@
 -- What holds of every record that reads: its bytes are those of 4.4.1, and a report or a correction begins with a digit. Assumes nothing.
 use Prim.Native.Nat.{ℕ, _<_}
-use native.Mathlib.Omega.{arith}
 use mathlib.Core.Path.{_≡_, ap, _∙_}
-use mathlib.Core.Bool.{true, not}
+use mathlib.Core.Bool.{true}
 use mathlib.Core.List.{List, _++_}
 use lib.ListN.{length, getD, List·getD-append}
-use borrow.Author.Tests.{not-true}
 use Rattle.laws.specs.Lists.{all}
 use Rattle.laws.specs.Digits.{isDigit, digits}
-use Rattle.laws.proofs.Tests.{and-left, and-right}
 use Rattle.laws.proofs.Tables.{all-at}
 use Rattle.laws.proofs.Digits.{length-digits, all-digits}
 use Rattle.fields.specs.Bytes.{recordByte}
-use Rattle.fields.specs.Number.{digitsSize, isEmpty}
-use Rattle.fields.proofs.NumberLaws.{size-some, first-fits}
-use Rattle.fields.specs.Number.{numberFits}
 use Rattle.layout.specs.declared.correction.Correction.{Correction}
 use Rattle.layout.specs.declared.correction.CorrectionRead.{CorrectionRead}
 use Rattle.layout.specs.declared.report.Report.{Report}
 use Rattle.layout.specs.declared.report.ReportRead.{ReportRead}
 use Rattle.layout.specs.declared.request.Request.{Request}
 use Rattle.layout.specs.declared.request.RequestRead.{RequestRead}
-use Rattle.layout.specs.Part.{partFits}
-use Rattle.layout.specs.Report.{reportOf, reportPart, reportFits, reportText}
-use Rattle.layout.specs.Correction.{correctionOf, correctionText}
+use Rattle.layout.specs.Report.{reportOf, reportPart}
+use Rattle.layout.specs.Correction.{correctionOf}
 use Rattle.layout.specs.Request.{requestOf}
 use Rattle.layout.proofs.PartLaws.{begins}
 use Rattle.layout.proofs.CorrectionLaws as corrections
@@ -47,17 +40,3 @@ digit-first : (k n : ℕ) (t : List ℕ) → 0 < k → isDigit (getD (digits k n
 digit-first k n t h =
     let l : 0 < length (digits k n) = rw length-digits h in
     ap isDigit (List·getD-append (digits k n) t 0 0 l) ∙ all-at isDigit (digits k n) 0 0 (all-digits k n) l
-
-pub report-digit : (r : Report) → reportFits r ≡ true → isDigit (getD (reportText r) 0 0) ≡ true
-unfolding reportFits partFits
-report-digit r h =
-    let f = first-fits (r .number) (and-left (numberFits (r .number)) _ (and-left (partFits (reportPart r)) _ h)) in
-    let e = not-true (isEmpty (r .number .first)) (and-left (not (isEmpty (r .number .first))) _ (and-right (partFits (reportPart r)) _ h)) in
-    let some : 0 < digitsSize (r .number .first) = positive (digitsSize (r .number .first)) (size-some (r .number .first) f e) in
-    rw (begins (reportPart r)) (digit-first (digitsSize (r .number .first)) (r .number .first .0) _ some)
-  where
-    positive : (n : ℕ) → (n ≡ 0 → ⊥) → 0 < n
-    positive n no-zero = omega arith
-
-pub correction-digit : (c : Correction) → isDigit (getD (correctionText c) 0 0) ≡ true
-correction-digit c = rw (corrections.begins c) (digit-first 4 (c .code .0) _ (omega arith))

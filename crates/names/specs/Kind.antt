@@ -17,13 +17,6 @@ letterOf Response = 82
 unfoldable pub kindOf : ℕ → KindRead
 kindOf b = cond (eqb b 68) (Kind Default) (cond (eqb b 75) (Kind Correction) (cond (eqb b 81) (Kind Request) (cond (eqb b 82) (Kind Response) Fault)))
 
--- whether files of this kind are filed
-abbrev pub isFiled : FileKind → Bool
-isFiled Default = true
-isFiled Correction = true
-isFiled Request = false
-isFiled Response = false
-
 -- whether the kind's tables ask for a closing record
 abbrev pub hasClosing : FileKind → Bool
 hasClosing Default = true

@@ -1,6 +1,6 @@
 // The kinds of files. Default and correction files are filed; request and response files are only read and written.
 ghost use mathlib.Core.Path.{_≡_};
-ghost use Rattle.names.specs.Kind.{kindOf, letterOf, isFiled, hasClosing};
+ghost use Rattle.names.specs.Kind.{kindOf, letterOf, hasClosing};
 
 pub enum FileKind {
     Default,
@@ -36,18 +36,6 @@ impl FileKind {
             FileKind::Correction => 75,
             FileKind::Request => 81,
             FileKind::Response => 82,
-        }
-    }
-
-    // Whether files of this kind are filed.
-    pub fn is_filed(self) -> bool
-        ensures { λ r. ⌜ r ≡ isFiled self ⌝ }
-    {
-        match self {
-            FileKind::Default => true,
-            FileKind::Correction => true,
-            FileKind::Request => false, // only read and written
-            FileKind::Response => false,
         }
     }
 

@@ -3,13 +3,11 @@ use mathlib.Core.Path.{_≡_, refl, sym, ap, _∙_}
 use mathlib.Core.List.{List, [], _++_}
 use Prim.Native.Nat.{ℕ, _+_, _*_, _≤_, _<_}
 use native.Mathlib.Nat.{add-zero}
-use native.Mathlib.Omega.{arith}
 use lib.Dec.{lit≤}
 use lib.ListN.{length}
-use Rattle.laws.specs.Overlay.{overlay, part}
+use Rattle.laws.specs.Overlay.{part}
 use Rattle.laws.specs.Slots.{slotAt}
 use Rattle.laws.specs.Words.{lowFirst, wordAt}
-use Rattle.laws.proofs.Slots.{slot-same, slot-other, slot-head}
 use Rattle.laws.proofs.Words.{word-first, word-next, word-part}
 use Rattle.numbers.specs.Lines.{lineSlot, lineOf, lineAt}
 use Rattle.numbers.specs.declared.lines.Line.{Line}
@@ -46,20 +44,6 @@ line-back l r =
     ∙ word-next 2 2 (l .owner .0) 0 (dated l)
     ∙ word-first 2 (l .setup .0) [] (r .setup-fits) in
     λ i. record { number = record { first = record { 0 = f i }; last = record { 0 = e i } }; owner = record { 0 = o i }; setup = record { 0 = d i } }
-
--- reading after writing: the line that was written, every other as before
-pub line-same : (lines : List ℕ) (k : ℕ) (l : Line) → Roomy l → 2 + k * 14 + 14 ≤ length lines → lineAt (overlay lines (2 + k * 14) (lineSlot l)) k ≡ l
-unfolding lineAt
-line-same lines k l r fits = ap lineOf (slot-same 2 14 lines k (lineSlot l) fits (length-line l)) ∙ line-back l r
-
-pub line-other : (lines : List ℕ) (j k : ℕ) (l : Line) → (j ≡ k → ⊥) → lineAt (overlay lines (2 + k * 14) (lineSlot l)) j ≡ lineAt lines j
-unfolding lineAt
-line-other lines j k l ne = ap lineOf (slot-other 2 14 lines j k (lineSlot l) ne (length-line l))
-
--- the count is no line's
-pub line-counted : (lines : List ℕ) (k n : ℕ) → lineAt (overlay lines 0 (lowFirst 2 n)) k ≡ lineAt lines k
-unfolding lineAt lowFirst
-line-counted lines k n = ap lineOf (slot-head 2 14 lines k 0 (lowFirst 2 n) (lit≤ tt))
 
 -- ---- what the code reads
 pub line-read : (lines : List ℕ) (k a b c d : ℕ) → a ≡ wordAt 5 lines (2 + k * 14) → b ≡ wordAt 5 lines (2 + k * 14 + 5)

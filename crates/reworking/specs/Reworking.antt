@@ -1,7 +1,7 @@
 -- All lines of the table worked out afresh: what the entries are then, and which of them were others before. Assumes nothing: these are definitions.
 use mathlib.Core.Path.{_≡_}
 use mathlib.Core.Bool.{Bool, false, cond}
-use mathlib.Core.List.{List, [], _∷_, map, flatMap, zipWith}
+use mathlib.Core.List.{List, [], _∷_, flatMap, zipWith}
 use mathlib.Core.Option.{Option, none, some}
 use Prim.Native.Nat.{ℕ, _+_, _*_, _<_}
 use lib.Dec.{leb}
@@ -58,11 +58,6 @@ pub record Reworks (b : Buffers) (n : ℕ) (list : List ℕ) (answer : Reworked)
   pub answers : answer ≡ reworkAnswer n (withRoom list b)
   pub leaves : entries ≡ entriesAfter n (withRoom list b) (b .entries)
   pub lists : listed ≡ listAfter n (withRoom list b) list
-
--- its number: 0 with how many entries changed, or 44
-abbrev pub reworkNumber : Reworked → ℕ
-reworkNumber (Reworked.Changed n) = 0
-reworkNumber Reworked.Unreadable = 44
 
 -- ---- line by line
 

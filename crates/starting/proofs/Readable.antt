@@ -1,13 +1,13 @@
 -- Whatever answer 0 leaves reads as the given table, no file, and the first entries; a refusal leaves the buffers as they were. Assumes nothing.
-use mathlib.Core.Path.{_≡_, refl, sym, ap, ap₂, _∙_}
+use mathlib.Core.Path.{_≡_, refl, sym, ap, _∙_}
 use mathlib.Core.Bool.{Bool, true, false, cond, _&&_}
-use mathlib.Core.List.{List, [], _∷_, _++_, map, flatMap, append-assoc, append-nil}
+use mathlib.Core.List.{List, [], _∷_, _++_, map, flatMap, append-assoc}
 use mathlib.Core.Option.{Option, none, some}
-use Prim.Native.Nat.{ℕ, _+_, _*_, _≤_, _<_}
+use Prim.Native.Nat.{ℕ, _+_, _≤_, _<_}
 use native.Mathlib.Nat.{zero-add}
 use native.Mathlib.Omega.{arith}
-use lib.Dec.{leb, lit≤, lit<}
-use lib.ListN.{length, take, drop, getD, length-append}
+use lib.Dec.{leb, lit<}
+use lib.ListN.{length, drop, getD, length-append}
 use borrow.Author.Tests.{leb-true, le-leb}
 use Rattle.laws.specs.Lists.{table, all, noneTwice, total}
 use Rattle.laws.specs.Overlay.{overlay}
@@ -20,23 +20,22 @@ use Rattle.laws.proofs.Tables.{all-at, all-each, table-cong, table-self, map-ta
 use Rattle.laws.proofs.Tests.{and-left, and-right}
 use Rattle.laws.proofs.Words.{word-first, word-same, length-lowFirst}
 use Rattle.fields.specs.Number.{sameNumber}
-use Rattle.journals.specs.Files.{fileCount, fileAt, filesOf, goodFile, recordsOf}
+use Rattle.journals.specs.Files.{fileCount, fileAt, filesOf, recordsOf}
 use Rattle.numbers.specs.Lines.{lineSlot, lineOf, lineAt, lineCount, linesOf, numberAt, goodLine}
 use Rattle.numbers.specs.declared.lines.Line.{Line}
 use Rattle.numbers.proofs.Fitting.{good-roomy, good-owner}
 use Rattle.numbers.proofs.Reading.{length-line, line-back}
 use Rattle.entry_slots.specs.Entries.{entryOf, entryAt, goodEntry}
 use Rattle.entry_slots.proofs.Back.{first-fine, entry-back, entry-fine}
-use Rattle.entries.specs.declared.entry.Entry.{Entry}
 use Rattle.journals.specs.Reads.{recordsAt, filedIn, firstFiles, readFiles}
-use Rattle.store.specs.Reads.{Buffers, Held, tableLine, held, longEnough, goodTable, goodFiles, goodRecords, isReadable, reads}
+use Rattle.store.specs.Reads.{Buffers, tableLine, held, longEnough, goodTable, goodFiles, goodRecords, isReadable, reads}
 use Rattle.store.proofs.Checks.{Long, long, reads-some}
 use Rattle.tables.specs.declared.given.LineRead.{LineRead}
 use Rattle.tables.specs.declared.given.LineRead.the-variants.{Fault}
 use Rattle.tables.specs.Given.{lineGiven, endGiven, withLine, linesGiven, numberOfLine, checked, tableOf}
 use Rattle.starting.specs.Start.{firstOf, firstSlot, answerOf, startAnswer, withTable, startBuffers, Starts, startedWith}
 use Rattle.starting.specs.declared.start.Started.{Started}
-use Rattle.starting.specs.declared.start.Started.the-variants.{Done, Short, BadTable}
+use Rattle.starting.specs.declared.start.Started.the-variants.{Done, Short}
 use Rattle.starting.proofs.Beginning.{length-first}
 use Rattle.tables.proofs.Reading.{line-good}
 use Rattle.tables.proofs.Spreading.{noLine}
@@ -238,8 +237,3 @@ refused-stays text before after answer s never = go (longEnough before) (tableOf
     go true (some ls) p q a l = absurd (never (length ls) (a ∙ ap answerOf q))
     go true none p q a l = l ∙ ap (λ (o : Option (List Line)). withTable o before) q
     go false o p q a l = l
-
--- two outcomes that the contract of starting allows are equal
-pub starts-same : (text : List ℕ) (before after₁ after₂ : Buffers) (answer₁ answer₂ : Started) → Starts text before answer₁ after₁ → Starts text before answer₂ after₂
-    → (answer₁ ≡ answer₂) × (after₁ ≡ after₂)
-starts-same text before after₁ after₂ answer₁ answer₂ p q = (p .answers ∙ sym (q .answers), p .leaves ∙ sym (q .leaves))
