@@ -41,10 +41,12 @@ for folder in crates/${1:-*}/; do
                 }
             return ""
         }
-        FNR == 1 { of = ""; own = FILENAME; sub(/.*\//, "", own); sub(/\.edit$/, "", own) }
+        FNR == 1 { split("", here); of = ""; own = FILENAME; sub(/.*\//, "", own); sub(/\.edit$/, "", own) }
         /^wrong: / {
             if (NF != 3) fail("not a name and a function: " $0)
             of = $3; own = ""; count[of]++; name_it($2)
+            if (of in here) fail(FILENAME ": " of " is wrong twice at once, so neither can be told from the other")
+            here[of] = 1
         }
         /^file: / { file = "crates/" crate "/" substr($0, 7); text = ""; while ((getline line <file) > 0) text = text line "\n"; close(file) }
         /^old: / {
