@@ -1,20 +1,20 @@
--- A field whose width is known ends where its comma must stand, or the part is a fault. Assumes nothing.
+-- A field whose width is known, a date or a code, is empty or ends where its comma must stand, or the part is a fault. Assumes nothing.
 use Prim.Native.Nat.{ℕ, suc, _+_, _-_, _<_, _≤_}
 use native.Mathlib.Decide.{ℕ-discrete}
 use native.Mathlib.Omega.{arith}
 use mathlib.Core.Path.{_≡_, refl, sym, ap, _∙_}
-use mathlib.Core.Bool.{Bool, true, false, cond, not}
+use mathlib.Core.Bool.{true, false, not}
 use mathlib.Core.Logic.{_⊎_, inl, inr, ⊎-elim}
 use mathlib.Core.List.{List, [], _∷_, _++_}
-use lib.Dec.{eqb, ltb}
+use lib.Dec.{eqb}
 use lib.ListN.{length, getD, take, drop, length-drop, take-append-drop, drop-of-length-le}
 use lib.Seq.{drop-cons, drop-drop, getD-drop, length-take-le, take-all}
-use borrow.Author.Tests.{eq-eqb, ne-eqb, eqb-true, lt-ltb, le-ltb, not-true}
+use borrow.Author.Tests.{eq-eqb, ne-eqb, eqb-true, lt-ltb, not-true}
 use Rattle.laws.specs.Digits.{isDigit}
 use Rattle.laws.specs.Lists.{all, firstAt}
 use Rattle.laws.specs.Split.{between, endOf, isSep, isNot, lacks}
 use Rattle.laws.proofs.Firsts.{any-first, first-passes}
-use Rattle.laws.proofs.Loops.{first-on, first-here, first-none}
+use Rattle.laws.proofs.Loops.{first-on, first-here}
 use Rattle.laws.proofs.Split.{ends-at, length-between, lacks-by}
 use Rattle.laws.proofs.Tests.{and-left, and-right, le-or-lt}
 use Rattle.calendar.specs.declared.dates.CalendarDays.{CalendarDays}
@@ -29,11 +29,11 @@ use Rattle.fields.specs.declared.kind.KindRead.{KindRead}
 use Rattle.fields.specs.declared.kind.MaybeKind.{MaybeKind}
 use Rattle.fields.specs.declared.kind.MaybeKindRead.{MaybeKindRead}
 use Rattle.fields.specs.Bytes.{fieldByte}
-use Rattle.fields.specs.Code.{codeOf, maybeCodeFrom, maybeCodeOf, maybeCodeText}
+use Rattle.fields.specs.Code.{codeOf, maybeCodeFrom, maybeCodeOf, codeText}
 use Rattle.fields.specs.Date.{dateFieldOf, maybeDateFrom, maybeDateOf, maybeDateText}
 use Rattle.fields.specs.Kind.{kindOf, maybeKindFrom, maybeKindOf}
-use Rattle.fields.proofs.ByteLaws.{bytes-maybe-code, bytes-maybe-date}
-use Rattle.fields.proofs.CodeLaws.{maybe-code-back}
+use Rattle.fields.proofs.ByteLaws.{bytes-code, bytes-maybe-date}
+use Rattle.fields.proofs.CodeLaws.{code-back}
 use Rattle.fields.proofs.DateLaws.{maybe-date-back}
 use Rattle.layout.specs.declared.walk.DateAt.{DateAt}
 use Rattle.layout.specs.declared.walk.CodeAt.{CodeAt}
@@ -41,10 +41,6 @@ use Rattle.layout.specs.Walk.{dateAt, codeAt}
 use Rattle.layout.proofs.WalkLaws.{end-from, date-none, date-then, code-none, code-then}
 
 -- ---- where a field ends
--- where the field that starts at `at` ends if it is empty or has k bytes
-unfoldable endBy : ℕ → List ℕ → ℕ → ℕ
-endBy k s at = cond (ltb at (length s)) (cond (eqb (getD s at 0) 44) at (at + k)) at
-
 first-append : (f r : List ℕ) → lacks 44 f ≡ true → firstAt (isSep 44) (f ++ 44 ∷ r) ≡ length f
 unfolding all isNot isSep
 first-append [] r h = refl
@@ -77,160 +73,120 @@ module _ (s : List ℕ) (at : ℕ) where
   unfolding endOf isSep
   end-past h n = omega (arith, first-on (isSep 44) 0 s at h (ne-eqb (getD s at 0) 44 n))
 
-  end-none : length s ≤ at → endOf 44 s at ≡ at
-  unfolding endOf
-  end-none h = first-none (isSep 44) 0 s at h
+-- ---- a field of k bytes or none, whatever it is: read by `of`, and found at a place of a line as `found`
+pub record Wide {Y Q A : Type 0} (k : ℕ) (of : List ℕ → Q) (bad : Q) (good : Y → Q) (found : List ℕ → ℕ → A) (fault : A) (empty : ℕ → A) (value : Y → ℕ → A) : Type 0 where
+  pub some : 0 < k
+  pub width : (f : List ℕ) → (length f ≡ k → ⊥) → of f ≡ bad
+  pub clean : (f : List ℕ) → (length f ≡ 0 → ⊥) → (y : Y) → of f ≡ good y → lacks 44 f ≡ true
+  pub none : (s : List ℕ) (at e : ℕ) → e ≡ endOf 44 s at → length s ≤ e → found s at ≡ fault
+  pub blank : (s : List ℕ) (at : ℕ) → at ≡ endOf 44 s at → at < length s → found s at ≡ empty (at + 1)
+  pub wrong : (s : List ℕ) (at e : ℕ) → e ≡ endOf 44 s at → e < length s → (length (between s at e) ≡ 0 → ⊥) → of (between s at e) ≡ bad → found s at ≡ fault
+  pub right : (s : List ℕ) (at e : ℕ) → e ≡ endOf 44 s at → e < length s → (length (between s at e) ≡ 0 → ⊥) → (y : Y) → of (between s at e) ≡ good y → found s at ≡ value y (e + 1)
 
-  end-by-from : (k : ℕ) → at ≤ endBy k s at
-  unfolding endBy
-  end-by-from k = go (ltb at (length s)) (eqb (getD s at 0) 44)
-    where
-      go : (t u : Bool) → at ≤ cond t (cond u at (at + k)) at
-      go true true = omega arith
-      go true false = omega arith
-      go false u = omega arith
-
-  -- the field ends there, or is neither empty nor has so many bytes
-  end-by : (k : ℕ) → (endOf 44 s at ≡ endBy k s at) ⊎ ((at < endOf 44 s at) × (endOf 44 s at - at ≡ k → ⊥))
-  unfolding endBy
-  end-by k = ⊎-elim (λ (h : length s ≤ at). inl (end-none h ∙ sym (rw (le-ltb at (length s) h) refl))) inside (le-or-lt (length s) at)
-    where
-      inside : at < length s → (endOf 44 s at ≡ endBy k s at) ⊎ ((at < endOf 44 s at) × (endOf 44 s at - at ≡ k → ⊥))
-      inside h = elim (ℕ-discrete (getD s at 0) 44) [
-        | yes e ↦ inl (end-here h e ∙ rw (lt-ltb at (length s) h, eq-eqb (getD s at 0) 44 e))
-        | no n ↦ elim (ℕ-discrete (endOf 44 s at - at) k) [
-          | yes e ↦ inl (rw (lt-ltb at (length s) h, ne-eqb (getD s at 0) 44 n) (omega (arith, end-past h n)))
-          | no m ↦ inr (end-past h n, m)
-        ]
-      ]
-
--- ---- a date
-date-width : (f : List ℕ) → (length f ≡ 0 → ⊥) → (length f ≡ 8 → ⊥) → maybeDateOf f ≡ MaybeDateRead.Fault
-unfolding maybeDateOf maybeDateFrom dateFieldOf
-date-width f n m = rw (ne-eqb (length f) 0 n, ne-eqb (length f) 8 m)
-
-date-or : (s : List ℕ) (at : ℕ) → (endOf 44 s at ≡ endBy 8 s at) ⊎ (dateAt s at ≡ DateAt.Fault)
-date-or s at =
-    let e : ℕ = endOf 44 s at in
-    ⊎-elim
-    inl
-    (λ (w : (at < e) × (e - at ≡ 8 → ⊥)). inr (⊎-elim
-    (λ (h : length s ≤ e). date-none s at e refl h)
-    (λ (h : e < length s). let l = length-between (ends-at 44 s at (omega (arith, end-from s at))) in date-then s at e refl h (date-width (between s at e) (λ z. omega (arith, w .0)) (λ z. w .1 (sym l ∙ z))))
-    (le-or-lt (length s) e)))
-    (end-by s at 8)
-
-module _ (s : List ℕ) (at e : ℕ) (q : e ≡ endBy 8 s at) where
-  date-beyond : length s ≤ e → dateAt s at ≡ DateAt.Fault
-  date-beyond h = ⊎-elim (λ p. date-none s at e (q ∙ sym p) h) (λ p. p) (date-or s at)
-
-  module _ (h : e < length s) where
-    date-open : (getD s e 0 ≡ 44 → ⊥) → dateAt s at ≡ DateAt.Fault
-    date-open n = ⊎-elim (λ p. let w : e ≡ endOf 44 s at = q ∙ sym p in absurd (n (ap (λ (i : ℕ). getD s i 0) w ∙ end-comma s at (omega arith)))) (λ p. p) (date-or s at)
-
-    date-wrong : maybeDateOf (between s at e) ≡ MaybeDateRead.Fault → dateAt s at ≡ DateAt.Fault
-    date-wrong r = ⊎-elim (λ p. date-then s at e (q ∙ sym p) h r) (λ p. p) (date-or s at)
-
-    date-right : getD s e 0 ≡ 44 → {x : MaybeDate} → maybeDateOf (between s at e) ≡ MaybeDateRead.MaybeDate x → dateAt s at ≡ DateAt.Date x (e + 1)
-    unfolding fieldByte isDigit
-    date-right comma {x} r =
-        let none : lacks 44 (between s at e) ≡ true = rw (maybe-date-back (between s at e) x r .0) at (lacks-by fieldByte 44 refl (maybeDateText x) (bytes-maybe-date x)) in
-        date-then s at e (sym (end-is s at e (omega (arith, end-by-from s at 8)) h comma none)) h r
-
--- ---- a code
-code-width : (f : List ℕ) → (length f ≡ 0 → ⊥) → (length f ≡ 4 → ⊥) → maybeCodeOf f ≡ MaybeCodeRead.Fault
-unfolding maybeCodeOf maybeCodeFrom codeOf
-code-width f n m = rw (ne-eqb (length f) 0 n, ne-eqb (length f) 4 m)
-
-code-or : (s : List ℕ) (at : ℕ) → (endOf 44 s at ≡ endBy 4 s at) ⊎ (codeAt s at ≡ CodeAt.Fault)
-code-or s at =
-    let e : ℕ = endOf 44 s at in
-    ⊎-elim
-    inl
-    (λ (w : (at < e) × (e - at ≡ 4 → ⊥)). inr (⊎-elim
-    (λ (h : length s ≤ e). code-none s at e refl h)
-    (λ (h : e < length s). let l = length-between (ends-at 44 s at (omega (arith, end-from s at))) in code-then s at e refl h (code-width (between s at e) (λ z. omega (arith, w .0)) (λ z. w .1 (sym l ∙ z))))
-    (le-or-lt (length s) e)))
-    (end-by s at 4)
-
-module _ (s : List ℕ) (at e : ℕ) (q : e ≡ endBy 4 s at) where
-  code-beyond : length s ≤ e → codeAt s at ≡ CodeAt.Fault
-  code-beyond h = ⊎-elim (λ p. code-none s at e (q ∙ sym p) h) (λ p. p) (code-or s at)
-
-  module _ (h : e < length s) where
-    code-open : (getD s e 0 ≡ 44 → ⊥) → codeAt s at ≡ CodeAt.Fault
-    code-open n = ⊎-elim (λ p. let w : e ≡ endOf 44 s at = q ∙ sym p in absurd (n (ap (λ (i : ℕ). getD s i 0) w ∙ end-comma s at (omega arith)))) (λ p. p) (code-or s at)
-
-    code-wrong : maybeCodeOf (between s at e) ≡ MaybeCodeRead.Fault → codeAt s at ≡ CodeAt.Fault
-    code-wrong r = ⊎-elim (λ p. code-then s at e (q ∙ sym p) h r) (λ p. p) (code-or s at)
-
-    code-right : getD s e 0 ≡ 44 → {x : MaybeCode} → maybeCodeOf (between s at e) ≡ MaybeCodeRead.MaybeCode x → codeAt s at ≡ CodeAt.Code x (e + 1)
-    unfolding fieldByte isDigit
-    code-right comma {x} r =
-        let none : lacks 44 (between s at e) ≡ true = rw (maybe-code-back (between s at e) x r .0) at (lacks-by fieldByte 44 refl (maybeCodeText x) (bytes-maybe-code x)) in
-        code-then s at e (sym (end-is s at e (omega (arith, end-by-from s at 4)) h comma none)) h r
-
--- ---- the ways that a reader goes, which looks for an empty field first
-module _ (s : List ℕ) (at : ℕ) where
-  pub date-past : length s ≤ at → dateAt s at ≡ DateAt.Fault
-  date-past h = date-none s at (endOf 44 s at) refl (omega (arith, end-from s at))
-
-  pub code-past : length s ≤ at → codeAt s at ≡ CodeAt.Fault
-  code-past h = code-none s at (endOf 44 s at) refl (omega (arith, end-from s at))
+-- the ways that a reader goes, which looks for an empty field first
+module _ {Y Q A : Type 0} {k : ℕ} {of : List ℕ → Q} {bad : Q} {good : Y → Q} {found : List ℕ → ℕ → A} {fault : A} {empty : ℕ → A} {value : Y → ℕ → A} (w : Wide k of bad good found fault empty value) (s : List ℕ) (at : ℕ) where
+  pub past : length s ≤ at → found s at ≡ fault
+  past h = w .none s at (endOf 44 s at) refl (omega (arith, end-from s at))
 
   module _ (h : at < length s) where
-    pub date-empty : getD s at 0 ≡ 44 → dateAt s at ≡ DateAt.Date MaybeDate.Empty (at + 1)
-    unfolding maybeDateOf
-    date-empty e =
-        let none : at - at ≡ 0 = omega arith in
-        date-then s at at (sym (end-here s at h e)) h {r = MaybeDateRead.MaybeDate MaybeDate.Empty} (rw none refl)
-
-    pub code-empty : getD s at 0 ≡ 44 → codeAt s at ≡ CodeAt.Code MaybeCode.Empty (at + 1)
-    unfolding maybeCodeOf
-    code-empty e =
-        let none : at - at ≡ 0 = omega arith in
-        code-then s at at (sym (end-here s at h e)) h {r = MaybeCodeRead.MaybeCode MaybeCode.Empty} (rw none refl)
+    pub empty-here : getD s at 0 ≡ 44 → found s at ≡ empty (at + 1)
+    empty-here e = w .blank s at (sym (end-here s at h e)) h
 
     module _ (n : getD s at 0 ≡ 44 → ⊥) where
-      by : (k : ℕ) → at + k ≡ endBy k s at
-      unfolding endBy
-      by k = rw (lt-ltb at (length s) h, ne-eqb (getD s at 0) 44 n)
+      -- it has k bytes, or is a fault
+      ends : (endOf 44 s at ≡ at + k) ⊎ (found s at ≡ fault)
+      ends =
+          let e : ℕ = endOf 44 s at in
+          let l : length (between s at e) ≡ e - at = length-between (ends-at 44 s at (omega (arith, end-from s at))) in
+          elim (ℕ-discrete (e - at) k) [
+            | yes q ↦ inl (omega (arith, q, end-past s at h n))
+            | no m ↦ inr (⊎-elim
+                (λ (b : length s ≤ e). w .none s at e refl b)
+                (λ (b : e < length s). w .wrong s at e refl b (λ z. omega (arith, l, z, end-past s at h n)) (w .width (between s at e) (λ z. m (sym l ∙ z))))
+                (le-or-lt (length s) e))
+          ]
 
-      pub date-short : length s ≤ at + 8 → dateAt s at ≡ DateAt.Fault
-      date-short l = date-beyond s at (at + 8) (by 8) l
+      pub short : length s ≤ at + k → found s at ≡ fault
+      short b = ⊎-elim (λ p. w .none s at (at + k) (sym p) b) (λ p. p) ends
 
-      pub code-short : length s ≤ at + 4 → codeAt s at ≡ CodeAt.Fault
-      code-short l = code-beyond s at (at + 4) (by 4) l
+      module _ (b : at + k < length s) where
+        not-none : length (between s at (at + k)) ≡ 0 → ⊥
+        not-none z =
+            let l : length (between s at (at + k)) ≡ at + k - at = length-take-le (at + k - at) (drop at s) (simp length-drop (omega arith)) in
+            omega (arith, l, z, w .some)
 
-      -- a field of so many bytes is not empty
-      some : (k : ℕ) → at + suc k < length s → eqb (length (between s at (at + suc k))) 0 ≡ false
-      some k l =
-          let size : length (between s at (at + suc k)) ≡ at + suc k - at = length-take-le (at + suc k - at) (drop at s) (simp length-drop (omega arith)) in
-          ne-eqb (length (between s at (at + suc k))) 0 (λ (z : length (between s at (at + suc k)) ≡ 0). omega (arith, size, z))
+        pub unended : (getD s (at + k) 0 ≡ 44 → ⊥) → found s at ≡ fault
+        unended m = ⊎-elim (λ (p : endOf 44 s at ≡ at + k). absurd (m (ap (λ (i : ℕ). getD s i 0) (sym p) ∙ end-comma s at (omega (arith, p))))) (λ p. p) ends
 
-      module _ (l : at + 8 < length s) where
-        pub date-unended : (getD s (at + 8) 0 ≡ 44 → ⊥) → dateAt s at ≡ DateAt.Fault
-        date-unended ne = date-open s at (at + 8) (by 8) l ne
+        pub unread : of (between s at (at + k)) ≡ bad → found s at ≡ fault
+        unread r = ⊎-elim (λ p. w .wrong s at (at + k) (sym p) b not-none r) (λ p. p) ends
 
-        pub date-none-read : dateFieldOf (between s at (at + 8)) ≡ DateRead.Fault → dateAt s at ≡ DateAt.Fault
-        unfolding maybeDateOf maybeDateFrom
-        date-none-read r = date-wrong s at (at + 8) (by 8) l (rw (some 7 l, r))
+        pub read : getD s (at + k) 0 ≡ 44 → {y : Y} → of (between s at (at + k)) ≡ good y → found s at ≡ value y (at + k + 1)
+        read comma {y} r =
+            let e : endOf 44 s at ≡ at + k = end-is s at (at + k) (omega arith) b comma (w .clean (between s at (at + k)) not-none y r) in
+            w .right s at (at + k) (sym e) b not-none y r
 
-        pub date-read : getD s (at + 8) 0 ≡ 44 → {d : CalendarDays} → dateFieldOf (between s at (at + 8)) ≡ DateRead.Date d → dateAt s at ≡ DateAt.Date (MaybeDate.Date d) (at + 8 + 1)
-        unfolding maybeDateOf maybeDateFrom
-        date-read comma {d} r = date-right s at (at + 8) (by 8) l comma (rw (some 7 l, r))
+-- nothing stands between a place and itself
+between-none : (s : List ℕ) (at : ℕ) → between s at at ≡ []
+between-none s at = let none : at - at ≡ 0 = omega arith in rw none refl
 
-      module _ (l : at + 4 < length s) where
-        pub code-unended : (getD s (at + 4) 0 ≡ 44 → ⊥) → codeAt s at ≡ CodeAt.Fault
-        code-unended ne = code-open s at (at + 4) (by 4) l ne
+-- ---- a date
+date-filled : (f : List ℕ) → (length f ≡ 0 → ⊥) → {r : DateRead} → dateFieldOf f ≡ r → maybeDateOf f ≡ maybeDateFrom r
+unfolding maybeDateOf
+date-filled f z p = rw (ne-eqb (length f) 0 z, p)
 
-        pub code-none-read : codeOf (between s at (at + 4)) ≡ CodeRead.Fault → codeAt s at ≡ CodeAt.Fault
-        unfolding maybeCodeOf maybeCodeFrom
-        code-none-read r = code-wrong s at (at + 4) (by 4) l (rw (some 3 l, r))
+date-blank : maybeDateOf [] ≡ MaybeDateRead.MaybeDate MaybeDate.Empty
+unfolding maybeDateOf
+date-blank = refl
 
-        pub code-read : getD s (at + 4) 0 ≡ 44 → {c : Code} → codeOf (between s at (at + 4)) ≡ CodeRead.Code c → codeAt s at ≡ CodeAt.Code (MaybeCode.Code c) (at + 4 + 1)
-        unfolding maybeCodeOf maybeCodeFrom
-        code-read comma {c} r = code-right s at (at + 4) (by 4) l comma (rw (some 3 l, r))
+date-width : (f : List ℕ) → (length f ≡ 8 → ⊥) → dateFieldOf f ≡ DateRead.Fault
+unfolding dateFieldOf
+date-width f m = rw (ne-eqb (length f) 8 m)
+
+date-clean : (f : List ℕ) → (length f ≡ 0 → ⊥) → (d : CalendarDays) → dateFieldOf f ≡ DateRead.Date d → lacks 44 f ≡ true
+unfolding maybeDateFrom fieldByte isDigit
+date-clean f z d r = rw (maybe-date-back f (MaybeDate.Date d) (date-filled f z r) .0) at (lacks-by fieldByte 44 refl (maybeDateText (MaybeDate.Date d)) (bytes-maybe-date (MaybeDate.Date d)))
+
+pub dates : Wide 8 dateFieldOf DateRead.Fault DateRead.Date dateAt DateAt.Fault (λ n. DateAt.Date MaybeDate.Empty n) (λ d n. DateAt.Date (MaybeDate.Date d) n)
+unfolding maybeDateFrom
+dates = record {
+  some = omega arith;
+  width = date-width;
+  clean = date-clean;
+  none = date-none;
+  blank = λ s at q h. date-then s at at q h {r = MaybeDateRead.MaybeDate MaybeDate.Empty} (ap maybeDateOf (between-none s at) ∙ date-blank);
+  wrong = λ s at e q h z r. date-then s at e q h {r = MaybeDateRead.Fault} (date-filled (between s at e) z r);
+  right = λ s at e q h z d r. date-then s at e q h {r = MaybeDateRead.MaybeDate (MaybeDate.Date d)} (date-filled (between s at e) z r);
+}
+
+-- ---- a code
+code-filled : (f : List ℕ) → (length f ≡ 0 → ⊥) → {r : CodeRead} → codeOf f ≡ r → maybeCodeOf f ≡ maybeCodeFrom r
+unfolding maybeCodeOf
+code-filled f z p = rw (ne-eqb (length f) 0 z, p)
+
+code-blank : maybeCodeOf [] ≡ MaybeCodeRead.MaybeCode MaybeCode.Empty
+unfolding maybeCodeOf
+code-blank = refl
+
+code-width : (f : List ℕ) → (length f ≡ 4 → ⊥) → codeOf f ≡ CodeRead.Fault
+unfolding codeOf
+code-width f m = rw (ne-eqb (length f) 4 m)
+
+code-clean : (f : List ℕ) → (length f ≡ 0 → ⊥) → (c : Code) → codeOf f ≡ CodeRead.Code c → lacks 44 f ≡ true
+unfolding fieldByte isDigit
+code-clean f z c r = rw (code-back f c r .0) at (lacks-by fieldByte 44 refl (codeText c) (bytes-code c))
+
+pub codes : Wide 4 codeOf CodeRead.Fault CodeRead.Code codeAt CodeAt.Fault (λ n. CodeAt.Code MaybeCode.Empty n) (λ c n. CodeAt.Code (MaybeCode.Code c) n)
+unfolding maybeCodeFrom
+codes = record {
+  some = omega arith;
+  width = code-width;
+  clean = code-clean;
+  none = code-none;
+  blank = λ s at q h. code-then s at at q h {r = MaybeCodeRead.MaybeCode MaybeCode.Empty} (ap maybeCodeOf (between-none s at) ∙ code-blank);
+  wrong = λ s at e q h z r. code-then s at e q h {r = MaybeCodeRead.Fault} (code-filled (between s at e) z r);
+  right = λ s at e q h z c r. code-then s at e q h {r = MaybeCodeRead.MaybeCode (MaybeCode.Code c)} (code-filled (between s at e) z r);
+}
 
 -- ---- the kind
 module _ (s : List ℕ) (at : ℕ) where
