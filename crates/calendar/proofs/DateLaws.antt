@@ -1,16 +1,15 @@
 -- Laws of years and months: how many days they have, where they start, and in which one a day lies.
 -- Assumes nothing.
-use mathlib.Core.Path.{_≡_, refl, sym, ap, _∙_}
+use mathlib.Core.Path.{_≡_, refl, sym, _∙_}
 use mathlib.Core.Bool.{Bool, true, false, cond, not}
 use mathlib.Core.Logic.{⊎-elim}
 use mathlib.Core.List.{List}
 use Prim.Native.Nat.{ℕ, zero, suc, _+_, _-_, _*_, _/_, _%_, _≤_, _<_, zero-le}
-use native.Mathlib.Decide.{le-ind}
 use native.Mathlib.Numerals.{add-one}
 use native.Mathlib.Omega.{arith}
 use lib.Dec.{leb, ltb, eqb, lit≤}
 use lib.ListN.{getD, List·getD-eq-default}
-use borrow.Author.Tests.{leb-true, leb-false, eqb-true, lt-ltb, le-ltb}
+use borrow.Author.Tests.{leb-true, leb-false, eqb-true, eqb-false, lt-ltb, le-ltb}
 use Rattle.laws.specs.Sums.{sumTo}
 use Rattle.laws.proofs.Sums.{sumTo-suc, sumTo-mono}
 use Rattle.laws.specs.Lists.{all, table}
@@ -39,6 +38,10 @@ pub monthDays-none : (y m : ℕ) → 12 < m → monthDays y m ≡ 0
 unfolding monthDays
 monthDays-none y m h = List·getD-eq-default (months (leap y)) 0 h
 
+-- a month that has a day is one of the twelve
+pub month-real : (y m : ℕ) → 1 ≤ monthDays y m → m < 13
+month-real y m h = ⊎-elim (λ (l : 13 ≤ m). absurd (omega (arith, monthDays-none y m l))) (λ (l : m < 13). l) (le-or-lt 13 m)
+
 -- no month is longer than 31 days: a test at each entry of the table, in both kinds of year
 months-le : (b : Bool) (m : ℕ) → m < 13 → getD (months b) m 0 ≤ 31
 unfolding all
@@ -48,65 +51,6 @@ months-le false m h = leb-true _ _ (all-at (λ (x : ℕ). leb x 31) (months fals
 pub monthDays-le : (y m : ℕ) → monthDays y m ≤ 31
 unfolding monthDays
 monthDays-le y m = ⊎-elim (λ (h : 13 ≤ m). omega (arith, monthDays-none y m h)) (λ (h : m < 13). months-le (leap y) m h) (le-or-lt 13 m)
-
--- ---- where they start
-pub yearStart-next : (y : ℕ) → 1998 ≤ y → yearStart (y + 1) ≡ yearStart y + yearDays y
-unfolding yearStart
-yearStart-next y h =
-    let e : y + 1 - 1998 ≡ suc (y - 1998) = omega arith in
-    let f : 1998 + (y - 1998) ≡ y = omega arith in
-    rw e (sumTo-suc (λ (i : ℕ). yearDays (1998 + i)) (y - 1998) ∙ rw f)
-
-pub yearStart-mono : (y z : ℕ) → y ≤ z → yearStart y ≤ yearStart z
-unfolding yearStart
-yearStart-mono y z h = sumTo-mono (λ (i : ℕ). yearDays (1998 + i)) (y - 1998) (z - 1998) (omega arith)
-
-pub monthStart-next : (y m : ℕ) → monthStart y (m + 1) ≡ monthStart y m + monthDays y m
-unfolding monthStart
-monthStart-next y m = rw add-one (sumTo-suc (monthDays y) m)
-
-pub monthStart-mono : (y m n : ℕ) → m ≤ n → monthStart y m ≤ monthStart y n
-unfolding monthStart
-monthStart-mono y m n h = sumTo-mono (monthDays y) m n h
-
--- the 52 years make the calendar
-pub yearStart-end : yearStart 2050 ≡ suc lastDay
-unfolding yearStart sumTo yearDays leap
-yearStart-end = refl
-
--- the twelve months make the year
-months-sum : (b : Bool) → sumTo (λ m. getD (months b) m 0) 13 ≡ cond b 366 365
-unfolding sumTo
-months-sum true = refl
-months-sum false = refl
-
-pub monthStart-end : (y : ℕ) → monthStart y 13 ≡ yearDays y
-unfolding monthStart monthDays yearDays
-monthStart-end y = months-sum (leap y)
-
--- and beyond them nothing comes
-pub monthStart-beyond : (y m : ℕ) → 12 < m → monthStart y m ≡ yearDays y
-monthStart-beyond y m h =
-    le-ind (λ (k : ℕ). monthStart y k ≡ yearDays y) (monthStart-end y) (λ k g q. rw (← (add-one k)) (omega (arith, monthStart-next y k, monthDays-none y k g))) m h
-
-pub monthStart-le : (y m : ℕ) → monthStart y m ≤ 31 * m
-unfolding monthStart sumTo
-monthStart-le y zero = zero-le
-monthStart-le y (suc m) = rw (← (add-one m)) (omega (arith, monthStart-next y m, monthDays-le y m, monthStart-le y m))
-
--- ---- where they start, in short: a test of each year
-unfoldable yearIn : ℕ → Bool
-yearIn i = eqb (365 * i + (i + 1) / 4) (yearStart (1998 + i))
-
-years-in : all yearIn (table 52 (λ (i : ℕ). i)) ≡ true
-unfolding yearIn all table sumTo yearStart yearDays leap
-years-in = refl
-
-pub year-in : (y : ℕ) → 1998 ≤ y → y ≤ 2049 → 365 * (y - 1998) + (y - 1998 + 1) / 4 ≡ yearStart y
-unfolding yearIn
-year-in y low high =
-    let e : 1998 + (y - 1998) ≡ y = omega arith in
-    eqb-true _ _ (tested yearIn 52 years-in (y - 1998) (omega arith)) ∙ ap yearStart e
 
 -- ---- in the calendar each fourth year is a leap year: a test of each
 unfoldable leapIn : ℕ → Bool
@@ -128,8 +72,53 @@ leap-in y low high =
     let same : eqb ((1998 + (y - 1998)) % 4) 0 ≡ leap (1998 + (y - 1998)) = agree _ _ (tested leapIn 52 leaps-in (y - 1998) (omega arith)) in
     rw e at same
 
--- the months
--- of a year that has no leap day
+-- ---- where they start
+pub yearStart-next : (y : ℕ) → 1998 ≤ y → y ≤ 2049 → yearStart (y + 1) ≡ yearStart y + yearDays y
+unfolding yearStart yearDays
+yearStart-next y low high = go (eqb (y % 4) 0) refl
+  where
+    go : (t : Bool) → eqb (y % 4) 0 ≡ t → yearStart (y + 1) ≡ yearStart y + cond (leap y) 366 365
+    go true e = let yes : y % 4 ≡ 0 = eqb-true _ _ e in rw (sym (leap-in y low high) ∙ e) (omega arith)
+    go false e = let no : y % 4 ≡ 0 → ⊥ = eqb-false _ _ e in rw (sym (leap-in y low high) ∙ e) (omega arith)
+
+pub yearStart-mono : (y z : ℕ) → y ≤ z → yearStart y ≤ yearStart z
+unfolding yearStart
+yearStart-mono y z h = omega arith
+
+-- none starts after 1 January 2049
+pub yearStart-le : (y : ℕ) → y ≤ 2049 → yearStart y ≤ 18628
+unfolding yearStart
+yearStart-le y h = omega arith
+
+pub monthStart-next : (y m : ℕ) → monthStart y (m + 1) ≡ monthStart y m + monthDays y m
+unfolding monthStart
+monthStart-next y m = rw add-one (sumTo-suc (monthDays y) m)
+
+pub monthStart-mono : (y m n : ℕ) → m ≤ n → monthStart y m ≤ monthStart y n
+unfolding monthStart
+monthStart-mono y m n h = sumTo-mono (monthDays y) m n h
+
+-- the 52 years make the calendar
+pub yearStart-end : yearStart 2050 ≡ suc lastDay
+unfolding yearStart
+yearStart-end = refl
+
+-- the twelve months make the year
+months-sum : (b : Bool) → sumTo (λ m. getD (months b) m 0) 13 ≡ cond b 366 365
+unfolding sumTo
+months-sum true = refl
+months-sum false = refl
+
+pub monthStart-end : (y : ℕ) → monthStart y 13 ≡ yearDays y
+unfolding monthStart monthDays yearDays
+monthStart-end y = months-sum (leap y)
+
+pub monthStart-le : (y m : ℕ) → monthStart y m ≤ 31 * m
+unfolding monthStart sumTo
+monthStart-le y zero = zero-le
+monthStart-le y (suc m) = rw (← (add-one m)) (omega (arith, monthStart-next y m, monthDays-le y m, monthStart-le y m))
+
+-- ---- where the months start, by a table of a year that has no leap day
 unfoldable pub monthStarts : List ℕ
 monthStarts = table 13 (sumTo (λ k. getD (months false) k 0))
 
@@ -200,25 +189,10 @@ pub record MonthAt (y n m : ℕ) : Type 0 where
   pub from : monthStart y m ≤ n
   pub to : n < monthStart y m + monthDays y m
 
-yearFrom-mono : (i j : ℕ) → i ≤ j → yearStart (1998 + i) ≤ yearStart (1998 + j)
-yearFrom-mono i j h = yearStart-mono (1998 + i) (1998 + j) (omega arith)
-
-pub year-is : (n y : ℕ) → YearAt n y → yearOf n ≡ y
-unfolding yearOf
-year-is n y h =
-    let e : 1998 + (y - 1998) ≡ y = omega arith in
-    let f : 1998 + (y - 1998 + 1) ≡ y + 1 = omega arith in
-    let q = lastFrom-is (λ (i : ℕ). yearStart (1998 + i)) yearFrom-mono n 52 (y - 1998) (omega arith) (rw e (h .from)) (rw f (omega (arith, yearStart-next y (h .first)))) in
-    omega arith
-
 pub month-is : (y n m : ℕ) → MonthAt y n m → monthOf y n ≡ m
 unfolding monthOf
 month-is y n m h =
     lastFrom-is (monthStart y) (monthStart-mono y) n 13 m (omega arith) (h .from) (omega (arith, monthStart-next y m))
-
-year-zero : (n : ℕ) → yearStart 1998 ≤ n
-unfolding yearStart sumTo
-year-zero n = zero-le
 
 month-zero : (y n m : ℕ) → m < 2 → monthStart y m ≤ n
 unfolding monthStart sumTo monthDays
@@ -226,16 +200,22 @@ month-zero y n zero h = zero-le
 month-zero y n (suc zero) h = zero-le
 month-zero y n (suc (suc m)) h = absurd (omega arith)
 
+-- the year 1998 + i has begun by the day n exactly if 1461 * i is at most 4 * n + 2
+year-from : (i n : ℕ) → 1461 * i ≤ 4 * n + 2 → yearStart (1998 + i) ≤ n
+unfolding yearStart
+year-from i n h = omega arith
+
+year-to : (i n : ℕ) → 4 * n + 2 < 1461 * (i + 1) → n < yearStart (1998 + i + 1)
+unfolding yearStart
+year-to i n h = omega arith
+
 -- each day of the calendar lies in its year, each day of a year in its month
 pub year-at : (n : ℕ) → n ≤ lastDay → YearAt n (yearOf n)
 unfolding yearOf
 year-at n h =
-    let start : ℕ → ℕ = λ (i : ℕ). yearStart (1998 + i) in
-    let i : ℕ = lastFrom start 52 n in
-    let low : start 0 ≤ n = year-zero n in
-    let to = lastFrom-to start yearFrom-mono n 52 low (omega (arith, yearStart-end)) in
-    let f : 1998 + (i + 1) ≡ 1998 + i + 1 = omega arith in
-    record { first = omega arith; last = omega arith; from = lastFrom-from start yearFrom-mono n 52 low; to = omega (arith, rw f at (to .1), yearStart-next (1998 + i) (omega arith)) }
+    let i : ℕ = (4 * n + 2) / 1461 in
+    let last : 1998 + i ≤ 2049 = omega arith in
+    record { first = omega arith; last = last; from = year-from i n (omega arith); to = omega (arith, year-to i n (omega arith), yearStart-next (1998 + i) (omega arith) last) }
 
 pub month-at : (y n : ℕ) → n < yearDays y → MonthAt y n (monthOf y n)
 unfolding monthOf
@@ -246,9 +226,9 @@ month-at y n h =
     let one : 1 ≤ m = ⊎-elim (λ (l : 1 ≤ m). l) (λ (l : m < 1). absurd (omega (arith, to .1, month-zero y n (m + 1) (omega arith)))) (le-or-lt 1 m) in
     record { first = one; last = omega arith; from = lastFrom-from (monthStart y) (monthStart-mono y) n 13 low; to = omega (arith, to .1, monthStart-next y m) }
 
--- the same of a year and a month that were found
+-- the same of a year, its start and a month that were found
 pub year-found : (n y : ℕ) → n ≤ lastDay → y ≡ yearOf n → YearAt n y
 year-found n y h e = rw e (year-at n h)
 
-pub month-found : (y n m : ℕ) → n < yearDays y → m ≡ monthOf y n → MonthAt y n m
-month-found y n m h e = rw e (month-at y n h)
+pub month-found : (n y s m : ℕ) → n ≤ lastDay → y ≡ yearOf n → s ≡ yearStart y → m ≡ monthOf y (n - s) → MonthAt y (n - s) m
+month-found n y s m h e f g = rw g (month-at y (n - s) (let at = year-found n y h e in omega arith))

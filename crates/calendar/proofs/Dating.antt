@@ -2,13 +2,12 @@
 -- Assumes nothing.
 use mathlib.Core.Path.{_≡_, refl, sym, _∙_, ap, subst}
 use mathlib.Core.Bool.{Bool, true, false, cond}
-use mathlib.Core.Logic.{⊎-elim}
 use Prim.Native.Nat.{ℕ, _+_, _-_, _≤_, _<_}
 use native.Mathlib.Omega.{arith}
 use lib.Dec.{leb}
 use borrow.Author.Tests.{leb-true, leb-false, le-leb}
 use Rattle.laws.proofs.Sums.{sumTo-place}
-use Rattle.laws.proofs.Tests.{and-left, and-right, le-or-lt}
+use Rattle.laws.proofs.Tests.{and-left, and-right}
 use Rattle.calendar.specs.Dates.{lastDay, yearDays, monthDays, yearStart, monthStart, dayNumber, valid, yearOf, monthOf}
 use Rattle.calendar.specs.Answers.{dayOf, dateIn, dateOf}
 use Rattle.calendar.specs.Meaning.{IsDated}
@@ -17,7 +16,7 @@ use Rattle.calendar.specs.declared.dates.Date.{Date}
 use Rattle.calendar.specs.declared.dates.Dated.{Dated}
 use Rattle.calendar.specs.declared.dates.Dated.the-variants.{At, Beyond}
 use Rattle.calendar.specs.declared.dates.Found.the-variants.{Day, Fault}
-use Rattle.calendar.proofs.DateLaws.{monthDays-none, yearStart-next, yearStart-mono, yearStart-end, monthStart-next, monthStart-mono, monthStart-end, year-at, month-at}
+use Rattle.calendar.proofs.DateLaws.{month-real, yearStart-next, yearStart-mono, yearStart-end, monthStart-next, monthStart-mono, monthStart-end, year-at, month-at}
 
 -- ---- what makes a date
 pub record Valid (y m d : ℕ) : Type 0 where
@@ -30,7 +29,7 @@ pub valid-there : (y m d : ℕ) → Valid y m d → valid y m d ≡ true
 unfolding valid
 valid-there y m d v = simp (le-leb _ _ (v .from), le-leb _ _ (v .to), le-leb _ _ (v .one), le-leb _ _ (v .most))
 
-valid-parts : (y m d : ℕ) → valid y m d ≡ true → Valid y m d
+pub valid-parts : (y m d : ℕ) → valid y m d ≡ true → Valid y m d
 unfolding valid
 valid-parts y m d e =
     let a = and-right (leb 1998 y) _ e in
@@ -52,9 +51,6 @@ dated-parts x n e =
     (valid-parts (x .year) (x .month) (x .day) (p .0), p .1)
 
 -- ---- the day of a date lies in its year, and so in the calendar
-month-real : (y m : ℕ) → 1 ≤ monthDays y m → m < 13
-month-real y m h = ⊎-elim (λ (l : 13 ≤ m). absurd (omega (arith, monthDays-none y m l))) (λ (l : m < 13). l) (le-or-lt 13 m)
-
 in-year : (y m d : ℕ) → Valid y m d → monthStart y m + (d - 1) < yearDays y
 in-year y m d v =
     let h : m < 13 = month-real y m (omega arith) in
@@ -63,12 +59,12 @@ in-year y m d v =
 pub dayNumber-inside : (y m d : ℕ) → Valid y m d → dayNumber y m d ≤ lastDay
 unfolding dayNumber
 dayNumber-inside y m d v =
-    omega (arith, in-year y m d v, yearStart-next y (v .from), yearStart-end, yearStart-mono (y + 1) 2050 (omega arith))
+    omega (arith, in-year y m d v, yearStart-next y (v .from) (v .to), yearStart-end, yearStart-mono (y + 1) 2050 (omega arith))
 
 -- ---- two dates with one day number are one date
 not-earlier : (y m d z n e : ℕ) → Valid y m d → Valid z n e → dayNumber y m d ≡ dayNumber z n e → y < z → ⊥
 unfolding dayNumber
-not-earlier y m d z n e v w h l = omega (arith, yearStart-mono (y + 1) z (omega arith), yearStart-next y (v .from), in-year y m d v)
+not-earlier y m d z n e v w h l = omega (arith, yearStart-mono (y + 1) z (omega arith), yearStart-next y (v .from) (v .to), in-year y m d v)
 
 same-year : (y m d z n e : ℕ) → Valid y m d → Valid z n e → dayNumber y m d ≡ dayNumber z n e → y ≡ z
 same-year y m d z n e v w h =

@@ -2,7 +2,7 @@
 -- Assumes nothing: these are definitions.
 use mathlib.Core.Bool.{Bool, true, false, cond, _&&_}
 use mathlib.Core.List.{List, [], _∷_}
-use Prim.Native.Nat.{ℕ, zero, suc, _+_, _-_, _%_}
+use Prim.Native.Nat.{ℕ, zero, suc, _+_, _-_, _*_, _/_, _%_}
 use lib.Dec.{leb, eqb}
 use lib.ListN.{getD}
 use Rattle.laws.specs.Sums.{sumTo}
@@ -28,9 +28,9 @@ months b = 0 ∷ 31 ∷ cond b 29 28 ∷ 31 ∷ 30 ∷ 31 ∷ 30 ∷ 31 ∷ 31 �
 unfoldable pub monthDays : ℕ → ℕ → ℕ
 monthDays y m = getD (months (leap y)) m 0
 
--- the day number of 1 January of the year y: the days of the years from 1998 on that come before it
+-- the day number of 1 January of the year y: 365 for each year since 1998, and the leap days among them, one every four years from 2000 on
 unfoldable pub yearStart : ℕ → ℕ
-yearStart y = sumTo (λ i. yearDays (1998 + i)) (y - 1998)
+yearStart y = 365 * (y - 1998) + (y - 1997) / 4
 
 -- how many days of the year y come before the first of month m
 unfoldable pub monthStart : ℕ → ℕ → ℕ
@@ -44,14 +44,14 @@ dayNumber y m d = yearStart y + monthStart y m + (d - 1)
 unfoldable pub valid : ℕ → ℕ → ℕ → Bool
 valid y m d = leb 1998 y && (leb y 2049 && (leb 1 d && leb d (monthDays y m)))
 
+-- the year of a day: four years have 1461 days, from 1998 on each time with the leap year as the third (`Counted` says what both rules mean)
+unfoldable pub yearOf : ℕ → ℕ
+yearOf n = 1998 + (4 * n + 2) / 1461
+
 -- the last i below k that starts not after n
 unfoldable pub lastFrom : (ℕ → ℕ) → ℕ → ℕ → ℕ
 lastFrom start zero n = 0
 lastFrom start (suc k) n = cond (leb (start k) n) k (lastFrom start k n)
-
--- the year of a day: the last that starts not after it
-unfoldable pub yearOf : ℕ → ℕ
-yearOf n = 1998 + lastFrom (λ i. yearStart (1998 + i)) 52 n
 
 -- the month in which the day n of the year y lies, from 0: the last that starts not after it
 unfoldable pub monthOf : ℕ → ℕ → ℕ

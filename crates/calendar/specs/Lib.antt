@@ -2,5 +2,6 @@ pub mod Dates
 pub mod Holidays
 pub mod WorkingDays
 pub mod Answers
+pub mod Counted
 pub mod Meaning
 pub mod Paper

@@ -1,6 +1,6 @@
 // Dates, day numbers and weekdays.
 ghost use mathlib.Core.Path.{_≡_};
-ghost use Prim.Native.Nat.{_-_, _*_, _<_, _≤_};
+ghost use Prim.Native.Nat.{_<_, _≤_};
 ghost use Rattle.calendar.specs.Dates.{leap, yearDays, monthDays, yearStart, monthStart, yearOf, monthOf, inCalendar};
 ghost use Rattle.calendar.specs.Answers.{dayOf, dateOf, fullYear, weekdayOf};
 
@@ -61,30 +61,12 @@ const WEEK: [Weekday; 7] = [
     Weekday::Sunday,
 ];
 
-fn is_leap(year: u16) -> bool
-    ensures { λ r. ⌜ r ≡ leap year ⌝ }
-{
-    if year % 400 == 0 {
-        return true;
-    }
-    if year % 100 == 0 {
-        return false;
-    }
-    year % 4 == 0
-}
-
 // In the calendar's years each fourth one is a leap year.
 fn leap_in_calendar(year: u16) -> bool
     requires { ⌜ (1998 ≤ year) × (year ≤ 2049) ⌝ }
     ensures { λ r. ⌜ r ≡ leap year ⌝ }
 {
     year % 4 == 0
-}
-
-fn year_days(year: u16) -> u16
-    ensures { λ r. ⌜ r ≡ yearDays year ⌝ }
-{
-    if is_leap(year) { 366 } else { 365 }
 }
 
 fn month_days(year: u16, month: u8) -> u16
@@ -104,23 +86,19 @@ fn month_days(year: u16, month: u8) -> u16
     MONTHS[i]
 }
 
-// The day number of 1 January: each fourth year from 2000 on puts in a day.
+// The day number of 1 January: 365 for each year since 1998, and the leap days among them.
 fn year_start(year: u16) -> u16
     requires { ⌜ (1998 ≤ year) × (year ≤ 2049) ⌝ }
-    ensures { λ r. ⌜ (r ≡ yearStart year) × (r ≤ 366 * (year - 1998)) ⌝ }
+    ensures { λ r. ⌜ r ≡ yearStart year ⌝ }
 {
-    let i = year - 1998;
-    365 * i + (i + 1) / 4
+    365 * (year - 1998) + (year - 1997) / 4
 }
 
 // The days of a year before the first of a month.
 fn month_start(year: u16, month: u8) -> u16
-    requires { ⌜ (1998 ≤ year) × (year ≤ 2049) ⌝ }
-    ensures { λ r. ⌜ (r ≡ monthStart year month) × (r ≤ 31 * month) ⌝ }
+    requires { ⌜ (1998 ≤ year) × (year ≤ 2049) × (month ≤ 12) ⌝ }
+    ensures { λ r. ⌜ r ≡ monthStart year month ⌝ }
 {
-    if 12 < month {
-        return year_days(year);
-    }
     let i = month as usize;
     let before = MONTH_STARTS[i];
     if month < 3 {
@@ -155,18 +133,13 @@ pub fn day_of(date: Date) -> Found
     Found::Day(CalendarDays(before + (day - 1)))
 }
 
-// The year of a day: no year before one for each 366 days.
+// The year of a day: four years have 1461 days.
 fn year_of(n: u16) -> u16
     requires { ⌜ n ≤ 18992 ⌝ }
     ensures { λ r. ⌜ r ≡ yearOf n ⌝ }
 {
-    let mut year: u16 = 1998 + n / 366;
-    let mut next = year_start(year) + year_days(year);
-    while next <= n {
-        year = year + 1;
-        next = next + year_days(year);
-    }
-    year
+    let quarters = 4 * (n as u32) + 2;
+    1998 + (quarters / 1461) as u16
 }
 
 // The month in which the day `n` of a year lies, from 0.

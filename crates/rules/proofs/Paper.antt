@@ -9,7 +9,7 @@ use Rattle.laws.specs.Order.{put, inOrder, notAfter}
 use Rattle.laws.specs.Split.{before, split}
 use Rattle.laws.specs.Digits.{isDigit, spelt, digits}
 use Rattle.calendar.specs.declared.working_days.Later.the-variants.{On, Ends}
-use Rattle.calendar.specs.Dates.{leap, yearDays, monthDays, yearStart, monthStart, dayNumber, valid, weekday}
+use Rattle.calendar.specs.Dates.{leap, monthDays, yearStart, monthStart, dayNumber, valid, weekday}
 use Rattle.calendar.specs.Holidays.{easter, holidaysOf, years, holidays, working}
 use Rattle.calendar.specs.WorkingDays.{daysAfter, workingAfter, smallest, workingDayAfter}
 use Rattle.calendar.specs.Answers.{dayOf, weekdayOf}
@@ -33,32 +33,32 @@ use Rattle.rules.specs.Paper.{on, onDate, afterDate, lastOf, WorkedThrou
 
 -- five working days after 2024-04-03 is 2024-04-10
 fifth : workingDayAfter 9589 returnPeriod ≡ On (on 9596)
-unfolding sumTo table any keep flatMap leap yearDays monthDays yearStart monthStart dayNumber weekday easter holidaysOf years holidays working daysAfter workingAfter
+unfolding sumTo table any keep flatMap leap monthDays yearStart monthStart dayNumber weekday easter holidaysOf years holidays working daysAfter workingAfter
 fifth = kth 9589 5 9596 (lit≤ tt) (lit≤ tt) refl refl
 
 two-after : afterDate 2 2014 5 22 ≡ onDate 2014 5 26
-unfolding sumTo table any keep flatMap leap yearDays monthDays yearStart monthStart dayNumber weekday easter holidaysOf years holidays working daysAfter workingAfter
+unfolding sumTo table any keep flatMap leap monthDays yearStart monthStart dayNumber weekday easter holidaysOf years holidays working daysAfter workingAfter
 two-after = kth 5985 2 5989 (lit≤ tt) (lit≤ tt) refl refl
 
 twenty-after : afterDate 20 2008 6 16 ≡ onDate 2008 7 14
-unfolding sumTo table any keep flatMap leap yearDays monthDays yearStart monthStart dayNumber weekday easter holidaysOf years holidays working daysAfter workingAfter
+unfolding sumTo table any keep flatMap leap monthDays yearStart monthStart dayNumber weekday easter holidaysOf years holidays working daysAfter workingAfter
 twenty-after = kth 3819 20 3847 (lit≤ tt) (lit≤ tt) refl refl
 
 five-after : afterDate 5 2017 4 13 ≡ onDate 2017 4 24
-unfolding sumTo table any keep flatMap leap yearDays monthDays yearStart monthStart dayNumber weekday easter holidaysOf years holidays working daysAfter workingAfter
+unfolding sumTo table any keep flatMap leap monthDays yearStart monthStart dayNumber weekday easter holidaysOf years holidays working daysAfter workingAfter
 five-after = kth 7042 5 7053 (lit≤ tt) (lit≤ tt) refl refl
 
 -- one day beyond the last
 none-after : workingDayAfter 18992 1 ≡ Ends
-unfolding sumTo table any keep flatMap leap yearDays monthDays yearStart monthStart dayNumber weekday easter holidaysOf years holidays working daysAfter workingAfter smallest workingDayAfter
+unfolding sumTo table any keep flatMap leap monthDays yearStart monthStart dayNumber weekday easter holidaysOf years holidays working daysAfter workingAfter smallest workingDayAfter
 none-after = refl
 
 last-in-list : lastOf holidays ≡ 18987
-unfolding sumTo table flatMap leap yearDays monthDays yearStart monthStart dayNumber easter holidaysOf years holidays lastOf
+unfolding sumTo table flatMap leap monthDays yearStart monthStart dayNumber easter holidaysOf years holidays lastOf
 last-in-list = refl
 
 pub worked-through : WorkedThrough
-unfolding sumTo table any all keep flatMap zipWith put inOrder notAfter before split isDigit spelt digits leap yearDays monthDays yearStart monthStart dayNumber valid weekday dayOf weekdayOf spells digitsOf codeFrom codeOf maybeCodeFrom maybeCodeOf correctionCodeFrom correctionCodeOf dateFound dateFrom dateFieldOf maybeDateFrom maybeDateOf kindBy kindOf maybeKindFrom maybeKindOf digitsFrom digitsFieldOf numberOf sameNumber sixOf partOf wholeOf reportFrom reportOf headOf reportedOf isSound soundOf threeOf correctionOf namedNumber holdsOpen isFree lapsed isAmong standOn entryAfter events journal about named history entryOver earlier verdictOver started filed lineOf judged verdictOf numberIn classIn saysIn
+unfolding sumTo table any all keep flatMap zipWith put inOrder notAfter before split isDigit spelt digits leap monthDays yearStart monthStart dayNumber valid weekday dayOf weekdayOf spells digitsOf codeFrom codeOf maybeCodeFrom maybeCodeOf correctionCodeFrom correctionCodeOf dateFound dateFrom dateFieldOf maybeDateFrom maybeDateOf kindBy kindOf maybeKindFrom maybeKindOf digitsFrom digitsFieldOf numberOf sameNumber sixOf partOf wholeOf reportFrom reportOf headOf reportedOf isSound soundOf threeOf correctionOf namedNumber holdsOpen isFree lapsed isAmong standOn entryAfter events journal about named history entryOver earlier verdictOver started filed lineOf judged verdictOf numberIn classIn saysIn
 worked-through = (
   refl,
   refl,

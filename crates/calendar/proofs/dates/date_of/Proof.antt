@@ -1,6 +1,5 @@
 -- `calendar::dates::date_of` meets its contract: the day is counted back from the year and the month in which it lies.
 -- Assumes nothing.
-use Prim.Native.Nat.{_-_}
 use native.Mathlib.Omega.{arith}
 use borrow.Author.Needs.{needs}
 use borrow.Author.Tests.{le-leb, lt-leb}
@@ -33,16 +32,17 @@ month-of-requires c κs =
 
 month-start-requires : tie.Need-month-start-requires
 month-start-requires c κs =
-    let before = c .before .before in
-    let at = year-found (before .before .before .args .day .0) (before .year-of .result) (before .before .if1 .left) (before .year-of .ensures) in
+    let y = c .before .before in
+    let n = y .before .before .args .day .0 in
+    let at = year-found n (y .year-of .result) (y .before .if1 .left) (y .year-of .ensures) in
+    let in-month = month-found n (y .year-of .result) (c .before .year-start .result) (c .month-of .result) (y .before .if1 .left) (y .year-of .ensures) (c .before .year-start .ensures) (c .month-of .ensures) in
     omega arith
 
 sub-d : tie.Need-sub-d
 sub-d c =
-    let before = c .before .before .before in
-    let n = before .before .before .args .day .0 in
-    let at = year-found n (before .year-of .result) (before .before .if1 .left) (before .year-of .ensures) in
-    let in-month = month-found (before .year-of .result) (n - c .before .before .year-start .result) (c .before .month-of .result) (omega arith) (c .before .month-of .ensures) in
+    let y = c .before .before .before in
+    let n = y .before .before .args .day .0 in
+    let in-month = month-found n (y .year-of .result) (c .before .before .year-start .result) (c .before .month-of .result) (y .before .if1 .left) (y .year-of .ensures) (c .before .before .year-start .ensures) (c .before .month-of .ensures) in
     omega arith
 
 add-t8 : tie.Need-add-t8
@@ -50,17 +50,16 @@ add-t8 c = search needs
 
 cast-t9 : tie.Need-cast-t9
 cast-t9 c =
-    let before = c .before .before .before in
-    let n = before .before .before .args .day .0 in
-    let at = year-found n (before .year-of .result) (before .before .if1 .left) (before .year-of .ensures) in
-    let in-month = month-found (before .year-of .result) (n - c .before .before .year-start .result) (c .before .month-of .result) (omega arith) (c .before .month-of .ensures) in
-    omega (arith, monthDays-le (before .year-of .result) (c .before .month-of .result))
+    let y = c .before .before .before in
+    let n = y .before .before .args .day .0 in
+    let in-month = month-found n (y .year-of .result) (c .before .before .year-start .result) (c .before .month-of .result) (y .before .if1 .left) (y .year-of .ensures) (c .before .before .year-start .ensures) (c .before .month-of .ensures) in
+    omega (arith, monthDays-le (y .year-of .result) (c .before .month-of .result))
 
 returns-2 : tie.Need-returns-2
 unfolding dateOf dateIn
 returns-2 c =
     let before = c .before .before .before in
-    rw (le-leb _ _ (before .before .if1 .left), ← before .year-of .ensures, ← c .before .before .year-start .ensures .0, ← c .before .month-of .ensures, ← c .month-start .ensures .0)
+    rw (le-leb _ _ (before .before .if1 .left), ← before .year-of .ensures, ← c .before .before .year-start .ensures, ← c .before .month-of .ensures, ← c .month-start .ensures)
 
 pub date-of-spec : {M : Type 1} → statement M
 date-of-spec =
