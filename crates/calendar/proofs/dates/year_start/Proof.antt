@@ -1,5 +1,4 @@
 -- `calendar::dates::year_start` meets its contract: it is the closed rule. Assumes nothing.
-use mathlib.Core.Path.{refl}
 use native.Mathlib.Omega.{arith}
 use Rattle.calendar.specs.Dates.{yearStart}
 use Rattle.calendar.proofs.dates.year_start.Statement.{statement}
@@ -19,7 +18,7 @@ add-result c = omega arith
 
 returns : tie.Need-returns
 unfolding yearStart
-returns c = refl
+returns c = omega arith
 
 pub year-start-spec : {M : Type 1} → statement M
 year-start-spec = tie.close (tie.spec sub-result mul-result sub-result-2 add-result returns)
