@@ -45,6 +45,10 @@ extern "C" {
 #define DAGSKIMRA_NOWHERE 8192
 #define DAGSKIMRA_LAST_DAY 18992
 
+/* How many days the holiday list has. The entries of a store were worked out with the list of their time: keep this number beside the buffers, and where
+ * it is another, call dagskimra_rework before all else. (31 October 2017 came to the list as the 469th day.) */
+#define DAGSKIMRA_HOLIDAYS 469
+
 /* Kinds of file, and journals. */
 #define DAGSKIMRA_DEFAULT 0
 #define DAGSKIMRA_CORRECTION 1
@@ -135,6 +139,12 @@ uint8_t dagskimra_entry_before(const uint8_t *table, size_t table_length, const 
 uint8_t dagskimra_figure(const uint8_t *table, size_t table_length, const uint8_t *files, size_t files_length, const uint8_t *regular,
                          size_t regular_length, const uint8_t *corrections, size_t corrections_length, const uint8_t *entries,
                          size_t entries_length, uint64_t *more);
+
+/* Works out every entry again from the journals. 0, and *more is how many stored entries were others; `list` then begins with the lines of these in the
+ * table, counted from 0, in its order; 44, also for a list of less than DAGSKIMRA_NUMBERS, and nothing changes but *more. A second call finds none. */
+uint8_t dagskimra_rework(const uint8_t *table, size_t table_length, const uint8_t *files, size_t files_length, const uint8_t *regular,
+                         size_t regular_length, const uint8_t *corrections, size_t corrections_length, uint8_t *entries, size_t entries_length,
+                         uint16_t *list, size_t list_length, uint64_t *more);
 
 #ifdef __cplusplus
 }

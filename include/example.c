@@ -28,6 +28,8 @@ static void days(void) {
     same("a Sunday", dagskimra_kind_of_day(9558), 0);
     same("past the end", dagskimra_kind_of_day(DAGSKIMRA_LAST_DAY + 1), 2);
     same("two after 2014-05-22", dagskimra_working_day_after(dagskimra_day_of(2014, 5, 22), 2), dagskimra_day_of(2014, 5, 26));
+    same("31 October 2017", dagskimra_kind_of_day(dagskimra_day_of(2017, 10, 31)), 0);
+    same("five after 2017-10-25", dagskimra_working_day_after(dagskimra_day_of(2017, 10, 25), 5), dagskimra_day_of(2017, 11, 2));
     same("one after the last day", dagskimra_working_day_after(DAGSKIMRA_LAST_DAY, 1), DAGSKIMRA_NO_DAY);
 }
 
@@ -119,6 +121,22 @@ static void asked(int journal, int place, int publisher, int day, int verdict) {
     same("its verdict", v, verdict);
 }
 
+/* The holder of the first line was changed behind the store's back. */
+static void reworking(void) {
+    static uint16_t list[DAGSKIMRA_NUMBERS];
+    uint64_t n;
+    memset(list, 255, sizeof list);
+    same("reworking with too short a list", dagskimra_rework(STORE, list, DAGSKIMRA_NUMBERS - 1, &n), 44);
+    same("its holder is left as it was", entries[0], 0);
+    same("reworking", dagskimra_rework(STORE, list, DAGSKIMRA_NUMBERS, &n), 0);
+    same("one entry changed", n, 1);
+    same("that of the first line", list[0], 0);
+    same("nothing behind it in the list", list[1], 65535);
+    same("its holder", entries[0], 1);
+    same("reworking again", dagskimra_rework(STORE, list, DAGSKIMRA_NUMBERS, &n), 0);
+    same("no entry changed", n, 0);
+}
+
 static void asking(void) {
     uint64_t p, d, at, v;
     asked(0, 0, 2, 9560, 10);
@@ -136,9 +154,11 @@ static void asking(void) {
     entries[0] ^= 1;
     same("the figure of a changed entry", dagskimra_figure(STORE, &p), 0);
     same("one entry differs", p, 1);
+    reworking();
     regular[0] = 255;
     same("a damaged store", dagskimra_readable(STORE), 0);
     same("asking it", dagskimra_figure(STORE, &p), 44);
+    same("reworking it", dagskimra_rework(STORE, (uint16_t[DAGSKIMRA_NUMBERS]){0}, DAGSKIMRA_NUMBERS, &p), 44);
     filed(DAGSKIMRA_DEFAULT, "D001", 9563, l_file, 44);
 }
 

@@ -12,7 +12,8 @@ DAYS = [FIRST + timedelta(n) for n in range((LAST - FIRST).days + 1)]
 def holidays(year):
     e = easter(year)
     moved = [e + timedelta(n) for n in (-2, 1, 39, 50)]
-    return {date(year, m, d) for m, d in ((1, 1), (5, 1), (10, 3), (12, 25), (12, 26))} | set(moved)
+    once = [date(2017, 10, 31)] if year == 2017 else []
+    return {date(year, m, d) for m, d in ((1, 1), (5, 1), (10, 3), (12, 25), (12, 26))} | set(moved) | set(once)
 
 
 FREE = set().union(*(holidays(y) for y in range(1998, 2050)))

@@ -47,6 +47,7 @@ constant ENTRY_LENGTH "$entry"
 constant NOWHERE "$reports"
 constant NO_DAY "$(number capi/src/days.rt NO_DAY)"
 constant LAST_DAY "$(number calendar/src/dates.rt LAST_DAY)"
+constant HOLIDAYS "$(number calendar/src/table.rt COUNT)"
 
 # ---- functions
 sed -n 's/^pub extern "C" fn \([a-z_]*\).*/\1/p' crates/capi/src/*.rt | sort >"$work/exported"

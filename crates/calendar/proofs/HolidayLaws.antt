@@ -1,40 +1,80 @@
--- The holiday list: how long it is, the rule at each entry, that it never falls, and its one equal neighbouring pair. antt computes each.
+-- The holiday list: how long it is, the rule at each entry, that it never falls, its one equal neighbouring pair, and what came to it with
+-- 31 October 2017. antt computes each.
 -- Assumes nothing.
-use mathlib.Core.Path.{_≡_, refl}
-use mathlib.Core.Bool.{Bool, true}
-use mathlib.Core.List.{[], _∷_, flatMap}
-use Prim.Native.Nat.{ℕ, _+_, _/_, _%_, _<_}
-use lib.Dec.{eqb}
-use lib.ListN.{length, getD}
+use mathlib.Core.Path.{_≡_, refl, sym, _∙_, ap}
+use mathlib.Core.Bool.{Bool, true, false, cond, _&&_, _||_, not}
+use mathlib.Core.List.{List, [], _∷_, _++_, flatMap}
+use Prim.Native.Nat.{ℕ, zero, suc, _+_, _/_, _%_, _<_}
+use lib.Dec.{ltb, eqb}
+use lib.ListN.{length, getD, take, drop}
 use borrow.Author.Tests.{eqb-true}
 use Rattle.laws.specs.Sums.{sumTo}
-use Rattle.laws.specs.Lists.{table, all}
-use Rattle.laws.specs.Order.{neverFalls}
+use Rattle.laws.specs.Lists.{table, all, any}
+use Rattle.laws.specs.Order.{put, neverFalls}
 use Rattle.laws.proofs.Tables.{tested}
-use Rattle.calendar.specs.Dates.{leap, monthDays, yearStart, monthStart, dayNumber}
-use Rattle.calendar.specs.Holidays.{easter, holidaysOf, years, holidays}
+use Rattle.calendar.specs.Dates.{leap, monthDays, yearStart, monthStart, dayNumber, weekday}
+use Rattle.calendar.specs.Holidays.{easter, nineOf, holidaysOf, years, holidays, working}
+use Rattle.calendar.specs.Former.{formerHolidays, formerlyWorking, OneDayMoved}
 use Rattle.calendar.specs.Paper.{equalPairs, HolidayList}
 
-pub holidays-length : length holidays ≡ 468
-unfolding sumTo table flatMap leap monthDays yearStart monthStart dayNumber easter holidaysOf years holidays
+pub holidays-length : length holidays ≡ 469
+unfolding sumTo table flatMap put leap monthDays yearStart monthStart dayNumber easter nineOf holidaysOf years holidays
 holidays-length = refl
 
 -- nine days a year: the entry i is the day i % 9 of the year 1998 + i / 9
 unfoldable pub follows : ℕ → Bool
-follows i = eqb (getD holidays i 0) (getD (holidaysOf (1998 + i / 9)) (i % 9) 0)
+follows i = eqb (getD formerHolidays i 0) (getD (nineOf (1998 + i / 9)) (i % 9) 0)
 
-pub each-follows : (i : ℕ) → i < 468 → getD holidays i 0 ≡ getD (holidaysOf (1998 + i / 9)) (i % 9) 0
-unfolding sumTo table all flatMap leap monthDays yearStart monthStart dayNumber easter holidaysOf years holidays follows
+pub each-follows : (i : ℕ) → i < 468 → getD formerHolidays i 0 ≡ getD (nineOf (1998 + i / 9)) (i % 9) 0
+unfolding sumTo table all flatMap leap monthDays yearStart monthStart dayNumber easter nineOf years formerHolidays follows
 each-follows i h = eqb-true _ _ (tested follows 468 refl i h)
 
+-- and 31 October 2017 between them, at place 178
+pub one-put-in : holidays ≡ take 178 formerHolidays ++ (dayNumber 2017 10 31 ∷ drop 178 formerHolidays)
+unfolding sumTo table flatMap put leap monthDays yearStart monthStart dayNumber easter nineOf holidaysOf years holidays formerHolidays
+one-put-in = refl
+
 pub never-falls : neverFalls holidays ≡ true
-unfolding sumTo table flatMap leap monthDays yearStart monthStart dayNumber easter holidaysOf years holidays neverFalls
+unfolding sumTo table flatMap put leap monthDays yearStart monthStart dayNumber easter nineOf holidaysOf years holidays neverFalls
 never-falls = refl
 
 -- 1 May 2008 is also Ascension
 pub one-pair : equalPairs holidays ≡ dayNumber 2008 5 1 ∷ []
-unfolding sumTo table flatMap leap monthDays yearStart monthStart dayNumber easter holidaysOf years holidays equalPairs
+unfolding sumTo table flatMap put leap monthDays yearStart monthStart dayNumber easter nineOf holidaysOf years holidays equalPairs
 one-pair = refl
 
 pub holiday-list : HolidayList
 holiday-list = (holidays-length, never-falls, one-pair)
+
+-- ---- what came to the list, and what did not
+-- one of two comes first, or the other
+first-or : (a b c : Bool) → (a || (b || c)) ≡ (b || (a || c))
+first-or true true c = refl
+first-or true false c = refl
+first-or false true c = refl
+first-or false false c = refl
+
+-- wherever an element is put in, it is tested with the others
+any-put-in : (p : ℕ → Bool) (x n : ℕ) (l : List ℕ) → any p (take n l ++ (x ∷ drop n l)) ≡ (p x || any p l)
+unfolding any
+any-put-in p x zero l = refl
+any-put-in p x (suc n) [] = refl
+any-put-in p x (suc n) (y ∷ l) = ap (λ (b : Bool). p y || b) (any-put-in p x n l) ∙ first-or (p y) (p x) (any p l)
+
+in-list : (d : ℕ) → any (eqb d) holidays ≡ (eqb d (dayNumber 2017 10 31) || any (eqb d) formerHolidays)
+in-list d = ap (any (eqb d)) one-put-in ∙ any-put-in (eqb d) (dayNumber 2017 10 31) 178 formerHolidays
+
+worked : formerlyWorking (dayNumber 2017 10 31) ≡ true
+unfolding sumTo table any flatMap leap monthDays yearStart monthStart dayNumber weekday easter nineOf years formerHolidays formerlyWorking
+worked = refl
+
+works-no-more : working (dayNumber 2017 10 31) ≡ false
+unfolding sumTo table any flatMap put leap monthDays yearStart monthStart dayNumber weekday easter nineOf holidaysOf years holidays working
+works-no-more = refl
+
+others-stay : (d : ℕ) → eqb d (dayNumber 2017 10 31) ≡ false → working d ≡ formerlyWorking d
+unfolding working formerlyWorking
+others-stay d e = let p = rw e at (in-list d) in rw p refl
+
+pub one-day-moved : OneDayMoved
+one-day-moved = (in-list, worked, works-no-more, others-stay)

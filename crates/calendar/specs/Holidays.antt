@@ -1,10 +1,11 @@
 -- The holiday list and working days.
 -- Assumes nothing: these are definitions.
-use mathlib.Core.Bool.{Bool, _&&_, not}
+use mathlib.Core.Bool.{Bool, cond, _&&_, not}
 use mathlib.Core.List.{List, [], _∷_, flatMap}
 use Prim.Native.Nat.{ℕ, _+_, _-_, _*_, _/_, _%_}
-use lib.Dec.{ltb, eqb}
+use lib.Dec.{leb, ltb, eqb}
 use Rattle.laws.specs.Lists.{table, any}
+use Rattle.laws.specs.Order.{put}
 use Rattle.calendar.specs.Dates.{dayNumber, weekday}
 
 -- the day number of Easter Sunday of the year y, by the Gregorian computus (Meeus, Jones, Butcher)
@@ -21,10 +22,14 @@ easter y =
     dayNumber y (n / 31) (n % 31 + 1)
 
 -- 1 January, Good Friday, Easter Monday, 1 May, Ascension, Whit Monday, 3 October, 25 and 26 December
-unfoldable pub holidaysOf : ℕ → List ℕ
-holidaysOf y =
+unfoldable pub nineOf : ℕ → List ℕ
+nineOf y =
     let e : ℕ = easter y in
     dayNumber y 1 1 ∷ (e - 2) ∷ (e + 1) ∷ dayNumber y 5 1 ∷ (e + 39) ∷ (e + 50) ∷ dayNumber y 10 3 ∷ dayNumber y 12 25 ∷ dayNumber y 12 26 ∷ []
+
+-- the holidays of the year y: these nine, and in 2017 alone 31 October, put in where it falls: it was a holiday in every federal state that year
+unfoldable pub holidaysOf : ℕ → List ℕ
+holidaysOf y = cond (eqb y 2017) (put leb (dayNumber y 10 31) (nineOf y)) (nineOf y)
 
 -- the years 1998 to 2049
 unfoldable pub years : List ℕ

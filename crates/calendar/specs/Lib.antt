@@ -1,5 +1,6 @@
 pub mod Dates
 pub mod Holidays
+pub mod Former
 pub mod WorkingDays
 pub mod Answers
 pub mod Counted

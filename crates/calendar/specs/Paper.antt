@@ -34,9 +34,9 @@ equalPairs [] = []
 equalPairs (x ∷ []) = []
 equalPairs (x ∷ (y ∷ ys)) = cond (eqb x y) (x ∷ equalPairs (y ∷ ys)) (equalPairs (y ∷ ys))
 
--- the list has 468 days, never falls, and has one equal neighbouring pair: 1 May 2008 is also Ascension
+-- the list has 469 days, never falls, and has one equal neighbouring pair: 1 May 2008 is also Ascension
 abbrev pub HolidayList : Type 0
 HolidayList =
-    (length holidays ≡ 468) ×
+    (length holidays ≡ 469) ×
     (neverFalls holidays ≡ true) ×
     (equalPairs holidays ≡ dayNumber 2008 5 1 ∷ [])

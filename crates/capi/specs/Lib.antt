@@ -6,3 +6,4 @@ pub mod Starting
 pub mod Offer
 pub mod Ask
 pub mod Show
+pub mod Again

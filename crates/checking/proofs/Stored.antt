@@ -1,19 +1,20 @@
 -- The files and records that the store holds, counted in its list of files. Assumes nothing.
 --     already-alike     a file alike is held exactly where one of its kind, publisher and day is listed
+--     held-once         no file is held twice exactly where none is listed twice
 --     held-count        as many files are held as are listed
 --     held-records      the records held of a kind are those of its journal, one after the other
 use mathlib.Core.Path.{_≡_, refl, sym, ap, ap₂, _∙_}
-use mathlib.Core.Bool.{Bool, true, false, cond, _&&_, _||_}
+use mathlib.Core.Bool.{Bool, true, false, cond, not, _&&_, _||_}
 use mathlib.Core.List.{List, [], _∷_, _++_, flatMap, append-nil, append-assoc}
 use Prim.Native.Nat.{ℕ, zero, suc, _+_}
 use native.Mathlib.Nat.{add-zero, add-suc}
 use lib.Dec.{eqb}
 use lib.ListN.{length}
 use borrow.Author.Tests.{eqb-true}
-use Rattle.laws.specs.Lists.{table, any, keep, total}
+use Rattle.laws.specs.Lists.{table, any, keep, noneTwice, total}
 use Rattle.laws.proofs.Lists.{keep-append, flat-append}
 use Rattle.laws.proofs.Tables.{length-table}
-use Rattle.model.specs.Model.{Filed, alike}
+use Rattle.model.specs.Model.{Filed, alike, noFileTwice}
 use Rattle.journals.specs.Files.{fileAt, fileCount, filesOf, sameFile, recordsIn, recordsOf}
 use Rattle.journals.specs.Reads.{recordsAt, filedAfter, filedIn, firstFiles, readFiles}
 use Rattle.journals.specs.declared.files.File.{File}
@@ -43,6 +44,15 @@ alike-any f r before (g ∷ fs) = ap₂ _||_ (alike-same f r before g) (alike-an
 pub already-alike : (f : Filed) (files regular corrections : List ℕ) → any (alike f) (readFiles files regular corrections) ≡ any (sameFile (fileIn f)) (filesOf files)
 unfolding firstFiles filesOf
 already-alike f files regular corrections = alike-any f (recordsAt regular corrections) [] (table (fileCount files) (fileAt files))
+
+once-listed : (r : ℕ → ℕ → List ℕ) (before fs : List File) → noFileTwice (filedIn r before fs) ≡ noneTwice sameFile fs
+unfolding filedIn noFileTwice noneTwice sameFile fileIn filedAfter
+once-listed r before [] = refl
+once-listed r before (g ∷ fs) = ap₂ (λ (a b : Bool). not a && b) (alike-any (filedAfter r before g) r (before ++ (g ∷ [])) fs) (once-listed r (before ++ (g ∷ [])) fs)
+
+pub held-once : (files regular corrections : List ℕ) → noFileTwice (readFiles files regular corrections) ≡ noneTwice sameFile (filesOf files)
+unfolding firstFiles filesOf
+held-once files regular corrections = once-listed (recordsAt regular corrections) [] (table (fileCount files) (fileAt files))
 
 -- ---- how many
 filed-count : (r : ℕ → ℕ → List ℕ) (before fs : List File) → length (filedIn r before fs) ≡ length fs

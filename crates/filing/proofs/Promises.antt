@@ -91,7 +91,7 @@ unfolding held
 new-file {b} {kind} {c} {day} {text} can = already-alike (filedAs kind c day text) (b .files) (b .regular) (b .corrections) ∙ can .new
 
 -- ---- what buffers that read hold
-read-so : (b : Buffers) (h : Held) → reads b ≡ some h → (isReadable b ≡ true) × (held b ≡ h)
+pub read-so : (b : Buffers) (h : Held) → reads b ≡ some h → (isReadable b ≡ true) × (held b ≡ h)
 unfolding reads
 read-so b h q = go (isReadable b) refl q
   where

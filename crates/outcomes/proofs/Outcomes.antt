@@ -32,6 +32,7 @@ use Rattle.asking.specs.declared.record.Asked.{Asked}
 use Rattle.answering.specs.declared.figure.FigureAnswer.{FigureAnswer}
 use Rattle.reworking.specs.declared.rework.Reworked.{Reworked}
 use Rattle.reworking.specs.Reworking.{Reworks}
+use Rattle.capi.specs.Again.{ReworksAs}
 use Rattle.capi.specs.Ask.{TellsWhy, TellsRecord, TellsFigure}
 use Rattle.capi.specs.Offer.{FilesAs}
 use Rattle.capi.specs.Reading.{Judges}
@@ -100,6 +101,9 @@ record-settles right x y p q = λ i. ((p .answers ∙ sym (q .answers)) i, (p .b
 
 pub figure-settles : (right : FigureAnswer) → Settles (λ (o : ℕ × ℕ). TellsFigure right (o .0) (o .1))
 figure-settles right x y p q = pair-settles _ _ x y (p .answers, p .differ) (q .answers, q .differ)
+
+pub rework-settles : (b : Buffers) (list : List ℕ) → Settles (λ (o : ℕ × ℕ × List ℕ × List ℕ). ReworksAs b list (o .0) (o .1) (o .2) (o .3))
+rework-settles b list x y p q = λ i. ((p .answers ∙ sym (q .answers)) i, (p .tells ∙ sym (q .tells)) i, (p .leaves ∙ sym (q .leaves)) i, (p .lists ∙ sym (q .lists)) i)
 
 pub judging-settles : (right : Judged) → Settles (λ (o : ℕ × ℕ). Judges right (o .0) (o .1))
 judging-settles right x y p q = pair-settles _ _ x y (p .answers, p .tells) (q .answers, q .tells)

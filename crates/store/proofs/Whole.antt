@@ -57,9 +57,17 @@ module _ (t : List ℕ) (e : goodTable t ≡ true) where
       and-right (all goodLine (linesOf t)) (noneTwice sameNumber (table (lineCount t) (numberAt t)))
       (and-right (leb (lineCount t) 1024) (all goodLine (linesOf t) && noneTwice sameNumber (table (lineCount t) (numberAt t))) e)
 
--- the list of files: each is in range
+-- the list of files: each is in range, and none stands there twice
 pub files-good : (f : List ℕ) → goodFiles f ≡ true → all goodFile (filesOf f) ≡ true
 unfolding goodFiles
 files-good f e =
     let rest : Bool = noneTwice sameFile (filesOf f) && (leb (recordsOf 0 (filesOf f)) 8192 && leb (recordsOf 1 (filesOf f)) 2048) in
     and-left (all goodFile (filesOf f)) rest (and-right (leb (fileCount f) 1024) (all goodFile (filesOf f) && rest) e)
+
+pub files-once : (f : List ℕ) → goodFiles f ≡ true → noneTwice sameFile (filesOf f) ≡ true
+unfolding goodFiles
+files-once f e =
+    let counts : Bool = leb (recordsOf 0 (filesOf f)) 8192 && leb (recordsOf 1 (filesOf f)) 2048 in
+    and-left (noneTwice sameFile (filesOf f)) counts
+    (and-right (all goodFile (filesOf f)) (noneTwice sameFile (filesOf f) && counts)
+    (and-right (leb (fileCount f) 1024) (all goodFile (filesOf f) && (noneTwice sameFile (filesOf f) && counts)) e))

@@ -7,9 +7,10 @@ use Prim.Native.Nat.{_-_}
 use native.Mathlib.Omega.{arith}
 use Rattle.laws.specs.Sums.{sumTo}
 use Rattle.laws.specs.Lists.{table}
+use Rattle.laws.specs.Order.{put}
 use Rattle.laws.proofs.Halving.{Within, within-start, within-up, within-down, within-here, within-none}
 use Rattle.calendar.specs.Dates.{leap, monthDays, yearStart, monthStart, dayNumber}
-use Rattle.calendar.specs.Holidays.{easter, holidaysOf, years, holidays}
+use Rattle.calendar.specs.Holidays.{easter, nineOf, holidaysOf, years, holidays}
 use Rattle.calendar.proofs.HolidayLaws.{holidays-length, never-falls}
 use Rattle.calendar.proofs.holidays.is_holiday.Statement.{statement}
 use Rattle.calendar.proofs.holidays.is_holiday.Tie as tie
@@ -21,7 +22,7 @@ abbrev μ-loop : tie.MeasureT-loop
 μ-loop day list lo₀ hi₀ lo hi = hi - lo
 
 loop-holds : tie.Need-loop-holds Inv-loop μ-loop
-unfolding sumTo table flatMap leap monthDays yearStart monthStart dayNumber easter holidaysOf years holidays
+unfolding sumTo table flatMap put leap monthDays yearStart monthStart dayNumber easter nineOf holidaysOf years holidays
 loop-holds c = (within-start _ holidays _ (sym holidays-length), refl)
 
 add-middle : tie.Need-add-middle Inv-loop μ-loop
