@@ -1,4 +1,4 @@
-//! Paper 01, "Days and working days".
+//! Paper 01, "Days and working days", with the holiday list of request K3.
 
 /// A day is counted from 1998-01-01, which is day 0.
 pub type Day = u32;
@@ -93,7 +93,7 @@ pub fn easter(year: u32) -> Day {
 
 /// "Nine days a year ... in this order: 1 January, Good Friday, Easter Monday, 1 May,
 /// Ascension (Easter + 39), Whit Monday (Easter + 50), 3 October, 25 and 26 December."
-pub fn holidays(year: u32) -> [Day; 9] {
+pub fn nine_days(year: u32) -> [Day; 9] {
     let on = |month, day| day_of(year, month, day).expect("a year of the calendar");
     let sunday = easter(year);
     [
@@ -109,18 +109,42 @@ pub fn holidays(year: u32) -> [Day; 9] {
     ]
 }
 
+/// Request K3, the rule's one exception: 31 October 2017, a Tuesday, "was a public holiday in
+/// every federal state that year".
+pub fn the_exception() -> Day {
+    day_of(2017, 10, 31).expect("a day of the calendar")
+}
+
+/// The nine days of a year; in 2017 the exception comes behind 3 October.
+pub fn holidays(year: u32) -> Vec<Day> {
+    let mut days = nine_days(year).to_vec();
+    if year == 2017 {
+        days.insert(7, the_exception());
+    }
+    days
+}
+
+/// The holiday list: "469 days".
+pub fn holiday_list() -> Vec<Day> {
+    (FIRST_YEAR..=LAST_YEAR).flat_map(holidays).collect()
+}
+
+/// The list as it was before request K3: nine days a year alone, "468 in all".
+pub fn holiday_list_before() -> Vec<Day> {
+    (FIRST_YEAR..=LAST_YEAR).flat_map(nine_days).collect()
+}
+
 /// "A working day is Monday to Friday and not in the holiday list."
-pub fn is_working_day(day: Day) -> bool {
-    let (year, _, _) = date_of(day);
-    weekday(day) < SATURDAY && !holidays(year).contains(&day)
+pub fn is_working_day(day: Day, list: &[Day]) -> bool {
+    weekday(day) < SATURDAY && !list.contains(&day)
 }
 
 /// "The k-th working day after d ... is the smallest day e, not before d, with exactly k working
 /// days after d up to and including e." None: the calendar ends, or d lies outside it.
-pub fn working_day_after(k: u32, d: Day) -> Option<Day> {
+pub fn working_day_after(k: u32, d: Day, list: &[Day]) -> Option<Day> {
     let mut working_days = 0;
     for e in d..=LAST_DAY {
-        if e > d && is_working_day(e) {
+        if e > d && is_working_day(e, list) {
             working_days += 1;
         }
         if working_days == k {

@@ -2,14 +2,14 @@
 //! answer that the paper gives.
 
 use crate::calendar::{
-    day_of, easter, holidays, read_ddmmyyyy, weekday, working_day_after, written, FIRST_YEAR,
-    LAST_DAY, LAST_YEAR,
+    day_of, easter, holiday_list, holiday_list_before, is_working_day, read_ddmmyyyy,
+    the_exception, weekday, working_day_after, written, LAST_DAY,
 };
 use crate::dialogue::dialogue;
 use crate::files::{closing_record, read_file, read_name, FileKind};
 use crate::layout::{Code, Number};
 use crate::store::{read_table, shown, Answer, Store};
-use crate::worked::{Example, Row, NUMBER, PAPER, READINGS, SPECIFICATION};
+use crate::worked::{Example, Row, NUMBER, PAPER, READINGS, REQUEST_K3, SPECIFICATION};
 
 /// Counts what held, and says what did not.
 struct Tally<'a> {
@@ -37,13 +37,17 @@ impl Tally<'_> {
 pub fn selftest(out: &mut Vec<u8>) -> Result<u8, String> {
     let mut tally = Tally { out, passed: 0, failed: 0 };
     days(&mut tally);
+    holidays(&mut tally);
+    exception(&mut tally);
+    fifth_days(&mut tally);
     numbers(&mut tally);
     names(&mut tally);
     contents(&mut tally);
     tables(&mut tally);
-    for example in PAPER.iter().chain(SPECIFICATION).chain(READINGS) {
+    for example in PAPER.iter().chain(REQUEST_K3).chain(SPECIFICATION).chain(READINGS) {
         run(example, &mut tally);
     }
+    day_early(&mut tally);
     late_objection(&mut tally);
     places(&mut tally);
     limits(&mut tally);
@@ -70,7 +74,8 @@ fn days(tally: &mut Tally) {
         .check("1998-01-01 is day 0, a Thursday", day_of(1998, 1, 1) == Some(0) && weekday(0) == 3);
     let outside = [(1997, 12, 31), (2050, 1, 1), (2004, 13, 1), (2004, 0, 1), (2004, 4, 31)];
     tally.check("no day outside", outside.iter().all(|(y, m, d)| day_of(*y, *m, *d).is_none()));
-    let after = |k, date| working_day_after(k, day(date)).map(written);
+    let list = holiday_list();
+    let after = |k, date| working_day_after(k, day(date), &list).map(written);
     let is = |date: &str| Some(date.to_string());
     tally.check("two after 2014-05-22", after(2, "22.05.2014") == is("2014-05-26"));
     tally.check("twenty after 2008-06-16", after(20, "16.06.2008") == is("2008-07-14"));
@@ -78,20 +83,60 @@ fn days(tally: &mut Tally) {
     tally.check("one after 2049-12-31: the calendar ends", after(1, "31.12.2049").is_none());
     tally.check("none after 2049-12-31", after(0, "31.12.2049") == is("2049-12-31"));
     tally.check("none after a Sunday is that Sunday", after(0, "03.03.2024") == is("2024-03-03"));
-    tally.check("outside the calendar", working_day_after(0, LAST_DAY + 1).is_none());
+    tally.check("outside the calendar", working_day_after(0, LAST_DAY + 1, &list).is_none());
     let sundays =
         ["12.04.1998", "23.04.2000", "23.03.2008", "24.04.2011", "31.03.2024", "25.04.2038"];
     let years = [1998, 2000, 2008, 2011, 2024, 2038];
     let easters = years.iter().zip(sundays).all(|(year, sunday)| easter(*year) == day(sunday));
     tally.check("Easter Sundays", easters);
-    let list: Vec<u32> = (FIRST_YEAR..=LAST_YEAR).flat_map(holidays).collect();
-    tally.check("468 holidays", list.len() == 468);
+    let all = (0..=LAST_DAY).all(|d| read_ddmmyyyy(&ddmmyyyy(d)) == Some(d));
+    tally.check("every day is read as it is written", all);
+}
+
+/// The holiday list: paper 01 with request K3.
+fn holidays(tally: &mut Tally) {
+    let (list, before) = (holiday_list(), holiday_list_before());
+    tally.check("469 holidays", list.len() == 469);
     tally.check("the list never falls", list.windows(2).all(|w| w[0] <= w[1]));
     let equal: Vec<u32> = list.windows(2).filter(|w| w[0] == w[1]).map(|w| w[0]).collect();
     tally.check("one equal pair, 1 May 2008", equal == [day("01.05.2008")]);
     tally.check("the last holiday", list.last() == Some(&18987));
-    let all = (0..=LAST_DAY).all(|d| read_ddmmyyyy(&ddmmyyyy(d)) == Some(d));
-    tally.check("every day is read as it is written", all);
+    tally.check("468 holidays before", before.len() == 468);
+    let others: Vec<u32> = list.iter().filter(|d| **d != the_exception()).cloned().collect();
+    tally.check("one more than before, 31 October 2017", others == before);
+}
+
+/// Request K3: 31 October is a holiday in 2017 alone.
+fn exception(tally: &mut Tally) {
+    let (list, before) = (holiday_list(), holiday_list_before());
+    let tuesday = the_exception();
+    tally.check("31 October 2017 is day 7243, a Tuesday", tuesday == 7243 && weekday(7243) == 1);
+    tally.check("31 October 2017 is no working day", !is_working_day(tuesday, &list));
+    tally.check("31 October 2017 was one before", is_working_day(tuesday, &before));
+    let mondays_to_fridays = [("31.10.2016", 0), ("31.10.2018", 2), ("31.10.2028", 1)];
+    for (date, is) in mondays_to_fridays {
+        let works = weekday(day(date)) == is && is_working_day(day(date), &list);
+        tally.check(&format!("{} is a working day", date), works);
+    }
+}
+
+/// What the exception moves: a fifth working day, with the list before and with the list of now.
+fn fifth_days(tally: &mut Tally) {
+    let (list, before) = (holiday_list(), holiday_list_before());
+    let fifth = |date, list: &[u32]| working_day_after(5, day(date), list).map(written);
+    let cases = [
+        ("23.10.2017", "2017-10-30", "2017-10-30"),
+        ("24.10.2017", "2017-10-31", "2017-11-01"),
+        ("25.10.2017", "2017-11-01", "2017-11-02"),
+        ("27.10.2017", "2017-11-03", "2017-11-06"),
+        ("30.10.2017", "2017-11-06", "2017-11-07"),
+        ("31.10.2017", "2017-11-07", "2017-11-07"),
+    ];
+    for (date, was, is) in cases {
+        let holds = fifth(date, &before).as_deref() == Some(was)
+            && fifth(date, &list).as_deref() == Some(is);
+        tally.check(&format!("five after {}: {}, before {}", date, is, was), holds);
+    }
 }
 
 fn ddmmyyyy(day: u32) -> Vec<u8> {
@@ -346,6 +391,21 @@ fn check_ends(example: &Example, store: &Store, tally: &mut Tally) {
         tally.check(&format!("{}: {} is {}", example.section, end, is), is == *end);
     }
     tally.check(example.section, entries.len() == example.ends.len());
+}
+
+/// "One P was confirmed a day early": that of 2017-11-01 in the first example of request K3. With
+/// the list of nine days a year it gets 11, and the holder is D001.
+fn day_early(tally: &mut Tally) {
+    let example = &REQUEST_K3[0];
+    let mut store = started(example.table);
+    for (publisher, name, text, _) in files_of(example.rows) {
+        offer(&mut store, publisher, &name, &text);
+    }
+    let (was, is) = (store.outcome_with(&holiday_list_before()), store.outcome());
+    tally.check("a day early: confirmed before", was.verdicts == [10, 11, 10, 11]);
+    tally.check("a day early: the holder before", shown(&was.entries[0]) == "D001\t2017-10-24\t-");
+    tally.check("a day early: 21 now", is.verdicts == [10, 11, 10, 21]);
+    tally.check("a day early: the holder now", is.entries[0].holder.to_string() == "D002");
 }
 
 /// "P as above published 03-05, L published 03-06: holder D002. Then D001's objection 2500 against

@@ -1,6 +1,6 @@
 //! The number table, the accepted files in order of arrival, and what filing answers.
 
-use crate::calendar::{read_ddmmyyyy, read_written, written, Day};
+use crate::calendar::{holiday_list, read_ddmmyyyy, read_written, written, Day};
 use crate::files::{read_file, read_name, FileKind};
 use crate::layout::{read_correction, read_report, Code, Number};
 use crate::verdict::{walk, Content, Entry, Filed, Line, Open, Outcome};
@@ -146,7 +146,12 @@ impl Store {
 
     /// Entries, pairs and verdicts, worked out from all records.
     pub fn outcome(&self) -> Outcome {
-        walk(&self.table, &self.records().0)
+        self.outcome_with(&holiday_list())
+    }
+
+    /// The same with another holiday list.
+    pub fn outcome_with(&self, list: &[Day]) -> Outcome {
+        walk(&self.table, &self.records().0, list)
     }
 
     /// The store as it was before file `n` (from 1) arrived.

@@ -1,6 +1,9 @@
 //! Stories that networks tell about a few numbers in a few days, so that they collide often.
 
-use crate::calendar::{holidays, weekday, working_day_after, Day, FIRST_YEAR, LAST_DAY, LAST_YEAR};
+use crate::calendar::{
+    holiday_list, holiday_list_before, nine_days, the_exception, weekday, working_day_after, Day,
+    FIRST_YEAR, LAST_DAY, LAST_YEAR,
+};
 use crate::chance::Chance;
 use crate::told::{Num, Rep, Told};
 
@@ -129,6 +132,9 @@ impl World {
             "breach",
         ];
         let own: &[&'static str] = match self.flavour {
+            _ if self.base == before_the_exception() => {
+                &["return over the exception", "return over the exception", "return", "port"]
+            }
             Flavour::Returns | Flavour::Holidays => {
                 &["return", "return", "return", "port", "object"]
             }
@@ -154,6 +160,7 @@ impl World {
         match story {
             "port" => self.port(),
             "return" => self.give_back(),
+            "return over the exception" => self.give_back_over_the_exception(),
             "near" => self.near(),
             "object" => self.object(),
             "objected pair" => self.objected_pair(),
@@ -244,7 +251,7 @@ impl World {
         let p = Rep { status: 'P', gaining: z.number.owner.clone(), ..z.clone() };
         let z_day = self.soon(z.date);
         let working_days = self.chance.pick(&[4, 5, 5, 5, 6]);
-        let due = working_day_after(working_days, z_day.min(LAST_DAY)).unwrap_or(LAST_DAY);
+        let due = due_after(working_days, z_day);
         let p_day = match self.chance.below(8) {
             0 => due.saturating_sub(1),
             1 => due + 1,
@@ -257,6 +264,26 @@ impl World {
             self.publish(p.clone(), p_day.saturating_sub(1));
         }
         self.publish(p, p_day);
+    }
+
+    /// A Z in the week before 31 October 2017, so that its fifth working day falls behind that
+    /// Tuesday, and the owner's P on some days from then on up to the fifth working day, or up to
+    /// the day that was the fifth when the Tuesday counted.
+    fn give_back_over_the_exception(&mut self) {
+        let tuesday = the_exception();
+        let z_day = tuesday - self.chance.pick(&[7, 6, 6, 5, 5, 4, 1]);
+        let z = Rep { date: z_day - self.chance.pick(&[1, 1, 2]), ..self.returned() };
+        let p = Rep { status: 'P', gaining: z.number.owner.clone(), ..z.clone() };
+        let due = due_after(5, z_day);
+        let due_before = working_day_after(5, z_day, &holiday_list_before()).unwrap_or(due);
+        let last = self.chance.pick(&[due_before, due_before, due, due + 1]);
+        self.publish(z, z_day);
+        for day in tuesday..last {
+            if self.chance.one_in(3) {
+                self.publish(p.clone(), day);
+            }
+        }
+        self.publish(p, last);
     }
 
     /// Sisters that must not match: one of number, date, losing and gaining network differs.
@@ -325,7 +352,7 @@ impl World {
         }
         let day = first.date + 1;
         let sister_day = if first_status == 'Z' {
-            working_day_after(5, day.min(LAST_DAY)).unwrap_or(LAST_DAY)
+            due_after(5, day)
         } else {
             day + self.chance.between(1, 3) as Day
         };
@@ -497,20 +524,35 @@ impl World {
     }
 }
 
-/// Where the stories happen: any year, the ends of the calendar, or around a holiday that falls
-/// on a day from Monday to Friday.
+/// The k-th working day after a day, or the calendar's last.
+fn due_after(working_days: u32, day: Day) -> Day {
+    working_day_after(working_days, day.min(LAST_DAY), &holiday_list()).unwrap_or(LAST_DAY)
+}
+
+/// Before 31 October 2017, so that a return's period goes over it.
+fn before_the_exception() -> Day {
+    the_exception() - 9
+}
+
+/// Where the stories happen: any year, the ends of the calendar, or around a holiday.
 fn base_day(chance: &mut Chance, flavour: Flavour) -> Day {
     match flavour {
         Flavour::FirstDays => chance.below(4) as Day,
         Flavour::LastDays => LAST_DAY - chance.between(12, 20) as Day,
-        Flavour::Holidays | Flavour::Returns => {
-            let which = chance.below(9);
-            let on_work_days = |year: &u32| weekday(holidays(*year)[which]) < 5;
-            let years: Vec<u32> = (FIRST_YEAR + 1..=LAST_YEAR).filter(on_work_days).collect();
-            holidays(chance.pick(&years))[which] - 6
-        }
+        Flavour::Holidays if chance.below(4) > 0 => before_the_exception(),
+        Flavour::Holidays => before_a_holiday(chance),
+        Flavour::Returns if chance.one_in(3) => before_the_exception(),
+        Flavour::Returns => before_a_holiday(chance),
         _ => chance.between(100, LAST_DAY as usize - 100) as Day,
     }
+}
+
+/// Before one of the nine days of a year that falls on a day from Monday to Friday.
+fn before_a_holiday(chance: &mut Chance) -> Day {
+    let which = chance.below(9);
+    let on_work_days = |year: &u32| weekday(nine_days(*year)[which]) < 5;
+    let years: Vec<u32> = (FIRST_YEAR + 1..=LAST_YEAR).filter(on_work_days).collect();
+    nine_days(chance.pick(&years))[which] - 6
 }
 
 /// Three to five codes; the lowest and the highest are among them now and then.

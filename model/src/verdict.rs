@@ -83,8 +83,9 @@ fn processing_order(filed: &Filed) -> (Day, u32, Code, usize) {
     (filed.published, class, filed.publisher, filed.place_in_file)
 }
 
-/// Walks all records, day after day, from the first entries on.
-pub fn walk(table: &[Line], records: &[Filed]) -> Outcome {
+/// Walks all records, day after day, from the first entries on. "A number's entry depends on its
+/// own table line, the records that name it ... and the holiday list."
+pub fn walk(table: &[Line], records: &[Filed], list: &[Day]) -> Outcome {
     let mut outcome = Outcome {
         entries: table.iter().map(first_entry).collect(),
         pairs: vec![None; table.len()],
@@ -93,13 +94,13 @@ pub fn walk(table: &[Line], records: &[Filed]) -> Outcome {
     let mut order: Vec<usize> = (0..records.len()).collect();
     order.sort_by_key(|record| processing_order(&records[*record]));
     for record in order {
-        outcome.verdicts[record] = step(table, &records[record], record, &mut outcome);
+        outcome.verdicts[record] = step(table, &records[record], record, list, &mut outcome);
     }
     outcome
 }
 
 /// One record: its verdict, and what the verdict does.
-fn step(table: &[Line], filed: &Filed, record: usize, outcome: &mut Outcome) -> u32 {
+fn step(table: &[Line], filed: &Filed, record: usize, list: &[Day], outcome: &mut Outcome) -> u32 {
     let at = match table.iter().position(|line| line.number == *filed.number()) {
         Some(at) => at,
         None => return 12, // number not in the table (H)
@@ -115,7 +116,7 @@ fn step(table: &[Line], filed: &Filed, record: usize, outcome: &mut Outcome) -> 
         }
         Content::Report(report) => {
             let report = opened(report, filed.published, record, table[at].owner);
-            let (verdict, sister) = on_report(&report, filed.publisher, &table[at], entry);
+            let (verdict, sister) = on_report(&report, filed.publisher, &table[at], entry, list);
             match (verdict, sister) {
                 (10, _) => keep(entry, report),
                 (11, Some(sister)) => {
@@ -186,7 +187,13 @@ fn open_at(entry: &Entry, place: Option<usize>) -> Option<&Open> {
 
 /// The table of verdicts on reports, the first line that applies; line 12 is asked before. With
 /// 11 comes the filed record of the sister.
-fn on_report(report: &Open, publisher: Code, line: &Line, entry: &Entry) -> (u32, Option<usize>) {
+fn on_report(
+    report: &Open,
+    publisher: Code,
+    line: &Line,
+    entry: &Entry,
+    list: &[Day],
+) -> (u32, Option<usize>) {
     use ReportKind::{L, P, Z};
     let kind = report.kind;
     // 13: P not from the gaining network; L or Z not from the losing one
@@ -230,7 +237,7 @@ fn on_report(report: &Open, publisher: Code, line: &Line, entry: &Entry) -> (u32
     }
     if kind == P {
         if let Some(z) = open_at(entry, matching(entry, Z, report)) {
-            return match working_day_after(5, z.published) {
+            return match working_day_after(5, z.published, list) {
                 // 11: P with a matching open Z, otherwise: confirmed
                 Some(fifth) if report.published >= fifth => (11, Some(z.record)),
                 // 21: published before the fifth working day after that Z's publication, or the

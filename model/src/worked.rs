@@ -1,5 +1,5 @@
-//! Worked examples as tables: the paper's, the specification's of 11.1 that the base can express,
-//! and those that contradict the paper or their own table.
+//! Worked examples as tables: the paper's, that of request K3, the specification's of 11.1 that the
+//! base can express, and those that contradict the paper or their own table.
 
 /// A line of an example, in the order of the specification's tables: publisher, status, losing
 /// and gaining network, number from and to, porting date, publication day; then the verdict that
@@ -110,6 +110,37 @@ const A_123: &[(&str, &str, &str, &str)] = &[("123", "", "D001", "01.01.1998")];
 const B_123: &[(&str, &str, &str, &str)] = &[("123", "", "D002", "01.01.1998")];
 const A_123_124: &[(&str, &str, &str, &str)] =
     &[("123", "", "D001", "01.01.1998"), ("124", "", "D001", "01.01.1998")];
+
+const NUMBER_2017: &[(&str, &str, &str, &str)] = &[("3055501", "", "D001", "02.01.2017")];
+
+/// Request K3: the fifth working day after 2017-10-25 falls behind 31 October 2017, a Tuesday.
+/// First with the P of 11-01 alone, then with that of 11-02 too.
+#[rustfmt::skip]
+pub const REQUEST_K3: &[Example] = &[
+    Example {
+        section: "K3, the P published on the fifth day of the list before",
+        table: NUMBER_2017,
+        rows: &[
+            ("D002", "P", "D001", "D002", "3055501", "", "06.03.2017", "07.03.2017", 10),
+            ("D001", "L", "D001", "D002", "3055501", "", "06.03.2017", "07.03.2017", 11),
+            ("D002", "Z", "D002", "D001", "3055501", "", "24.10.2017", "25.10.2017", 10),
+            ("D001", "P", "D002", "D001", "3055501", "", "24.10.2017", "01.11.2017", 21),
+        ],
+        ends: &["D002 2017-03-06 0:Z:2017-10-24:D002>D001:2017-10-25"],
+    },
+    Example {
+        section: "K3, the P published again on the fifth day",
+        table: NUMBER_2017,
+        rows: &[
+            ("D002", "P", "D001", "D002", "3055501", "", "06.03.2017", "07.03.2017", 10),
+            ("D001", "L", "D001", "D002", "3055501", "", "06.03.2017", "07.03.2017", 11),
+            ("D002", "Z", "D002", "D001", "3055501", "", "24.10.2017", "25.10.2017", 10),
+            ("D001", "P", "D002", "D001", "3055501", "", "24.10.2017", "01.11.2017", 21),
+            ("D001", "P", "D002", "D001", "3055501", "", "24.10.2017", "02.11.2017", 11),
+        ],
+        ends: &["D001 2017-10-24 -"],
+    },
+];
 
 /// The specification's examples of 11.1 that the base can express, D00A being D001 and so on.
 #[rustfmt::skip]
