@@ -24,6 +24,7 @@ const USAGE: &str = "usage: model start STORE TABLE
        model why STORE NUMBER...
        model verdicts STORE
        model figure STORE
+       model rework STORE
        model read FILE
        model selftest";
 
@@ -37,17 +38,18 @@ pub fn run(args: &[&[u8]], out: &mut Vec<u8>) -> Result<Status, Stopped> {
             let offers = files.iter().map(|file| (publisher, *file)).collect();
             file_all(path(folder), offers, out)
         }
-        [b"files", folder] => files(&load(folder)?, out),
+        [b"files", folder] => files(&load(path(folder))?, out),
         [b"show", folder, b"--before", n, ref numbers @ ..] => {
-            show_before(&load(folder)?, n, numbers, out)
+            show_before(&load(path(folder))?, n, numbers, out)
         }
         [b"show", _, b"--before"] => Err(USAGE.to_string()),
-        [b"show", folder, ref numbers @ ..] => show(&load(folder)?, numbers, out),
+        [b"show", folder, ref numbers @ ..] => show(&load(path(folder))?, numbers, out),
         [b"why", folder, ref numbers @ ..] if !numbers.is_empty() => {
-            why(&load(folder)?, numbers, out)
+            why(&load(path(folder))?, numbers, out)
         }
-        [b"verdicts", folder] => verdicts(&load(folder)?, out),
+        [b"verdicts", folder] => verdicts(&load(path(folder))?, out),
         [b"figure", folder] => figure(path(folder), out),
+        [b"rework", folder] => rework(path(folder), out),
         [b"read", file] => read(file, out),
         _ => Err(USAGE.to_string()),
     }
@@ -61,8 +63,18 @@ fn stopped(what: &Path, error: std::io::Error) -> Stopped {
     format!("{}: {}", what.display(), error)
 }
 
-fn load(folder: &[u8]) -> Result<Store, Stopped> {
-    store::load(path(folder)).map_err(|e| stopped(path(folder), e))
+/// A store as any command but `rework` reads it: its entries have to be of the list of today.
+fn load(folder: &Path) -> Result<Store, Stopped> {
+    let store = load_any(folder)?;
+    if !store::is_current(folder) {
+        let what = "its entries were worked out with another holiday list: it wants `rework` first";
+        return Err(format!("{}: {}", folder.display(), what));
+    }
+    Ok(store)
+}
+
+fn load_any(folder: &Path) -> Result<Store, Stopped> {
+    store::load(folder).map_err(|e| stopped(folder, e))
 }
 
 /// One line of output: items with tabs between them, LF at the end.
@@ -108,7 +120,7 @@ fn file_all(
     offers: Vec<(&[u8], &[u8])>,
     out: &mut Vec<u8>,
 ) -> Result<Status, Stopped> {
-    let mut store = store::load(folder).map_err(|e| stopped(folder, e))?;
+    let mut store = load(folder)?;
     let mut status = 0;
     for (publisher, file) in offers {
         let answer = file_one(folder, &mut store, publisher, file)?;
@@ -241,24 +253,44 @@ fn verdicts(store: &Store, out: &mut Vec<u8>) -> Result<Status, Stopped> {
     Ok(0)
 }
 
-/// `differ` D `of` M, then NUMBER with HOLDER LAST OPEN as stored and as worked out.
-fn figure(folder: &Path, out: &mut Vec<u8>) -> Result<Status, Stopped> {
-    let store = store::load(folder).map_err(|e| stopped(folder, e))?;
+/// A line for each number whose stored entry is not the one worked out: NUMBER with HOLDER LAST
+/// OPEN as stored and as worked out.
+fn differing(folder: &Path, store: &Store) -> Result<Vec<String>, Stopped> {
     let stored = store::read_entries(folder).map_err(|e| stopped(folder, e))?;
-    let entries = store.outcome().entries;
-    let mut lines: Vec<String> = Vec::new();
-    for (i, entry) in entries.iter().enumerate() {
+    let mut lines = Vec::new();
+    for (i, entry) in store.outcome().entries.iter().enumerate() {
         let was = stored.get(i).cloned().unwrap_or_default();
         if was != shown(entry) {
             lines.push(format!("{}\t{}\t{}", store.table[i].number, was, shown(entry)));
         }
     }
-    let figure = format!("differ\t{}\tof\t{}", lines.len(), entries.len());
+    Ok(lines)
+}
+
+/// `differ` D `of` M, then the lines of those that differ.
+fn figure(folder: &Path, out: &mut Vec<u8>) -> Result<Status, Stopped> {
+    let store = load(folder)?;
+    let lines = differing(folder, &store)?;
+    let figure = format!("differ\t{}\tof\t{}", lines.len(), store.table.len());
     print(out, &[figure.as_bytes()]);
     for line in &lines {
         print(out, &[line.as_bytes()]);
     }
     Ok(if lines.is_empty() { 0 } else { 1 })
+}
+
+/// Works out all entries again and keeps them: the lines of those that changed, then `changed` N
+/// `of` M.
+fn rework(folder: &Path, out: &mut Vec<u8>) -> Result<Status, Stopped> {
+    let store = load_any(folder)?;
+    let lines = differing(folder, &store)?;
+    store::write_entries(folder, &store).map_err(|e| stopped(folder, e))?;
+    for line in &lines {
+        print(out, &[line.as_bytes()]);
+    }
+    let changed = format!("changed\t{}\tof\t{}", lines.len(), store.table.len());
+    print(out, &[changed.as_bytes()]);
+    Ok(0)
 }
 
 /// `record` PLACE RECORD for each record, or `refused` 4 PLACE alone; `refused` 2 for a name.

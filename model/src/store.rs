@@ -190,7 +190,8 @@ fn shown_place(i: usize, open: &Open) -> String {
     format!("{}:{:?}:{}:{}>{}:{}", i, open.kind, date, open.losing, open.gaining, published)
 }
 
-// On disk: STORE/table (the table text), STORE/entries (a line of `shown` per entry) and
+// On disk: STORE/table (the table text), STORE/entries (a line of `shown` per entry),
+// STORE/holidays (how many days the list had that the entries were worked out with) and
 // STORE/arrived/NNNN-D-D001-2024-03-05 or NNNN-K-..., an accepted file each.
 
 fn broken(what: &str) -> io::Error {
@@ -204,10 +205,23 @@ pub fn create(folder: &Path, table_text: &[u8], store: &Store) -> io::Result<()>
     write_entries(folder, store)
 }
 
+/// Writes the entries as they are now, then which list they were worked out with.
 pub fn write_entries(folder: &Path, store: &Store) -> io::Result<()> {
     let entries = store.outcome().entries;
     let text: String = entries.iter().map(|entry| shown(entry) + "\n").collect();
-    fs::write(folder.join("entries"), text)
+    fs::write(folder.join("entries"), text)?;
+    fs::write(folder.join("holidays"), mark())
+}
+
+/// What STORE/holidays holds where the entries were worked out with the list of today.
+fn mark() -> String {
+    format!("{}\n", holiday_list().len())
+}
+
+/// Whether the stored entries were worked out with the list of today; a store from before the
+/// mark has none.
+pub fn is_current(folder: &Path) -> bool {
+    matches!(fs::read(folder.join("holidays")), Ok(text) if text == mark().as_bytes())
 }
 
 pub fn read_entries(folder: &Path) -> io::Result<Vec<String>> {
