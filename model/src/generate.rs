@@ -13,11 +13,15 @@ mod stories;
 mod told;
 mod verdict;
 
+use calendar::{holiday_list_before, the_exception};
+use layout::ReportKind;
 use scenario::{scenario, Scenario};
 use std::collections::BTreeMap;
 use std::fs;
 use std::io;
 use std::path::Path;
+use store::shown;
+use verdict::{Content, Filed};
 
 const USAGE: &str = "usage: generate SEED FOLDER       writes the scenario of this seed
        generate --coverage N       runs the scenarios 1 to N through the model and counts";
@@ -73,6 +77,10 @@ const ANSWERS: [u32; 7] = [0, 1, 2, 3, 4, 5, 6];
 const VERDICTS: [u32; 18] =
     [10, 11, 12, 13, 14, 15, 16, 17, 18, 19, 20, 21, 22, 30, 31, 32, 33, 34];
 
+/// What 31 October 2017 has to do with a scenario: returns confirmed over it, records and numbers
+/// that the list without it answers otherwise, and scenarios with such a record.
+const EXCEPTION: [&str; 4] = ["returns over it", "verdicts moved", "entries moved", "scenarios"];
+
 /// Runs scenarios through the model and prints how often each answer and verdict occurred; false
 /// where one never did.
 fn coverage(scenarios: u64) -> bool {
@@ -82,6 +90,9 @@ fn coverage(scenarios: u64) -> bool {
     }
     for number in VERDICTS {
         counts.insert(format!("verdict\t{}", number), 0);
+    }
+    for what in EXCEPTION {
+        counts.insert(format!("2017-10-31\t{}", what), 0);
     }
     for seed in 1..=scenarios {
         let folder = std::env::temp_dir().join(format!("coverage-{}", std::process::id()));
@@ -116,8 +127,31 @@ fn run(scenario: &Scenario, folder: &Path, counts: &mut BTreeMap<String, usize>)
     for (what, count) in verdicts {
         *counts.entry(what).or_insert(0) += count;
     }
+    for (what, count) in EXCEPTION.iter().zip(exception()?) {
+        *counts.entry(format!("2017-10-31\t{}", what)).or_insert(0) += count;
+    }
     std::env::set_current_dir(before)?;
     fs::remove_dir_all(folder)
+}
+
+/// The counts of EXCEPTION for the store that a scenario leaves.
+fn exception() -> io::Result<[usize; 4]> {
+    let store = store::load(Path::new("store"))?;
+    let records = store.records().0;
+    let (was, is) = (store.outcome_with(&holiday_list_before()), store.outcome());
+    let is_z = |filed: &Filed| match &filed.content {
+        Content::Report(report) => report.kind == ReportKind::Z,
+        Content::Correction(_) => false,
+    };
+    let over_it = |pair: &&(usize, usize)| {
+        let (first, second) = (&records[pair.0], &records[pair.1]);
+        is_z(first) && first.published < the_exception() && second.published > the_exception()
+    };
+    let returns = is.pairs.iter().flatten().filter(over_it).count();
+    let verdicts = (0..records.len()).filter(|i| was.verdicts[*i] != is.verdicts[*i]).count();
+    let lines = 0..store.table.len();
+    let entries = lines.filter(|i| shown(&was.entries[*i]) != shown(&is.entries[*i])).count();
+    Ok([returns, verdicts, entries, verdicts.min(1)])
 }
 
 /// Counts what a command printed; of verdicts, those that a scenario ends with.
@@ -155,6 +189,7 @@ fn count_output(
                 }
             }
             ("read", [answer, ..]) => count(format!("read\t{}", answer)),
+            ("rework", ["changed", number, ..]) => count(format!("rework\tchanged {}", number)),
             ("verdicts", [_, _, _, _, _, verdict, _]) => {
                 *verdicts.entry(format!("verdict\t{}", verdict)).or_insert(0) += 1;
             }

@@ -188,6 +188,9 @@ fn commands(scenario: &mut Scenario, world: &mut World, mut offers: Vec<Offer>) 
     scenario.files.push(("LIST".into(), list(world, &offers)));
     ask(scenario, world, accepted.files.len());
     read_some(scenario, world, &offers);
+    if world.chance.one_in(5) {
+        scenario.commands.push(words(&["rework", "store"]));
+    }
     for offer in &held_back {
         scenario.commands.push(words(&["file", "store", &offer.publisher, &offer.path]));
         accept(&mut accepted, offer);
@@ -200,8 +203,23 @@ fn commands(scenario: &mut Scenario, world: &mut World, mut offers: Vec<Offer>) 
         scenario.commands.push(words(&["start", "store", "table.txt"]));
     }
     scenario.commands.push(words(&["show", "store"]));
+    rework(scenario, world);
     for offer in offers.iter().chain(&held_back) {
         scenario.files.push((offer.path.clone(), offer.bytes.clone()));
+    }
+}
+
+/// All entries worked out again in the end: none changes, and what is asked then says so too; now
+/// and then a command line that is wrong.
+fn rework(scenario: &mut Scenario, world: &mut World) {
+    if world.chance.one_in(3) {
+        for command in ["rework", "figure", "rework"] {
+            scenario.commands.push(words(&[command, "store"]));
+        }
+    }
+    if world.chance.one_in(10) {
+        let wrong: [&[&str]; 3] = [&["rework"], &["rework", "store", "store"], &["rework", "none"]];
+        scenario.commands.push(words(world.chance.pick(&wrong)));
     }
 }
 
@@ -340,7 +358,7 @@ fn limit_scenario(seed: u64) -> Scenario {
     for command in ["start store table.txt", "file store --list LIST", "files store"] {
         scenario.commands.push(command.split(' ').map(str::to_string).collect());
     }
-    for command in ["show", "verdicts", "figure"] {
+    for command in ["show", "verdicts", "figure", "rework"] {
         scenario.commands.push(words(&[command, "store"]));
     }
     scenario.commands.push(words(&["why", "store", &world.numbers[0].named()]));
