@@ -105,6 +105,9 @@ int plain_file_count(const struct store *s);
 void plain_file_at(const struct store *s, int i, int *kind, int *publisher, int *day, int *count);
 int plain_same_entry(const struct entry *a, const struct entry *b);
 
+/* Works a line's entry out afresh and writes it; answers whether the stored one was another. Both are handed back. */
+int plain_rework(struct store *s, int i, struct entry *stored, struct entry *worked);
+
 /* One record of a number's history: its verdict, and its effect on the entry and the pair. */
 int plain_step_report(const struct line *l, struct entry *e, struct pair *why, int publisher, int day, int at, int record, const struct part *p);
 int plain_step_correction(const struct line *l, struct entry *e, int publisher, const struct correction *c);

@@ -303,6 +303,25 @@ static int figure(void) {
     return differ != 0;
 }
 
+static int rework(const char *path) {
+    int lines = table[0] | table[1] << 8, changed = 0;
+    for (int i = 0; i < lines; i++) {
+        struct line l;
+        struct entry stored, worked;
+        if (!plain_rework(&store, i, &stored, &worked))
+            continue;
+        changed++;
+        plain_line(&store, i, &l);
+        print_number(l.number);
+        print_entry(&stored);
+        print_entry(&worked);
+        putchar('\n');
+    }
+    save(path);
+    printf("changed\t%d\tof\t%d\n", changed, lines);
+    return 0;
+}
+
 static int read_request(const uint8_t *s, size_t length) {
     return length >= 6 && read_code(s, 4) != NONE && s[4] == ',' && s[length - 1] == ',' && (length == 6 || (length == 14 && read_date(s + 5, 8) != NONE));
 }
@@ -357,5 +376,7 @@ int main(int argc, char **argv) {
         return verdicts();
     if (strcmp(command, "figure") == 0)
         return figure();
+    if (strcmp(command, "rework") == 0 && argc == 3)
+        return rework(path);
     stop("usage: as model/README.md has it");
 }
