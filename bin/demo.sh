@@ -70,6 +70,10 @@ demo() { # DAGSKIMRA
     # the entries stand at the end of the file, 100 bytes each; the first two bytes of one are its holder
     printf '\011' | dd of=books/store bs=1 seek="$(($(wc -c <books/store) - 102400 + 100))" conv=notrunc 2>/dev/null
     run figure books
+
+    tell 'Reworking mends the table and lists what it changed.'
+    run rework books
+    run figure books
     printf '\n'
     return "$worst"
 }

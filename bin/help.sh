@@ -14,13 +14,15 @@ Dagskimra keeps the books of a telephone number exchange in a folder, STORE.
   dagskimra why STORE NUMBER...             the two reports under which a number moved
   dagskimra verdicts STORE                  every filed record and its verdict
   dagskimra figure STORE                    compare the table with what the journals say
+  dagskimra rework STORE                    work the table out again, list changes
   dagskimra read FILE                       the records of a file, without a store
   dagskimra demo                            a small day at the bureau
   dagskimra help COMMAND                    one command with an example
 
 Output is tab separated, a line each; words for people go to standard error.
 Exit status: 0 all is well; 1 something was refused, or the figure is not 0;
-2 the command line is wrong, or a file can't be read or written.
+2 the command line is wrong, a file can't be read or written, or the store wants
+rework.
 END
         ;;
     start)
@@ -115,9 +117,24 @@ usage: dagskimra figure STORE
 
 Works every entry out afresh from the journals and compares it with the stored
 one. Prints `differ` D `of` M, and for each that differs NUMBER, then HOLDER LAST
-OPEN as stored, then as worked out. The status is 1 where D is not 0.
+OPEN as stored, then as worked out. The status is 1 where D is not 0; `rework`
+mends the table.
 
   dagskimra figure books
+END
+        ;;
+    rework)
+        cat <<'END'
+usage: dagskimra rework STORE
+
+Works every entry out again from the journals and puts it on the disk: for a
+store whose entries were worked out with another holiday list, which no other
+command takes, and for one whose table is wrong. Then prints for each entry that
+changed NUMBER, HOLDER LAST OPEN as stored before, HOLDER LAST OPEN as worked
+out, and last `changed` N `of` M. What changes is listed once: a second call
+lists none. Or `refused` 44 where the store is damaged.
+
+  dagskimra rework books >changed.txt
 END
         ;;
     read)

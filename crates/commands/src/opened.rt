@@ -7,6 +7,12 @@ use disk::REGULAR;
 use disk::TABLE;
 use disk::saved;
 
+// The store is damaged: `refused` 44.
+pub fn damaged(folder: &[u8]) -> u8 {
+    words::refusal::refused(folder, 44, 0);
+    end::refused(44)
+}
+
 // Loads the store: 0; or the status of the command, where it can't go on and has told why.
 pub fn open(
     folder: &[u8],
@@ -19,9 +25,7 @@ pub fn open(
     match saved::load(folder, table, files, regular, corrections, entries) {
         saved::Loaded::Ready => 0,
         saved::Loaded::Missing => 2,
-        saved::Loaded::Damaged => {
-            words::refusal::refused(folder, 44, 0);
-            end::refused(44)
-        }
+        saved::Loaded::OtherList => words::wants_rework(folder),
+        saved::Loaded::Damaged => damaged(folder),
     }
 }

@@ -17,7 +17,7 @@ fn tell(status: u8) {
 fn wrong(why: &[u8]) -> u8 {
     words::usage(
         why,
-        b"start | file | files | show | why | verdicts | figure | read | demo | help; 'dagskimra help' explains each",
+        b"start | file | files | show | why | verdicts | figure | rework | read | demo | help; 'dagskimra help' explains each",
     )
 }
 
@@ -28,6 +28,9 @@ fn book(count: usize) -> u8 {
     }
     if args::is(1, b"file") {
         return offers::run::run(count);
+    }
+    if args::is(1, b"rework") {
+        return questions::rework::run(count);
     }
     if args::is(1, b"files") {
         return commands::arrivals::run(count);

@@ -1,5 +1,5 @@
-// The head of the file: its name and version, and two sums in hexadecimal over table, files and journals. The entries are not summed:
-// whether they are what the journals say is what the figure tells.
+// The head of the file: its name and version, two sums in hexadecimal, and the line of the holiday list. The sums go over that line,
+// the table, the files and the journals. The entries are not summed: whether they are what the journals say is what the figure tells.
 use crate::CORRECTIONS;
 use crate::FILES;
 use crate::REGULAR;
@@ -7,14 +7,28 @@ use crate::TABLE;
 use crate::sum::Sum;
 use crate::sum::summed;
 use desk::copy_in;
+use desk::same;
+use desk::within;
 
-// 18 bytes of name and version, twice sixteen hexadecimal digits, and a line end.
+// 18 bytes of name and version, twice sixteen hexadecimal digits, and a line end. The line of the list follows.
 pub const HEAD: usize = 51;
 
-fn spelled(sum: Sum) -> [u8; HEAD] {
+// Whether a head is of version 1, which has no line of the list: its entries were worked out with the list of 468 days.
+pub fn is_first(head: &[u8]) -> bool {
+    let n = within(18, head);
+    same(&head[..n], b"dagskimra store 1\n")
+}
+
+// Of a head over as many bytes of the list's line.
+fn version(n: usize) -> u8 {
+    if n == 0 { b'1' } else { b'2' }
+}
+
+fn spelled(version: u8, sum: Sum) -> [u8; HEAD] {
     let mut head = [b'\n'; HEAD];
     let mut digits = [0u8; 16];
-    copy_in(&mut head, 0, b"dagskimra store 1\n");
+    copy_in(&mut head, 0, b"dagskimra store ");
+    head[16] = version;
     let n = io::hex(sum.a, 16, &mut digits);
     copy_in(&mut head, 18, &digits[..n]);
     let m = io::hex(sum.b, 16, &mut digits);
@@ -22,16 +36,19 @@ fn spelled(sum: Sum) -> [u8; HEAD] {
     head
 }
 
+// The head over the line of a list; over no line it is one of version 1.
 pub fn head_of(
+    line: &[u8],
     table: &[u8; TABLE],
     files: &[u8; FILES],
     regular: &[u8; REGULAR],
     corrections: &[u8; CORRECTIONS],
 ) -> [u8; HEAD] {
     let mut sum = Sum { a: 1, b: 0 };
+    sum = summed(sum, line);
     sum = summed(sum, table);
     sum = summed(sum, files);
     sum = summed(sum, regular);
     sum = summed(sum, corrections);
-    spelled(sum)
+    spelled(version(line.len()), sum)
 }

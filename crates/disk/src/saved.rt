@@ -5,12 +5,15 @@ use crate::FILES;
 use crate::REGULAR;
 use crate::TABLE;
 use crate::parts;
+use crate::parts::Found;
 use desk::place;
 use words::complain;
 use words::failed;
 
 pub enum Loaded {
     Ready,
+    // the store is whole, and its entries were worked out with another holiday list than this program's
+    OtherList,
     // there is no store, or it can't be opened, and the reason has been told
     Missing,
     // the file is no store, or a part of one
@@ -38,15 +41,16 @@ pub fn load(
     if fd < 0 {
         return missing(folder);
     }
-    let whole = parts::read(fd, table, files, regular, corrections, entries);
+    let found = parts::read(fd, table, files, regular, corrections, entries);
     libc::close(fd);
-    if !whole {
-        return Loaded::Damaged;
-    }
     if !store::readable::readable(table, files, regular, corrections, entries) {
         return Loaded::Damaged;
     }
-    Loaded::Ready
+    match found {
+        Found::OwnList => Loaded::Ready,
+        Found::OtherList => Loaded::OtherList,
+        Found::Damaged => Loaded::Damaged,
+    }
 }
 
 // The new file could not be made: the old one is as it was, and nothing is beside it.

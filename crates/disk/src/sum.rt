@@ -19,3 +19,20 @@ pub fn summed(sum: Sum, bytes: &[u8]) -> Sum {
     }
     Sum { a, b }
 }
+
+fn wide_day(x: u16) -> u64 {
+    x as u64
+}
+
+// The same over day numbers, from 1 and 0 on.
+pub fn days_summed(days: &[u16]) -> Sum {
+    let mut a: u64 = 1;
+    let mut b: u64 = 0;
+    let mut i = 0;
+    while i < days.len() {
+        a = std::num::wrapping_add_u64(a, wide_day(days[i]));
+        b = std::num::wrapping_add_u64(b, a);
+        i += 1;
+    }
+    Sum { a, b }
+}

@@ -49,6 +49,12 @@ fn nothing_done() -> Round {
     with_stop(first_round())
 }
 
+// Its entries are of another holiday list: nothing is answered either.
+fn wants_rework(folder: &[u8]) -> Round {
+    words::wants_rework(folder);
+    nothing_done()
+}
+
 // The store is damaged.
 fn all_refused(total: usize) -> Round {
     Round {
@@ -244,6 +250,7 @@ fn file_locked(
     ) {
         Loaded::Missing => nothing_done(),
         Loaded::Damaged => all_refused(total),
+        Loaded::OtherList => wants_rework(folder),
         Loaded::Ready => file_loaded(
             folder,
             offers,

@@ -1,5 +1,6 @@
 // figure STORE: how many stored entries differ from those that the journals lead to.
 use crate::asked;
+use crate::compared;
 use crate::table;
 use commands::end;
 use commands::opened;
@@ -44,7 +45,7 @@ fn mark<'a>(
     differ
 }
 
-// NUMBER, the entry as stored, and as worked out
+// The line of one number.
 fn line<'a>(
     first: Page,
     room: &mut [u8; ROOM],
@@ -55,13 +56,9 @@ fn line<'a>(
     entries: &[u8],
     i: usize,
 ) -> Page {
-    let mut p = shown::number::number(first, room, table::number_at(lines, i));
-    p = page::tab(p, room);
-    p = shown::entry::entry(p, room, table::entry_at(entries, i));
-    p = page::tab(p, room);
-    let e = asked::before(lines, files, NUMBERS, regular, corrections, i);
-    p = shown::entry::entry(p, room, e);
-    page::line_end(p, room)
+    let stored = table::entry_at(entries, i);
+    let worked = asked::before(lines, files, NUMBERS, regular, corrections, i);
+    compared::line(first, room, table::number_at(lines, i), stored, worked)
 }
 
 // The lines that are marked.
@@ -86,15 +83,6 @@ fn print_marked<'a>(
     p
 }
 
-// `differ` D `of` M
-fn first_line(first: Page, room: &mut [u8; ROOM], differ: usize, n: usize) -> Page {
-    let mut p = page::text(first, room, b"differ\t");
-    p = page::number(p, room, differ as u64);
-    p = page::text(p, room, b"\tof\t");
-    p = page::number(p, room, n as u64);
-    page::line_end(p, room)
-}
-
 fn entries_are(n: usize) {
     if n == 1 {
         words::text(b" stored entry is");
@@ -110,8 +98,10 @@ fn warn(folder: &[u8], differ: usize) {
     io::print_decimal(STDERR_FILENO, differ as u64);
     entries_are(differ);
     words::text(
-        b" not what the journals lead to: the table was changed behind the store's back. Start a new store and file the files again\n",
+        b" not what the journals lead to: the table was changed behind the store's back. 'dagskimra rework ",
     );
+    words::text(folder);
+    words::text(b"' works the entries out again and lists those that change\n");
 }
 
 fn print<'a>(
@@ -125,9 +115,10 @@ fn print<'a>(
     let mut marks = [false; NUMBERS];
     let mut room = [0u8; ROOM];
     let differ = mark(&mut marks, lines, files, regular, corrections, entries);
-    let p = first_line(
+    let p = compared::count(
         page::begin(STDOUT_FILENO),
         &mut room,
+        b"differ",
         differ,
         table::count(lines),
     );

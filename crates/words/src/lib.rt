@@ -22,6 +22,18 @@ pub fn failed(what: &[u8]) {
     os::fail(what);
 }
 
+// What a store wants whose entries were worked out with another holiday list. The status is 2.
+pub fn wants_rework(folder: &[u8]) -> u8 {
+    text(b"dagskimra: ");
+    text(folder);
+    text(
+        b": the entries were worked out with another holiday list; nothing was done. 'dagskimra rework ",
+    );
+    text(folder);
+    text(b"' works them out again and lists those that change\n");
+    2
+}
+
 // A wrong command line: what is wrong, and the command's usage. The status is 2.
 pub fn usage(wrong: &[u8], line: &[u8]) -> u8 {
     text(b"dagskimra: ");

@@ -47,7 +47,7 @@ fn unknown() {
 
 fn damaged() {
     text(
-        b"the store is damaged or cut short, or another version's; it is left as it is: put back a copy, or start a new one and file the files again",
+        b"the store is damaged or cut short, or a later version's; it is left as it is: put back a copy, or start a new one and file the files again",
     );
 }
 

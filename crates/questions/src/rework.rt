@@ -1,0 +1,204 @@
+// rework STORE: every entry worked out again from the journals, put on the disk, and then those that changed listed.
+use crate::compared;
+use crate::table;
+use commands::end;
+use commands::opened;
+use desk::args;
+use desk::copy_in;
+use desk::page;
+use disk::CORRECTIONS;
+use disk::ENTRIES;
+use disk::FILES;
+use disk::REGULAR;
+use disk::TABLE;
+use disk::lock;
+use disk::saved;
+use disk::saved::Loaded;
+use libc::STDOUT_FILENO;
+use numbers::lines::NUMBERS;
+use page::Page;
+use page::ROOM;
+use reworking::rework::Reworked;
+
+// What it came to.
+pub enum Came {
+    // so many entries changed, and all are on the disk
+    Changed(usize),
+    // the store is damaged, and as it was
+    Damaged,
+    // it can't be read or written, and the reason has been told
+    Failed,
+}
+
+// Writes the store, where there is something to write.
+fn keep(
+    folder: &[u8],
+    lines: &[u8; TABLE],
+    files: &[u8; FILES],
+    regular: &[u8; REGULAR],
+    corrections: &[u8; CORRECTIONS],
+    entries: &[u8; ENTRIES],
+    own: bool,
+    changed: usize,
+) -> Came {
+    if own & (changed == 0) {
+        return Came::Changed(0);
+    }
+    if saved::save(folder, lines, files, regular, corrections, entries) {
+        return Came::Changed(changed);
+    }
+    Came::Failed
+}
+
+// Works out the entries, keeps them as they were in `before`, and lists the places of those that changed. `own` says that they were
+// worked out with this program's holiday list.
+fn rework_loaded<'a>(
+    folder: &[u8],
+    lines: &[u8; TABLE],
+    files: &'a [u8; FILES],
+    regular: &'a [u8; REGULAR],
+    corrections: &'a [u8; CORRECTIONS],
+    entries: &mut [u8; ENTRIES],
+    before: &mut [u8; ENTRIES],
+    list: &mut [u16; NUMBERS],
+    own: bool,
+) -> Came {
+    copy_in(before, 0, entries);
+    match reworking::rework::rework(lines, files, regular, corrections, entries, NUMBERS, list) {
+        Reworked::Unreadable => Came::Damaged,
+        Reworked::Changed(n) => keep(folder, lines, files, regular, corrections, entries, own, n),
+    }
+}
+
+// The same for the store in a folder.
+fn rework_stored(
+    folder: &[u8],
+    lines: &mut [u8; TABLE],
+    entries: &mut [u8; ENTRIES],
+    before: &mut [u8; ENTRIES],
+    list: &mut [u16; NUMBERS],
+) -> Came {
+    let mut files = [0u8; FILES];
+    let mut regular = [0u8; REGULAR];
+    let mut corrections = [0u8; CORRECTIONS];
+    match saved::load(
+        folder,
+        lines,
+        &mut files,
+        &mut regular,
+        &mut corrections,
+        entries,
+    ) {
+        Loaded::Missing => Came::Failed,
+        Loaded::Damaged => Came::Damaged,
+        Loaded::OtherList => rework_loaded(
+            folder,
+            lines,
+            &files,
+            &regular,
+            &corrections,
+            entries,
+            before,
+            list,
+            false,
+        ),
+        Loaded::Ready => rework_loaded(
+            folder,
+            lines,
+            &files,
+            &regular,
+            &corrections,
+            entries,
+            before,
+            list,
+            true,
+        ),
+    }
+}
+
+// The line of the number at a place of the table.
+fn line(
+    first: Page,
+    room: &mut [u8; ROOM],
+    lines: &[u8],
+    before: &[u8],
+    entries: &[u8],
+    place: u16,
+) -> Page {
+    let i = place as usize;
+    let stored = table::entry_at(before, i);
+    let worked = table::entry_at(entries, i);
+    compared::line(first, room, table::number_at(lines, i), stored, worked)
+}
+
+// The lines of the first n places of the list.
+fn print_listed(
+    first: Page,
+    room: &mut [u8; ROOM],
+    list: &[u16; NUMBERS],
+    n: usize,
+    lines: &[u8],
+    before: &[u8],
+    entries: &[u8],
+) -> Page {
+    let mut p = first;
+    let mut k = 0;
+    while k < NUMBERS {
+        if n <= k {
+            return p;
+        }
+        p = line(p, room, lines, before, entries, list[k]);
+        k += 1;
+    }
+    p
+}
+
+fn print(
+    n: usize,
+    lines: &[u8; TABLE],
+    before: &[u8; ENTRIES],
+    entries: &[u8; ENTRIES],
+    list: &[u16; NUMBERS],
+) -> u8 {
+    let mut room = [0u8; ROOM];
+    let p = print_listed(
+        page::begin(STDOUT_FILENO),
+        &mut room,
+        list,
+        n,
+        lines,
+        before,
+        entries,
+    );
+    let q = compared::count(p, &mut room, b"changed", n, table::count(lines));
+    end::done(q, &room, 0)
+}
+
+fn rework_in(folder: &[u8]) -> u8 {
+    let mut lines = [0u8; TABLE];
+    let mut entries = [0u8; ENTRIES];
+    let mut before = [0u8; ENTRIES];
+    let mut list = [0u16; NUMBERS];
+    if !lock::take(folder) {
+        return 2;
+    }
+    let came = rework_stored(folder, &mut lines, &mut entries, &mut before, &mut list);
+    lock::release(folder);
+    match came {
+        Came::Failed => 2,
+        Came::Damaged => opened::damaged(folder),
+        Came::Changed(n) => print(n, &lines, &before, &entries, &list),
+    }
+}
+
+pub fn run(count: usize) -> u8 {
+    if count != 3 {
+        return words::usage(b"rework takes a folder", b"rework STORE");
+    }
+    let mut folder = io::buffer();
+    let n = args::path(2, &mut folder);
+    if n == 0 {
+        return words::usage(b"STORE is empty or too long", b"rework STORE");
+    }
+    rework_in(&folder[..n])
+}
