@@ -42,6 +42,8 @@ expect 0 filed
 # another launcher is at work
 flock store sh -c '"$1" file store D001 f/1D240302.txt >out 2>said' sh "$tool"
 expect 2 'another process'
+flock store sh -c '"$1" rework store >out 2>said' sh "$tool"
+expect 2 'another process'
 # a program at work (it waits for a pipe), whose launcher is killed, and then the program too
 mkfifo f/1D240331.txt
 "$tool" file store D001 f/1D240331.txt >out.0 2>said.0 &
@@ -57,6 +59,8 @@ kill -9 "$launcher"
 wait "$launcher" 2>/dev/null
 "$tool" file store D001 f/1D240302.txt >out 2>said
 expect 2 'another process'
+"$tool" rework store >out 2>said
+expect 2 'another process'
 "$tool" files store >out 2>said
 expect 0 '2024-03-01'
 kill -9 "$(cat store/lock)"
@@ -71,6 +75,9 @@ expect 0 'filed'
 : >store/lock
 "$tool" file store D001 f/1D240304.txt >out 2>said
 expect 0 'filed'
+echo 999999999 >store/lock
+"$tool" rework store >out 2>said
+expect 0 'its file lock is removed'
 [ ! -e store/lock ] || fault 'the lock is still there'
 # many at once: each is filed or told so, and the count is right
 i=4
@@ -104,7 +111,7 @@ done
 "$tool" file store D001 f/1D240325.txt f/1D240326.txt >out 2>said
 expect 1 'f/1D240326.txt	refused	44'
 cmp -s store/store damaged || fault 'filing touched a damaged store'
-for cut in 0 1 51 52 14389 "$((size - 1))"; do
+for cut in 0 1 82 83 14420 "$((size - 1))"; do
     head -c "$cut" good >store/store
     for command in files show verdicts figure; do
         "$tool" "$command" store >out 2>said
@@ -114,7 +121,7 @@ done
 (cat good; echo) >store/store
 "$tool" files store >out 2>said
 expect 1 'refused	44'
-sed '1s/1/2/' good >store/store
+sed '1s/2/3/' good >store/store
 "$tool" files store >out 2>said
 expect 1 'refused	44'
 # an entry that is out of range does not read either: holder 65535
