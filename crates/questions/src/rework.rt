@@ -64,7 +64,8 @@ fn rework_loaded<'a>(
     own: bool,
 ) -> Came {
     copy_in(before, 0, entries);
-    match reworking::rework::rework(lines, files, regular, corrections, entries, NUMBERS, list) {
+    let all = journals::files::FILES;
+    match reworking::rework::rework(lines, files, regular, corrections, entries, all, list) {
         Reworked::Unreadable => Came::Damaged,
         Reworked::Changed(n) => keep(folder, lines, files, regular, corrections, entries, own, n),
     }
