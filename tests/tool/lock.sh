@@ -153,6 +153,8 @@ if [ "$(id -u)" -eq 0 ] && command -v setpriv >/dev/null 2>&1; then
     if $drop test -x "$tool" && $drop rt version >/dev/null 2>&1; then
         $drop "$tool" file "$room/store" D001 "$room/f/1D240325.txt" >out 2>said
         expect 2 'Permission denied'
+        $drop "$tool" rework "$room/store" >out 2>said
+        expect 2 'Permission denied'
         same 'a folder that can not be written'
         $drop "$tool" start "$room/new" "$room/table" >out 2>said
         expect 2 'Permission denied'
