@@ -101,7 +101,13 @@ look() {
         shown >now 2>say
         cmp -s now "$is.shown" || fault "the store is as $is, and it is shown otherwise: $(cat now say)"
     fi
-    if [ -s out ] && [ "$is" != after ]; then fault "it answered '$(cat out)', and the store is as before"; fi
+    # of rework the last line is the answer; what changes is listed before the store is changed
+    cp out answer
+    if [ "$1" = rework ]; then
+        grep '^changed' out >answer
+        [ "$is" = before ] || grep -q '^3055501' out || fault 'the store has changed, and what changed is listed nowhere'
+    fi
+    if [ -s answer ] && [ "$is" != after ]; then fault "it answered '$(cat answer)', and the store is as before"; fi
     case $how in
     full | once)
         # the program has ended by itself: it tells, and leaves nothing lying about

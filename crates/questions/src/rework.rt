@@ -1,4 +1,5 @@
-// rework STORE: every entry worked out again from the journals, put on the disk, and then those that changed listed.
+// rework STORE: every entry worked out again from the journals. Those that change are listed, then all are put on the disk, and then
+// their count is printed: where that line stands, both are done, and where it is missing, the store is as it was and lists them again.
 use crate::compared;
 use crate::table;
 use commands::end;
@@ -22,7 +23,7 @@ use reworking::rework::Reworked;
 
 // What it came to.
 pub enum Came {
-    // so many entries changed, and all are on the disk
+    // so many entries changed, they are listed, and all are on the disk
     Changed(usize),
     // the store is damaged, and as it was
     Damaged,
@@ -48,73 +49,6 @@ fn keep(
         return Came::Changed(changed);
     }
     Came::Failed
-}
-
-// Works out the entries, keeps them as they were in `before`, and lists the places of those that changed. `own` says that they were
-// worked out with this program's holiday list.
-fn rework_loaded<'a>(
-    folder: &[u8],
-    lines: &[u8; TABLE],
-    files: &'a [u8; FILES],
-    regular: &'a [u8; REGULAR],
-    corrections: &'a [u8; CORRECTIONS],
-    entries: &mut [u8; ENTRIES],
-    before: &mut [u8; ENTRIES],
-    list: &mut [u16; NUMBERS],
-    own: bool,
-) -> Came {
-    copy_in(before, 0, entries);
-    let all = journals::files::FILES;
-    match reworking::rework::rework(lines, files, regular, corrections, entries, all, list) {
-        Reworked::Unreadable => Came::Damaged,
-        Reworked::Changed(n) => keep(folder, lines, files, regular, corrections, entries, own, n),
-    }
-}
-
-// The same for the store in a folder.
-fn rework_stored(
-    folder: &[u8],
-    lines: &mut [u8; TABLE],
-    entries: &mut [u8; ENTRIES],
-    before: &mut [u8; ENTRIES],
-    list: &mut [u16; NUMBERS],
-) -> Came {
-    let mut files = [0u8; FILES];
-    let mut regular = [0u8; REGULAR];
-    let mut corrections = [0u8; CORRECTIONS];
-    match saved::load(
-        folder,
-        lines,
-        &mut files,
-        &mut regular,
-        &mut corrections,
-        entries,
-    ) {
-        Loaded::Missing => Came::Failed,
-        Loaded::Damaged => Came::Damaged,
-        Loaded::OtherList => rework_loaded(
-            folder,
-            lines,
-            &files,
-            &regular,
-            &corrections,
-            entries,
-            before,
-            list,
-            false,
-        ),
-        Loaded::Ready => rework_loaded(
-            folder,
-            lines,
-            &files,
-            &regular,
-            &corrections,
-            entries,
-            before,
-            list,
-            true,
-        ),
-    }
 }
 
 // The line of the number at a place of the table.
@@ -154,13 +88,15 @@ fn print_listed(
     p
 }
 
-fn print(
-    n: usize,
+// Whether the lines of the first n places of the list could be printed; the reason has been told where not.
+fn list_changed(
+    folder: &[u8],
     lines: &[u8; TABLE],
     before: &[u8; ENTRIES],
     entries: &[u8; ENTRIES],
     list: &[u16; NUMBERS],
-) -> u8 {
+    n: usize,
+) -> bool {
     let mut room = [0u8; ROOM];
     let p = print_listed(
         page::begin(STDOUT_FILENO),
@@ -171,24 +107,123 @@ fn print(
         before,
         entries,
     );
+    if end::done(p, &room, 0) == 0 {
+        return true;
+    }
+    words::complain(
+        folder,
+        b"what changes can't be listed, and the store is as it was",
+    );
+    false
+}
+
+// Lists what changed, and then writes the store: afterwards nothing could tell it any more. `own` says that the entries were worked out
+// with this program's holiday list.
+fn settle(
+    folder: &[u8],
+    lines: &[u8; TABLE],
+    files: &[u8; FILES],
+    regular: &[u8; REGULAR],
+    corrections: &[u8; CORRECTIONS],
+    entries: &[u8; ENTRIES],
+    before: &[u8; ENTRIES],
+    list: &[u16; NUMBERS],
+    own: bool,
+    n: usize,
+) -> Came {
+    if list_changed(folder, lines, before, entries, list, n) {
+        return keep(folder, lines, files, regular, corrections, entries, own, n);
+    }
+    Came::Failed
+}
+
+// Works out the entries of a store that has been loaded.
+fn rework_loaded<'a>(
+    folder: &[u8],
+    lines: &[u8; TABLE],
+    files: &'a [u8; FILES],
+    regular: &'a [u8; REGULAR],
+    corrections: &'a [u8; CORRECTIONS],
+    entries: &mut [u8; ENTRIES],
+    own: bool,
+) -> Came {
+    let mut before = [0u8; ENTRIES];
+    let mut list = [0u16; NUMBERS];
+    copy_in(&mut before, 0, entries);
+    let all = journals::files::FILES;
+    match reworking::rework::rework(lines, files, regular, corrections, entries, all, &mut list) {
+        Reworked::Unreadable => Came::Damaged,
+        Reworked::Changed(n) => settle(
+            folder,
+            lines,
+            files,
+            regular,
+            corrections,
+            entries,
+            &before,
+            &list,
+            own,
+            n,
+        ),
+    }
+}
+
+// The same for the store in a folder.
+fn rework_stored(folder: &[u8], lines: &mut [u8; TABLE]) -> Came {
+    let mut files = [0u8; FILES];
+    let mut regular = [0u8; REGULAR];
+    let mut corrections = [0u8; CORRECTIONS];
+    let mut entries = [0u8; ENTRIES];
+    match saved::load(
+        folder,
+        lines,
+        &mut files,
+        &mut regular,
+        &mut corrections,
+        &mut entries,
+    ) {
+        Loaded::Missing => Came::Failed,
+        Loaded::Damaged => Came::Damaged,
+        Loaded::OtherList => rework_loaded(
+            folder,
+            lines,
+            &files,
+            &regular,
+            &corrections,
+            &mut entries,
+            false,
+        ),
+        Loaded::Ready => rework_loaded(
+            folder,
+            lines,
+            &files,
+            &regular,
+            &corrections,
+            &mut entries,
+            true,
+        ),
+    }
+}
+
+// The last line, once all is done.
+fn print(n: usize, lines: &[u8; TABLE]) -> u8 {
+    let mut room = [0u8; ROOM];
+    let p = page::begin(STDOUT_FILENO);
     let q = compared::count(p, &mut room, b"changed", n, table::count(lines));
     end::done(q, &room, 0)
 }
 
 fn rework_in(folder: &[u8]) -> u8 {
     let mut lines = [0u8; TABLE];
-    let mut entries = [0u8; ENTRIES];
-    let mut before = [0u8; ENTRIES];
-    let mut list = [0u16; NUMBERS];
     if !lock::take(folder) {
         return 2;
     }
-    let came = rework_stored(folder, &mut lines, &mut entries, &mut before, &mut list);
+    let came = rework_stored(folder, &mut lines);
     lock::release(folder);
     match came {
         Came::Failed => 2,
         Came::Damaged => opened::damaged(folder),
-        Came::Changed(n) => print(n, &lines, &before, &entries, &list),
+        Came::Changed(n) => print(n, &lines),
     }
 }
 
