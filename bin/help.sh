@@ -131,9 +131,9 @@ Works every entry out again from the journals: for a store whose entries were
 worked out with another holiday list, which no other command takes, and for one
 whose table is wrong. Prints for each entry that changes NUMBER, HOLDER LAST OPEN
 as stored, HOLDER LAST OPEN as worked out; then all is put on the disk, and then
-`changed` N `of` M is printed. Without that line the store is as it was. What
-changes is listed once: a second call lists none. Or `refused` 44 where the store
-is damaged.
+`changed` N `of` M is printed. With that line all is done; without it, call it
+again. What changes is listed once: a second call then lists none. Or `refused`
+44 where the store is damaged.
 
   dagskimra rework books >changed.txt
 END

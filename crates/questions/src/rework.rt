@@ -1,5 +1,5 @@
 // rework STORE: every entry worked out again from the journals. Those that change are listed, then all are put on the disk, and then
-// their count is printed: where that line stands, both are done, and where it is missing, the store is as it was and lists them again.
+// their count is printed. So nothing changes on the disk that is not listed, and with the last line all is done.
 use crate::compared;
 use crate::table;
 use commands::end;
