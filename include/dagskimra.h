@@ -46,7 +46,7 @@ extern "C" {
 #define DAGSKIMRA_LAST_DAY 18992
 
 /* How many days the holiday list has. The entries of a store were worked out with the list of their time: keep this number beside the buffers, and where
- * it is another, call dagskimra_rework before all else. (31 October 2017 came to the list as the 469th day.) */
+ * it is another, call dagskimra_rework before all else. (With 31 October 2017 there are 469; before, there were 468.) */
 #define DAGSKIMRA_HOLIDAYS 469
 
 /* Kinds of file, and journals. */

@@ -1,6 +1,7 @@
 -- The paper's worked days and reports hold of the definitions: antt computes each line, and the calendar's `kth` says which day a count of working
 -- days leads to. Assumes nothing.
 use mathlib.Core.Path.{_≡_, refl, ap}
+use mathlib.Core.Bool.{false}
 use mathlib.Core.List.{[], _∷_, flatMap, zipWith}
 use lib.Dec.{lit≤}
 use lib.ListN.{length}
@@ -27,7 +28,7 @@ use Rattle.layout.specs.Report.{wholeOf, reportFrom, reportOf}
 use Rattle.layout.specs.Correction.{headOf, reportedOf, isSound, soundOf, threeOf, correctionOf, namedNumber}
 use Rattle.places.specs.Places.{holdsOpen, isFree, lapsed}
 use Rattle.correction_rules.specs.Corrections.{isAmong}
-use Rattle.report_tests.specs.Tests.{returnPeriod}
+use Rattle.report_tests.specs.Tests.{returnPeriod, notYet}
 use Rattle.verdict.specs.Step.{standOn, entryAfter}
 use Rattle.model.specs.Model.{events, journal, about, named, history, entryOver, before as earlier, verdictOver, started, filed, lineOf, judged, verdictOf}
 use Rattle.rules.specs.Records.{numberIn, classIn, saysIn}
@@ -58,6 +59,10 @@ formerly-five = refl
 now-five : keep working (daysAfter 7237 7245) ≡ 7238 ∷ 7239 ∷ 7242 ∷ 7244 ∷ 7245 ∷ []
 unfolding sumTo table any keep flatMap put leap monthDays yearStart monthStart dayNumber weekday easter nineOf holidaysOf years holidays working daysAfter
 now-five = refl
+
+not-too-soon : notYet (on 7244) (On (on (lastOf (keep formerlyWorking (daysAfter 7237 7244))))) ≡ false
+unfolding lastOf
+not-too-soon = rw formerly-five
 
 five-in-2017 : workingDayAfter 7237 returnPeriod ≡ On (on 7245)
 unfolding sumTo table any keep flatMap put leap monthDays yearStart monthStart dayNumber weekday easter nineOf holidaysOf years holidays working daysAfter workingAfter
@@ -96,6 +101,8 @@ worked-through = (
   formerly-five,
   now-five,
   five-in-2017,
+  not-too-soon,
+  rw five-in-2017,
   rw five-in-2017,
   rw five-in-2017,
 )

@@ -3,7 +3,7 @@
 -- a store whose table has the one number 3055501. Behind them the return that moved when 31 October 2017 came to the holiday list. Assumes
 -- nothing: these are definitions.
 use mathlib.Core.Path.{_≡_}
-use mathlib.Core.Bool.{true}
+use mathlib.Core.Bool.{true, false}
 use mathlib.Core.List.{List, [], _∷_, _++_, map, foldl}
 use Prim.Native.Nat.{ℕ}
 use lib.ListN.{getD}
@@ -29,6 +29,7 @@ use Rattle.entries.specs.declared.entry.Entry.{Entry}
 use Rattle.entries.specs.declared.entry.Last.{Last}
 use Rattle.entries.specs.declared.entry.Last.the-variants.{Never, On}
 use Rattle.entries.specs.Entry.{firstEntry}
+use Rattle.report_tests.specs.Tests.{returnPeriod, notYet}
 use Rattle.verdict.specs.declared.step.Why.{Why}
 use Rattle.verdict.specs.declared.step.Why.the-variants.{Nothing, Pair}
 use Rattle.model.specs.Rules.{TableLine}
@@ -199,6 +200,9 @@ WorkedThrough =
     (keep formerlyWorking (daysAfter 7237 7244) ≡ 7238 ∷ 7239 ∷ 7242 ∷ 7243 ∷ 7244 ∷ []) ×
     (keep working (daysAfter 7237 7245) ≡ 7238 ∷ 7239 ∷ 7242 ∷ 7244 ∷ 7245 ∷ []) ×
     (afterDate 5 2017 10 25 ≡ onDate 2017 11 2) ×
-    -- so the P published 11-01, which was confirmed, gets 21 and the holder stays D002; published 11-02 it gets 11 and the holder is D001
+    -- so the P published 11-01 did not come before the fifth working day after its Z, and was confirmed; now it does
+    (notYet (on 7244) (OnDay (on (lastOf (keep formerlyWorking (daysAfter 7237 7244))))) ≡ false) ×
+    (notYet (on 7244) (workingDayAfter 7237 returnPeriod) ≡ true) ×
+    -- it gets 21 and the holder stays D002; published 11-02 it gets 11 and the holder is D001
     (comeToIn2017 (returnedIn2017 7244) ≡ shown (10 ∷ 11 ∷ 10 ∷ 21 ∷ []) 2 (On (on 7004)) pair12in2017) ×
     (comeToIn2017 (returnedIn2017 7245) ≡ shown (10 ∷ 11 ∷ 10 ∷ 11 ∷ []) 1 (On (on 7236)) pair21in2017)
