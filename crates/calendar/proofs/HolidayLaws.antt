@@ -1,16 +1,17 @@
 -- The holiday list: how long it is, the rule at each entry, that it never falls, its one equal neighbouring pair, and what came to it with
 -- 31 October 2017. antt computes each.
 -- Assumes nothing.
-use mathlib.Core.Path.{_≡_, refl, sym, _∙_, ap}
-use mathlib.Core.Bool.{Bool, true, false, cond, _&&_, _||_, not}
-use mathlib.Core.List.{List, [], _∷_, _++_, flatMap}
-use Prim.Native.Nat.{ℕ, zero, suc, _+_, _/_, _%_, _<_}
-use lib.Dec.{ltb, eqb}
+use mathlib.Core.Path.{_≡_, refl, ap, _∙_}
+use mathlib.Core.Bool.{Bool, true, false, _||_}
+use mathlib.Core.List.{[], _∷_, _++_, flatMap}
+use Prim.Native.Nat.{ℕ, _+_, _/_, _%_, _<_}
+use lib.Dec.{eqb}
 use lib.ListN.{length, getD, take, drop}
 use borrow.Author.Tests.{eqb-true}
 use Rattle.laws.specs.Sums.{sumTo}
 use Rattle.laws.specs.Lists.{table, all, any}
 use Rattle.laws.specs.Order.{put, neverFalls}
+use Rattle.laws.proofs.Lists.{any-put-in}
 use Rattle.laws.proofs.Tables.{tested}
 use Rattle.calendar.specs.Dates.{leap, monthDays, yearStart, monthStart, dayNumber, weekday}
 use Rattle.calendar.specs.Holidays.{easter, nineOf, holidaysOf, years, holidays, working}
@@ -47,20 +48,6 @@ pub holiday-list : HolidayList
 holiday-list = (holidays-length, never-falls, one-pair)
 
 -- ---- what came to the list, and what did not
--- one of two comes first, or the other
-first-or : (a b c : Bool) → (a || (b || c)) ≡ (b || (a || c))
-first-or true true c = refl
-first-or true false c = refl
-first-or false true c = refl
-first-or false false c = refl
-
--- wherever an element is put in, it is tested with the others
-any-put-in : (p : ℕ → Bool) (x n : ℕ) (l : List ℕ) → any p (take n l ++ (x ∷ drop n l)) ≡ (p x || any p l)
-unfolding any
-any-put-in p x zero l = refl
-any-put-in p x (suc n) [] = refl
-any-put-in p x (suc n) (y ∷ l) = ap (λ (b : Bool). p y || b) (any-put-in p x n l) ∙ first-or (p y) (p x) (any p l)
-
 in-list : (d : ℕ) → any (eqb d) holidays ≡ (eqb d (dayNumber 2017 10 31) || any (eqb d) formerHolidays)
 in-list d = ap (any (eqb d)) one-put-in ∙ any-put-in (eqb d) (dayNumber 2017 10 31) 178 formerHolidays
 

@@ -5,9 +5,9 @@ use mathlib.Core.Bool.{Bool, true, false, cond, not, _&&_, _||_, true≢false}
 use mathlib.Core.List.{List, [], _∷_, _++_, append-nil, append-assoc, map, flatMap, zipWith, List·Memᴰ, List·Memᴰ·head, List·Memᴰ·tail, List·Memᴰ·not-nil, List·Memᴰ·cases-cons, List·Memᴰ·append-cases, List·Memᴰ·eq-of-singleton, List·Permᴰ, List·Permᴰ·nil, List·Permᴰ·cons, List·Permᴰ·swap, List·Permᴰ·trans, Permᴰ·refl, Permᴰ·symm, Permᴰ·append-left, Permᴰ·middle}
 use Prim.Native.Nat.{ℕ, zero, suc, _+_, _≤_, _<_}
 use native.Mathlib.Omega.{arith}
-use lib.ListN.{length, getD, take, length-append}
+use lib.ListN.{length, getD, take, drop, length-append}
 use Rattle.laws.specs.Lists.{table, keep, any, all, total}
-use Rattle.laws.proofs.Tests.{and-left, and-right}
+use Rattle.laws.proofs.Tests.{and-left, and-right, or-left, or-right, or-exchange}
 
 module _ {A : Type 0} where
   pub keep-yes : (p : A → Bool) (x : A) (xs : List A) → p x ≡ true → keep p (x ∷ xs) ≡ x ∷ keep p xs
@@ -139,6 +139,19 @@ module _ {A : Type 0} where
       go : (t : Bool) → p x ≡ t → (t || any p l) ≡ false → (any p l ≡ false → List·Memᴰ a l → p a ≡ false) → p a ≡ false
       go true e h ih = cc
       go false e h ih = ⊎-elim (λ q. ap p q ∙ e) (ih h) (List·Memᴰ·cases-cons m)
+
+  -- where none of two lists together passes, none of the first does
+  pub none-in-front : (p : A → Bool) (a b : List A) → any p (a ++ b) ≡ false → any p a ≡ false
+  unfolding any
+  none-in-front p [] b h = refl
+  none-in-front p (x ∷ a) b h = rw (or-left (p x) (any p (a ++ b)) h) (none-in-front p a b (or-right (p x) (any p (a ++ b)) h))
+
+  -- wherever an element is put in, it is tested with the others
+  pub any-put-in : (p : A → Bool) (x : A) (n : ℕ) (l : List A) → any p (take n l ++ (x ∷ drop n l)) ≡ (p x || any p l)
+  unfolding any
+  any-put-in p x zero l = refl
+  any-put-in p x (suc n) [] = refl
+  any-put-in p x (suc n) (y ∷ l) = ap (λ (b : Bool). p y || b) (any-put-in p x n l) ∙ or-exchange (p y) (p x) (any p l)
 
   -- where each element passes, this one does
   pub all-mem : {a : A} (p : A → Bool) (l : List A) → all p l ≡ true → List·Memᴰ a l → p a ≡ true

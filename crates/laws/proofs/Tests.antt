@@ -33,6 +33,17 @@ pub or-right : (a b : Bool) → (a || b) ≡ false → b ≡ false
 or-right true b p = cc
 or-right false b p = p
 
+-- a test that is turned round
+pub not-yes : (b : Bool) → not b ≡ true → b ≡ false
+not-yes true e = sym e
+not-yes false e = refl
+
+-- either of two may be asked first
+pub or-exchange : (a b c : Bool) → (a || (b || c)) ≡ (b || (a || c))
+or-exchange true true c = refl
+or-exchange true false c = refl
+or-exchange false b c = refl
+
 -- a test and another are the same
 pub both-true : (a b : Bool) → ((a && b) || (not a && not b)) ≡ true → a ≡ b
 both-true true true p = refl

@@ -12,16 +12,12 @@ use lib.Dec.{eqb}
 use borrow.Author.Tests.{eqb-true, eqb-false, eq-eqb}
 use Rattle.laws.specs.Lists.{any, all, noneTwice}
 use Rattle.laws.specs.Order.{sorted, rising, count}
-use Rattle.laws.proofs.Tests.{and-left, and-right, and-true}
+use Rattle.laws.proofs.Tests.{and-left, and-right, and-true, not-yes}
 use Rattle.laws.proofs.Firsts.{none-at}
 use Rattle.laws.proofs.Rising.{count-here, count-nil, count-other, count-sorted, distinct-rising, rising-distinct}
 
 false≢true : false ≡ true → ⊥
 false≢true e = let z : _≡_ {A = ℕ} 0 1 = cc in omega arith
-
-not-yes : (b : Bool) → not b ≡ true → b ≡ false
-not-yes true e = sym e
-not-yes false e = refl
 
 module _ {A : Type 0} (same : A → A → Bool) (key : A → ℕ) where
   -- ---- equal elements have equal numbers

@@ -9,7 +9,7 @@
 use mathlib.Core.Path.{_≡_, refl, sym, ap, _∙_, subst}
 use mathlib.Core.Logic.{⊎-elim}
 use mathlib.Core.Option.{Option, some, none, Option·map}
-use mathlib.Core.Bool.{Bool, true, false, cond, not, _&&_, _||_}
+use mathlib.Core.Bool.{Bool, true, false, cond, not}
 use mathlib.Core.List.{List, [], _∷_, _++_, append-nil, append-assoc, map, flatMap, zipWith, List·Memᴰ·not-nil, Perm}
 use Prim.Native.Nat.{ℕ, _≤_, _<_}
 use native.Mathlib.Omega.{arith}
@@ -19,8 +19,8 @@ use Rattle.laws.specs.Lists.{keep, any}
 use Rattle.laws.specs.Order.{inOrder}
 use Rattle.model.specs.Rules.{Line, Event, Rules, Lawful}
 use Rattle.model.specs.Model.{Filed, Store, Reached, start, file, alike, noFileTwice, journal, about, named, history, entryOver, started, renewed, filed, numberOf, entryOf, lineOf, judged, verdictOf, entriesBefore, Later, now, then}
-use Rattle.laws.proofs.Tests.{le-or-lt, and-left, and-right}
-use Rattle.laws.proofs.Lists.{zip-map}
+use Rattle.laws.proofs.Tests.{le-or-lt, and-left, and-right, not-yes}
+use Rattle.laws.proofs.Lists.{zip-map, none-in-front}
 use Rattle.model.proofs.Files.{Once, once-more, twice-more, renewed-worked, entry-of, entry-depends, history-any-order, entry-any-order, verdict-any-order}
 
 module _ (R : Rules) where
@@ -92,24 +92,11 @@ module _ (R : Rules) where
   reached-once (file {s = s} r h new) = once-more (s .files) h (reached-once r) new
 
 -- ---- a store without a file twice whose entries are the ones worked out is reached, however its entries came to be
-not-so : (t : Bool) → not t ≡ true → t ≡ false
-not-so true e = cc
-not-so false e = refl
-
-none-in-front : {A : Type 0} (p : A → Bool) (a b : List A) → any p (a ++ b) ≡ false → any p a ≡ false
-unfolding any
-none-in-front p [] b h = refl
-none-in-front p (x ∷ a) b h = go (p x) h (none-in-front p a b)
-  where
-    go : (t : Bool) → (t || any p (a ++ b)) ≡ false → (any p (a ++ b) ≡ false → any p a ≡ false) → (t || any p a) ≡ false
-    go true q ih = q
-    go false q ih = ih q
-
 once-in-front : (a b : List Filed) → noFileTwice (a ++ b) ≡ true → noFileTwice a ≡ true
 unfolding noFileTwice
 once-in-front [] b h = refl
 once-in-front (f ∷ a) b h =
-    rw (none-in-front (alike f) a b (not-so (any (alike f) (a ++ b)) (and-left (not (any (alike f) (a ++ b))) (noFileTwice (a ++ b)) h)))
+    rw (none-in-front (alike f) a b (not-yes (any (alike f) (a ++ b)) (and-left (not (any (alike f) (a ++ b))) (noFileTwice (a ++ b)) h)))
     (once-in-front a b (and-right (not (any (alike f) (a ++ b))) (noFileTwice (a ++ b)) h))
 
 module _ (R : Rules) where
@@ -120,7 +107,7 @@ module _ (R : Rules) where
   reach-on {s} r (f ∷ fs) h =
       let e : (s .files ++ (f ∷ [])) ++ fs ≡ s .files ++ (f ∷ fs) = append-assoc (s .files) (f ∷ []) fs in
       let once : noFileTwice ((s .files ++ (f ∷ [])) ++ fs) ≡ true = ap noFileTwice e ∙ h in
-      let new : any (alike f) (s .files) ≡ false = not-so _ (and-right (noFileTwice (s .files)) _ (sym (twice-more (s .files) f) ∙ once-in-front (s .files ++ (f ∷ [])) fs once)) in
+      let new : any (alike f) (s .files) ≡ false = not-yes _ (and-right (noFileTwice (s .files)) _ (sym (twice-more (s .files) f) ∙ once-in-front (s .files ++ (f ∷ [])) fs once)) in
       let w = reach-on (file r f new) fs once in
       (w .0, w .1, w .2, w .3 ∙ e)
 

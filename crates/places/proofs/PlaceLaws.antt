@@ -4,7 +4,7 @@
 --     thinned-set, thinned-map    which the place of a correction's report and a confirmation do
 --     apart-at            what it says of any two places
 --     found               what stands in the place of an open report
-use mathlib.Core.Path.{_≡_, refl, sym, _∙_}
+use mathlib.Core.Path.{_≡_, refl, _∙_}
 use mathlib.Core.Bool.{Bool, true, false, cond, not, _&&_}
 use mathlib.Core.List.{List, [], _∷_, map}
 use Prim.Native.Nat.{ℕ, zero, suc, _<_}
@@ -12,7 +12,7 @@ use native.Mathlib.Omega.{arith}
 use lib.Dec.{leb}
 use lib.ListN.{length, getD, set}
 use Rattle.laws.specs.Lists.{any}
-use Rattle.laws.proofs.Tests.{and-left, and-right, and-true, or-left, or-right, eqb-comm}
+use Rattle.laws.proofs.Tests.{and-left, and-right, and-true, or-left, or-right, not-yes, eqb-comm}
 use Rattle.laws.proofs.Firsts.{first-passes, none-at, none-set}
 use Rattle.calendar.specs.declared.dates.CalendarDays.{CalendarDays}
 use Rattle.fields.specs.declared.kind.Kind.{Kind}
@@ -58,11 +58,7 @@ abbrev alone : Place → List Place → Bool
 alone p ps = not (p .taken && isOpen (p .report .kind) (p .report) ps)
 
 alone-no : (p : Place) (ps : List Place) → alone p ps ≡ true → p .taken ≡ true → isOpen (p .report .kind) (p .report) ps ≡ false
-alone-no p ps e t = go (isOpen (p .report .kind) (p .report) ps) (rw t at e)
-  where
-    go : (b : Bool) → not b ≡ true → b ≡ false
-    go true e = sym e
-    go false e = refl
+alone-no p ps e t = not-yes (isOpen (p .report .kind) (p .report) ps) (rw t at e)
 
 alone-so : (p : Place) (ps : List Place) → (p .taken ≡ true → isOpen (p .report .kind) (p .report) ps ≡ false) → alone p ps ≡ true
 alone-so p ps h = go (p .taken) h

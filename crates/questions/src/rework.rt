@@ -21,8 +21,8 @@ use page::Page;
 use page::ROOM;
 use reworking::rework::Reworked;
 
-// What it came to.
-pub enum Came {
+// How it ended.
+pub enum Ended {
     // so many entries changed, they are listed, and all are on the disk
     Changed(usize),
     // the store is damaged, and as it was
@@ -41,14 +41,14 @@ fn keep(
     entries: &[u8; ENTRIES],
     own: bool,
     changed: usize,
-) -> Came {
+) -> Ended {
     if own & (changed == 0) {
-        return Came::Changed(0);
+        return Ended::Changed(0);
     }
     if saved::save(folder, lines, files, regular, corrections, entries) {
-        return Came::Changed(changed);
+        return Ended::Changed(changed);
     }
-    Came::Failed
+    Ended::Failed
 }
 
 // The line of the number at a place of the table.
@@ -130,11 +130,11 @@ fn settle(
     list: &[u16; NUMBERS],
     own: bool,
     n: usize,
-) -> Came {
+) -> Ended {
     if list_changed(folder, lines, before, entries, list, n) {
         return keep(folder, lines, files, regular, corrections, entries, own, n);
     }
-    Came::Failed
+    Ended::Failed
 }
 
 // Works out the entries of a store that has been loaded.
@@ -146,13 +146,13 @@ fn rework_loaded<'a>(
     corrections: &'a [u8; CORRECTIONS],
     entries: &mut [u8; ENTRIES],
     own: bool,
-) -> Came {
+) -> Ended {
     let mut before = [0u8; ENTRIES];
     let mut list = [0u16; NUMBERS];
     copy_in(&mut before, 0, entries);
     let all = journals::files::FILES;
     match reworking::rework::rework(lines, files, regular, corrections, entries, all, &mut list) {
-        Reworked::Unreadable => Came::Damaged,
+        Reworked::Unreadable => Ended::Damaged,
         Reworked::Changed(n) => settle(
             folder,
             lines,
@@ -169,7 +169,7 @@ fn rework_loaded<'a>(
 }
 
 // The same for the store in a folder.
-fn rework_stored(folder: &[u8], lines: &mut [u8; TABLE]) -> Came {
+fn rework_stored(folder: &[u8], lines: &mut [u8; TABLE]) -> Ended {
     let mut files = [0u8; FILES];
     let mut regular = [0u8; REGULAR];
     let mut corrections = [0u8; CORRECTIONS];
@@ -182,8 +182,8 @@ fn rework_stored(folder: &[u8], lines: &mut [u8; TABLE]) -> Came {
         &mut corrections,
         &mut entries,
     ) {
-        Loaded::Missing => Came::Failed,
-        Loaded::Damaged => Came::Damaged,
+        Loaded::Missing => Ended::Failed,
+        Loaded::Damaged => Ended::Damaged,
         Loaded::OtherList => rework_loaded(
             folder,
             lines,
@@ -218,12 +218,12 @@ fn rework_in(folder: &[u8]) -> u8 {
     if !lock::take(folder) {
         return 2;
     }
-    let came = rework_stored(folder, &mut lines);
+    let ended = rework_stored(folder, &mut lines);
     lock::release(folder);
-    match came {
-        Came::Failed => 2,
-        Came::Damaged => opened::damaged(folder),
-        Came::Changed(n) => print(n, &lines),
+    match ended {
+        Ended::Failed => 2,
+        Ended::Damaged => opened::damaged(folder),
+        Ended::Changed(n) => print(n, &lines),
     }
 }
 

@@ -1,7 +1,7 @@
 -- The promises of demand 3 for a store that was reworked. Assumes nothing.
 --     resumed-reached     buffers that reworking and then filing lead to read as a store that the model reaches
 --     demand-3-resumed    in them every number's entry equals the one worked out afresh from the journals
-use mathlib.Core.Path.{_≡_, refl, sym, ap, _∙_, subst}
+use mathlib.Core.Path.{_≡_, refl, ap, _∙_}
 use mathlib.Core.Bool.{Bool, true, false, cond}
 use mathlib.Core.List.{List, map}
 use mathlib.Core.Option.{Option, none, some}
