@@ -13,7 +13,7 @@ use borrow.Author.Tests.{eq-eqb, ne-eqb, eqb-true, lt-ltb, le-ltb, not-true}
 use Rattle.laws.specs.Lists.{all, firstAt}
 use Rattle.laws.specs.Split.{before, split, joined, isNot, lacks, isSep, between, pieceOf, endOf, behind, EndsAt}
 use mathlib.Core.Logic.{_⊎_, ⊎-elim}
-use Rattle.laws.proofs.Tests.{and-left, and-right, le-or-lt, cond-le}
+use Rattle.laws.proofs.Tests.{and-left, and-right, le-or-lt, cond-le, eqb-refl}
 use Rattle.laws.proofs.Tables.{all-weaker, all-append}
 
 -- ---- one element more in front
@@ -172,3 +172,49 @@ all-joined q sep s (f ∷ []) h = and-left (all q f) true h
 all-joined q sep s (f ∷ g ∷ fs) h =
     all-append q f (sep ∷ joined sep (g ∷ fs))
     ∙ rw (and-left (all q f) (all (all q) (g ∷ fs)) h, s) (all-joined q sep s (g ∷ fs) (and-right (all q f) (all (all q) (g ∷ fs)) h))
+
+-- ---- what stands behind so many separators
+-- pieces with a separator between them have one
+lacks-none : {A : Type 0} (sep : ℕ) (f g : List ℕ) → lacks sep (f ++ sep ∷ g) ≡ true → A
+unfolding all isNot
+lacks-none sep f g h =
+    let e : lacks sep (sep ∷ g) ≡ true = and-right (lacks sep f) _ (sym (all-append (isNot sep) f (sep ∷ g)) ∙ h) in
+    let no : eqb sep sep ≡ false = not-true (eqb sep sep) (and-left (not (eqb sep sep)) _ e) in
+    absurd (let z : _≡_ {A = ℕ} 0 1 = cc (eqb-refl sep) in omega arith)
+
+module _ (sep : ℕ) (fs : List (List ℕ)) (k : ℕ) where
+  -- behind k separators nothing stands where there are no more than k pieces
+  pub rest-none : length fs ≤ k → joined sep (drop k fs) ≡ []
+  rest-none h = ap (joined sep) (drop-of-length-le fs h)
+
+  -- and the last piece where there is one more
+  pub rest-piece : length fs ≡ k + 1 → joined sep (drop k fs) ≡ getD fs k []
+  rest-piece h = ap (joined sep) (drop-cons fs k [] (omega arith) ∙ ap (_∷_ (getD fs k [])) (drop-of-length-le fs {i = suc k} (omega arith)))
+
+  -- where no separator stands behind them, there is no more than one piece more
+  pub rest-counted : lacks sep (joined sep (drop k fs)) ≡ true → length fs ≤ k + 1
+  rest-counted h =
+      ⊎-elim
+      (λ (l : length fs ≤ k + 1). l)
+      (λ (l : k + 1 < length fs).
+      let two : drop k fs ≡ getD fs k [] ∷ getD fs (suc k) [] ∷ drop (suc (suc k)) fs = drop-cons fs k [] (omega arith) ∙ ap (_∷_ (getD fs k [])) (drop-cons fs (suc k) [] (omega arith)) in
+      lacks-none sep (getD fs k []) (joined sep (getD fs (suc k) [] ∷ drop (suc (suc k)) fs)) (sym (ap (λ (gs : List (List ℕ)). lacks sep (joined sep gs)) two) ∙ h))
+      (le-or-lt (length fs) (k + 1))
+
+-- going from separator to separator: behind one, one fewer is left; where none is left, nothing stands behind it
+module _ (sep : ℕ) (s : List ℕ) (at k : ℕ) (h : at ≤ length s) where
+  pub rest-on : 0 < k → endOf sep s at < length s → joined sep (drop k (split sep (drop at s))) ≡ joined sep (drop (k - 1) (split sep (drop (endOf sep s at + 1) s)))
+  rest-on p l =
+      let e : k ≡ suc (k - 1) = omega arith in
+      ap (λ (n : ℕ). joined sep (drop n (split sep (drop at s)))) e ∙ ap (λ (fs : List (List ℕ)). joined sep (drop (suc (k - 1)) fs)) (ends-more (ends-at sep s at h) l)
+
+  pub rest-ended : 0 < k → length s ≤ endOf sep s at → joined sep (drop k (split sep (drop at s))) ≡ []
+  rest-ended p l = rest-none sep (split sep (drop at s)) k (omega (arith, ap length (ends-last (ends-at sep s at h) l)))
+
+-- the first separator behind a list without one
+pub first-past : (sep : ℕ) (f g : List ℕ) → lacks sep f ≡ true → firstAt (isSep sep) (f ++ sep ∷ g) ≡ length f
+unfolding all isNot isSep
+first-past sep [] g h = rw (eqb-refl sep)
+first-past sep (b ∷ f) g h =
+    rw (not-true (eqb b sep) (and-left (not (eqb b sep)) (lacks sep f) h))
+    (ap suc (first-past sep f g (and-right (not (eqb b sep)) (lacks sep f) h)))

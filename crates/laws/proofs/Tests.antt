@@ -1,4 +1,8 @@
 -- Laws of tests, and of a table of rules (`firstLine`) against code that tests one rule after the other.
+--     never               no test is both
+--     either              one of two tests holds
+--     agree-where         two tests agree if they agree where a fact holds, and each of them tells that fact
+--     chosen              a test of what another test chooses is that test
 --     applies, passes     a line whose test holds gives the answer; one whose test fails leaves it to the lines below
 --     so, not-so          what a callee's contract and a branch on its result say together
 --     rules               with these, and the laws of tests: `search rules depth N` proves a `return` from the branches that led there.
@@ -32,6 +36,23 @@ or-left false b p = refl
 pub or-right : (a b : Bool) → (a || b) ≡ false → b ≡ false
 or-right true b p = cc
 or-right false b p = p
+
+pub never : {A : Type 0} → false ≡ true → A
+never e = absurd (let z : _≡_ {A = ℕ} 0 1 = cc in omega arith)
+
+module _ {P : Type 0} where
+  pub either : (s t : Bool) → (s || t) ≡ true → (s ≡ true → P) → (t ≡ true → P) → P
+  either true t h f g = f refl
+  either false t h f g = g h
+
+  pub agree-where : (s t : Bool) → (s ≡ true → P) → (t ≡ true → P) → (P → s ≡ t) → s ≡ t
+  agree-where true t f g h = h (f refl)
+  agree-where false true f g h = h (g refl)
+  agree-where false false f g h = refl
+
+pub chosen : {A : Type 0} (q : A → Bool) (x y : A) → q x ≡ true → q y ≡ false → (t : Bool) → q (cond t x y) ≡ t
+chosen q x y e₁ e₂ true = e₁
+chosen q x y e₁ e₂ false = e₂
 
 -- a test that is turned round
 pub not-yes : (b : Bool) → not b ≡ true → b ≡ false

@@ -7,6 +7,7 @@ use mathlib.Core.Bool.{true, false}
 use mathlib.Core.List.{List}
 use lib.ListN.{length}
 use native.Mathlib.Decide.{ℕ-discrete}
+use Rattle.laws.proofs.Tests.{never}
 use Rattle.layout.specs.declared.part.PartRead.{PartRead}
 use Rattle.layout.specs.declared.report.ReportRead.{ReportRead}
 use Rattle.layout.specs.declared.correction.CorrectionRead.{CorrectionRead}
@@ -20,9 +21,6 @@ use Rattle.layout.proofs.RequestLaws as request
 use Rattle.names.specs.declared.kind.FileKind.{FileKind}
 use Rattle.names.specs.declared.kind.FileKind.the-variants.{Default, Correction, Request, Response}
 use Rattle.records.specs.Record.{isCorrection, isRequest, reportSpelt, correctionSpelt, requestSpelt, widthOf, fits, textOf}
-
-never : {A : Type 0} → false ≡ true → A
-never e = absurd (let z : _≡_ {A = ℕ} 0 1 = cc in omega arith)
 
 -- ---- how many words
 report-width : (w : List ℕ) → isReport (reportOfWords w) ≡ true → length w ≡ 6

@@ -12,6 +12,7 @@ use Rattle.laws.specs.Split.{lacks}
 use Rattle.laws.specs.Digits.{isDigit}
 use Rattle.laws.proofs.Split.{lacks-by}
 use Rattle.fields.specs.Bytes.{fieldByte, recordByte}
+use Rattle.laws.proofs.Tests.{never}
 use Rattle.layout.specs.declared.report.Report.{Report}
 use Rattle.layout.specs.declared.report.ReportRead.{ReportRead}
 use Rattle.layout.specs.declared.correction.CorrectionRead.{CorrectionRead}
@@ -28,9 +29,6 @@ use Rattle.closing.proofs.ClosingLaws.{begins-not}
 use Rattle.names.specs.declared.kind.FileKind.{FileKind}
 use Rattle.names.specs.declared.kind.FileKind.the-variants.{Default, Correction, Request, Response}
 use Rattle.records.specs.Record.{isCorrection, isRequest, isRecord, reportSpelt, correctionSpelt, requestSpelt, fits, textOf}
-
-never : {A : Type 0} → false ≡ true → A
-never e = absurd (let z : _≡_ {A = ℕ} 0 1 = cc in omega arith)
 
 -- ---- the bytes of a record
 report-record : (l : List ℕ) → isReport (reportOf l) ≡ true → all recordByte l ≡ true
