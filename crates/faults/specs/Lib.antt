@@ -1,0 +1,5 @@
+pub mod Cause
+pub mod Cut
+pub mod Field
+pub mod Six
+pub mod Record
