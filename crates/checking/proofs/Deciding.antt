@@ -53,7 +53,7 @@ module _ (b : Buffers) (e : isReadable b ≡ true) (kind : Filable) (day : ℕ) 
     room-decided false t m q = rw (← q)
 
     text-decided : (j : Judged) → judgedFile (fileKind kind) text ≡ j → judgedTo (held b .files) file j ≡ decisionOf kind day text (textChecked (hasRoom (b .files) kind) c j)
-    text-decided (Judged.Fault i) q = refl
+    text-decided (Judged.Fault place cause) q = refl
     text-decided (Judged.Records m) q = room-decided (withinLimits (held b .files ++ (file ∷ []))) (hasRoom (b .files) kind m) m (room-limits b e (c .0) day text m kind q)
 
     alike-decided : any (alike file) (held b .files) ≡ any (sameFile (sought kind (c .0) day)) (filesOf (b .files))
@@ -104,7 +104,7 @@ module _ (b : Buffers) (e : isReadable b ≡ true) (kind : Filable) (day : ℕ) 
     room-found d n false q = never Answer.Full q
 
     text-found : (d : Code) (j : Judged) → textChecked (hasRoom (b .files) kind) d j ≡ Passed c m → (d ≡ c) × (j ≡ Judged.Records m) × (hasRoom (b .files) kind m ≡ true)
-    text-found d (Judged.Fault i) q = never (Answer.Fault i) q
+    text-found d (Judged.Fault place cause) q = never (Answer.Fault place cause) q
     text-found d (Judged.Records n) q = let w = room-found d n (hasRoom (b .files) kind n) q in (w .1, ap Judged.Records (w .2), rw (w .2) at (w .0))
 
     new-found : (t : Bool) (u : Checked) → cond t (Refused Answer.FiledAlready) u ≡ Passed c m → (t ≡ false) × (u ≡ Passed c m)
@@ -164,7 +164,7 @@ module _ (files : List ℕ) (kind : Filable) (day : ℕ) where
   refuses-cond false u v p q = q
 
   refuses-text : (c : Code) (j : Judged) → refuses (textChecked (hasRoom files kind) c j) ≡ true
-  refuses-text c (Judged.Fault i) = refl
+  refuses-text c (Judged.Fault place cause) = refl
   refuses-text c (Judged.Records m) = refuses-cond (hasRoom files kind m) (Passed c m) (Refused Answer.Full) refl refl
 
   refuses-all : (r : CodeRead) (j : Judged) → refuses (checked files kind r day j) ≡ true

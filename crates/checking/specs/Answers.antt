@@ -9,5 +9,5 @@ answerNumber Unreadable = 44
 answerNumber NoCode = 1
 answerNumber NoDay = 2
 answerNumber FiledAlready = 3
-answerNumber (Fault place) = 4
+answerNumber (Fault place cause) = 4
 answerNumber Full = 5

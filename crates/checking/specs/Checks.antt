@@ -26,7 +26,7 @@ abbrev pub roomChecked : Bool → Code → ℕ → Checked
 roomChecked room c m = cond room (Passed c m) (Refused Full)
 
 abbrev pub textChecked : (ℕ → Bool) → Code → Judged → Checked
-textChecked room c (Judged.Fault i) = Refused (Answer.Fault i)
+textChecked room c (Judged.Fault place cause) = Refused (Answer.Fault place cause)
 textChecked room c (Judged.Records m) = roomChecked (room m) c m
 
 -- a file as it is looked for

@@ -38,7 +38,7 @@ pub data Decision : Type 0 where
 
 -- 4, then 5
 abbrev pub judgedTo : List Filed → Filed → Judged → Decision
-judgedTo files f (Judged.Fault i) = Refuse (Answer.Fault i)
+judgedTo files f (Judged.Fault place cause) = Refuse (Answer.Fault place cause)
 judgedTo files f (Judged.Records m) = cond (withinLimits (files ++ (f ∷ []))) (Accept f) (Refuse Full)
 
 -- 3

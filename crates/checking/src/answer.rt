@@ -1,16 +1,19 @@
 // What filing answers.
+use faults::cause::Cause;
+use faults::cause::FaultPlace;
 ghost use mathlib.Core.Path.{_≡_};
 ghost use Rattle.checking.specs.Answers.{answerNumber};
 
 // Filed, with the count of the journal records whose number the file names; or a refusal: the buffers don't read as a store, the publisher
-// is no network code, the day is outside the calendar, a file alike is filed, a record breaks its layout at a place, a limit would be passed.
+// is no network code, the day is outside the calendar, a file alike is filed, a record breaks its layout
+// (where, and why), a limit would be passed.
 pub enum Answer {
     Filed(usize),
     Unreadable,
     NoCode,
     NoDay,
     FiledAlready,
-    Fault(usize),
+    Fault(FaultPlace, Cause),
     Full,
 }
 
@@ -24,7 +27,7 @@ pub fn number(a: Answer) -> u8
         Answer::NoCode => 1,
         Answer::NoDay => 2,
         Answer::FiledAlready => 3,
-        Answer::Fault(_) => 4,
+        Answer::Fault(_, _) => 4,
         Answer::Full => 5,
     }
 }

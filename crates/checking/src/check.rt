@@ -82,7 +82,7 @@ fn check_text(files: &[u8], kind: Filable, code: Code, text: &[u8]) -> Checked
     ensures { λ r. ⌜ r ≡ textChecked (hasRoom (now (files .entry)) kind) code (judgedFile (fileKind kind) (now (text .entry))) ⌝ }
 {
     match judge::judge(kind.file_kind(), text) {
-        Judged::Fault(i) => Checked::Refused(Answer::Fault(i)),
+        Judged::Fault(place, cause) => Checked::Refused(Answer::Fault(place, cause)),
         Judged::Records(m) => check_room(files, kind, code, m),
     }
 }

@@ -16,9 +16,8 @@ use Rattle.closing.specs.Closing.{closingText}
 use Rattle.names.specs.declared.kind.FileKind.{FileKind}
 use Rattle.names.specs.Kind.{hasClosing}
 use Rattle.records.specs.Record.{widthOf, fits, textOf}
-use Rattle.files.specs.declared.judge.Judged.{Judged}
 use Rattle.composing.specs.declared.measure.Measured.{Measured}
-use Rattle.files.specs.Writing.{valuesIn, unfit, heldAll}
+use Rattle.files.specs.Writing.{Holding, valuesIn, unfit, heldAll}
 use Rattle.composing.specs.Measuring.{measuredFrom, recordLines, closedText}
 use Rattle.composing.proofs.GroupLaws.{groups-end, group-more}
 
@@ -56,17 +55,17 @@ unfolding measuredFrom all recordLines ended
 measured-is kind k total [] = rw (add-zero, add-zero)
 measured-is kind k total (v ∷ vs) = fits-cons kind k total v vs (fits kind v) refl (measured-is kind (k + 1) (total + (length (textOf kind v) + 1)) vs)
 
-pub measured-fault : (kind : FileKind) (vs : List (List ℕ)) (i : ℕ) → measuredFrom kind 0 0 vs ≡ Measured.Fault i → heldAll kind vs ≡ Judged.Fault i
+pub measured-fault : (kind : FileKind) (vs : List (List ℕ)) (i : ℕ) → measuredFrom kind 0 0 vs ≡ Measured.Fault i → heldAll kind vs ≡ Holding.Fault i
 unfolding heldAll
 measured-fault kind vs i e = go (all (fits kind) vs) (sym (measured-is kind 0 0 vs) ∙ e)
   where
     go : (t : Bool) → cond t (Measured.Length (0 + length vs) (0 + length (recordLines kind vs))) (Measured.Fault (0 + firstAt (unfit kind) vs)) ≡ Measured.Fault i
-        → cond t (Judged.Records (length vs)) (Judged.Fault (firstAt (unfit kind) vs)) ≡ Judged.Fault i
+        → cond t (Holding.Records (length vs)) (Holding.Fault (firstAt (unfit kind) vs)) ≡ Holding.Fault i
     go true e = absurd (let z : _≡_ {A = ℕ} 0 1 = cc in omega arith)
     go false e =
         let p : 0 + firstAt (unfit kind) vs ≡ i = cc in
         let q : firstAt (unfit kind) vs ≡ i = omega arith in
-        ap Judged.Fault q
+        ap Holding.Fault q
 
 -- what is known of records that were measured
 pub record Whole (kind : FileKind) (vs : List (List ℕ)) (n total : ℕ) : Type 0 where
@@ -84,7 +83,7 @@ measured-length kind vs n total e = go (all (fits kind) vs) refl (sym (measured-
         record { fit = p; count = omega arith; bytes = omega arith }
     go false p e = absurd (let z : _≡_ {A = ℕ} 0 1 = cc in omega arith)
 
-pub held-all : (kind : FileKind) (vs : List (List ℕ)) → all (fits kind) vs ≡ true → heldAll kind vs ≡ Judged.Records (length vs)
+pub held-all : (kind : FileKind) (vs : List (List ℕ)) → all (fits kind) vs ≡ true → heldAll kind vs ≡ Holding.Records (length vs)
 unfolding heldAll
 held-all kind vs p = rw p
 

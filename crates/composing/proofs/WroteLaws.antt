@@ -19,21 +19,20 @@ use Rattle.names.specs.Kind.{hasClosing}
 use Rattle.names.specs.Written.{Wrote}
 use Rattle.records.specs.Record.{widthOf, fits, textOf}
 use Rattle.records.proofs.RecordLaws.{fits-width}
-use Rattle.files.specs.declared.judge.Judged.{Judged}
-use Rattle.files.specs.Writing.{valuesIn, heldAll, heldOne, held, linesOf, fileText, fileOf, answerTo}
+use Rattle.files.specs.Writing.{Holding, valuesIn, heldAll, heldOne, held, linesOf, fileText, fileOf, answerTo}
 use Rattle.composing.specs.Measuring.{recordLines, closedText}
 use Rattle.composing.proofs.GroupLaws.{groups-end, group-more, width-some}
 use Rattle.composing.proofs.LayLaws.{length-lines, lines-none}
 
 -- ---- each answer
-module _ (h : Judged) (text before : List ℕ) where
-  pub wrote-fault : (i : ℕ) → h ≡ Judged.Fault i → Wrote (answerTo h text (length before)) text before before (Written.Fault i)
+module _ (h : Holding) (text before : List ℕ) where
+  pub wrote-fault : (i : ℕ) → h ≡ Holding.Fault i → Wrote (answerTo h text (length before)) text before before (Written.Fault i)
   wrote-fault i e = record { answer = rw e; bytes = rw e }
 
-  pub wrote-long : (n : ℕ) → h ≡ Judged.Records n → length before < length text → Wrote (answerTo h text (length before)) text before before Written.Long
+  pub wrote-long : (n : ℕ) → h ≡ Holding.Records n → length before < length text → Wrote (answerTo h text (length before)) text before before Written.Long
   wrote-long n e l = record { answer = rw (e, lt-leb (length text) (length before) l); bytes = rw (e, lt-leb (length text) (length before) l) }
 
-  pub wrote-whole : (n : ℕ) {after : List ℕ} {r : ℕ} → h ≡ Judged.Records n → length text ≤ length before → Laid before 0 text after r → Wrote (answerTo h text (length before)) text before after (Written.Length r)
+  pub wrote-whole : (n : ℕ) {after : List ℕ} {r : ℕ} → h ≡ Holding.Records n → length text ≤ length before → Laid before 0 text after r → Wrote (answerTo h text (length before)) text before after (Written.Length r)
   wrote-whole n e l p =
       record {
         answer = rw (e, le-leb (length text) (length before) l) (ap Written.Length (p .ends ∙ zero-add (length text)));
@@ -46,19 +45,19 @@ module _ (kind : FileKind) (ws : List ℕ) (w : ℕ) (g : List ℕ) (ew : w ≡ 
   first : 0 < length ws → valuesIn kind ws ≡ g ∷ valuesIn kind (drop w ws)
   first h = group-more kind ws 0 w g ew eg h ∙ ap (λ (k : ℕ). g ∷ valuesIn kind (drop k ws)) (zero-add w)
 
-  pub one-unfit : fits kind g ≡ false → heldOne kind (valuesIn kind ws) ≡ Judged.Fault 0
+  pub one-unfit : fits kind g ≡ false → heldOne kind (valuesIn kind ws) ≡ Holding.Fault 0
   unfolding heldOne
   one-unfit e = go (length ws) refl
     where
-      cons : (vs : List (List ℕ)) → heldOne kind (g ∷ vs) ≡ Judged.Fault 0
+      cons : (vs : List (List ℕ)) → heldOne kind (g ∷ vs) ≡ Holding.Fault 0
       cons [] = rw e
       cons (v ∷ vs) = rw e
 
-      go : (n : ℕ) → length ws ≡ n → heldOne kind (valuesIn kind ws) ≡ Judged.Fault 0
+      go : (n : ℕ) → length ws ≡ n → heldOne kind (valuesIn kind ws) ≡ Holding.Fault 0
       go zero q = ap (heldOne kind) (groups-end (widthOf kind) ws 0 (omega arith))
       go (suc n) q = ap (heldOne kind) (first (omega arith)) ∙ cons (valuesIn kind (drop w ws))
 
-  pub one-two : fits kind g ≡ true → w < length ws → heldOne kind (valuesIn kind ws) ≡ Judged.Fault 1
+  pub one-two : fits kind g ≡ true → w < length ws → heldOne kind (valuesIn kind ws) ≡ Holding.Fault 1
   unfolding heldOne
   one-two e h =
       ap (heldOne kind) (first (omega arith) ∙ ap (λ (vs : List (List ℕ)). g ∷ vs) (group-more kind ws w w (take w (drop w ws)) ew refl h))
@@ -70,7 +69,7 @@ module _ (kind : FileKind) (ws : List ℕ) (w : ℕ) (g : List ℕ) (ew : w ≡ 
   pub one-values : fits kind g ≡ true → length ws ≤ w → valuesIn kind ws ≡ g ∷ []
   one-values e h = first (words-some e) ∙ ap (λ (vs : List (List ℕ)). g ∷ vs) (groups-end (widthOf kind) ws w h)
 
-  pub one-held : fits kind g ≡ true → length ws ≤ w → heldOne kind (valuesIn kind ws) ≡ Judged.Records 1
+  pub one-held : fits kind g ≡ true → length ws ≤ w → heldOne kind (valuesIn kind ws) ≡ Holding.Records 1
   unfolding heldOne
   one-held e h = ap (heldOne kind) (one-values e h) ∙ rw e
 

@@ -25,9 +25,9 @@ use Rattle.names.specs.Kind.{hasClosing}
 use Rattle.records.specs.Record.{isRecord, fits, textOf}
 use Rattle.records.proofs.RecordTrip.{fits-record, record-lacks, record-begins}
 use Rattle.files.specs.declared.judge.Judged.{Judged}
-use Rattle.files.specs.declared.judge.Judged.the-variants.{Records, Fault}
+use Rattle.files.specs.declared.judge.Judged.the-variants.{Records}
 use Rattle.files.specs.Judged.{judged, judgedOne, judgedFile, recordsOf}
-use Rattle.files.specs.Writing.{valuesIn, unfit, heldAll, heldOne, held, linesOf, fileText, fileOf}
+use Rattle.files.specs.Writing.{Holding, valuesIn, unfit, heldAll, heldOne, held, linesOf, fileText, fileOf}
 use Rattle.files.proofs.LineTrip.{endOfFile, lines-read, lines-written, one-read, one-written}
 
 -- ---- the lines of a file that was written
@@ -70,22 +70,22 @@ has : (kind : FileKind) (file : List ℕ) (ts rest : List (List ℕ)) → judged
 unfolding recordsOf
 has kind file ts rest c l = record { count = c; texts = rw (c, l) (take-at ts rest (length ts) refl) }
 
-one-text : (p : List ℕ → Bool) (ts : List (List ℕ)) → length ts ≡ 1 → all p ts ≡ true → judgedOne p (ts ++ ([] ∷ [])) ≡ Records (length ts)
+one-text : (kind : FileKind) (ts : List (List ℕ)) → length ts ≡ 1 → all (isRecord kind) ts ≡ true → judgedOne kind (ts ++ ([] ∷ [])) ≡ Records (length ts)
 unfolding all
-one-text p [] h e = absurd (omega arith)
-one-text p (t ∷ []) h e = one-read p t (and-left (p t) true e)
-one-text p (t ∷ u ∷ ts) h e = absurd (omega arith)
+one-text kind [] h e = absurd (omega arith)
+one-text kind (t ∷ []) h e = one-read kind t (and-left (isRecord kind t) true e)
+one-text kind (t ∷ u ∷ ts) h e = absurd (omega arith)
 
-closed-judged : (kind : FileKind) (file : List ℕ) → hasClosing kind ≡ true → judgedFile kind file ≡ judged (isRecord kind) 0 (split 13 file)
+closed-judged : (kind : FileKind) (file : List ℕ) → hasClosing kind ≡ true → judgedFile kind file ≡ judged kind 0 (split 13 file)
 unfolding judgedFile
 closed-judged kind file c = rw c
 
-open-judged : (kind : FileKind) (file : List ℕ) → hasClosing kind ≡ false → judgedFile kind file ≡ judgedOne (isRecord kind) (split 13 file)
+open-judged : (kind : FileKind) (file : List ℕ) → hasClosing kind ≡ false → judgedFile kind file ≡ judgedOne kind (split 13 file)
 unfolding judgedFile
 open-judged kind file c = rw c
 
-start : (kind : FileKind) (ts : List (List ℕ)) → all (isRecord kind) ts ≡ true → judged (isRecord kind) 0 (ts ++ endOfFile (length ts + 1)) ≡ Records (length ts)
-start kind ts e = rw (zero-add (length ts)) at (lines-read (isRecord kind) (record-begins kind) ts 0 e)
+start : (kind : FileKind) (ts : List (List ℕ)) → all (isRecord kind) ts ≡ true → judged kind 0 (ts ++ endOfFile (length ts + 1)) ≡ Records (length ts)
+start kind ts e = rw (zero-add (length ts)) at (lines-read kind (record-begins kind) ts 0 e)
 
 pub file-read : (kind : FileKind) (ts : List (List ℕ)) → all (isRecord kind) ts ≡ true → (hasClosing kind ≡ false → length ts ≡ 1) → Has kind (fileText kind ts) ts
 file-read kind ts e single = go (hasClosing kind) refl
@@ -93,10 +93,10 @@ file-read kind ts e single = go (hasClosing kind) refl
     go : (t : Bool) → hasClosing kind ≡ t → Has kind (fileText kind ts) ts
     go true c =
         let l = file-lines kind ts e ∙ closed-lines kind ts c in
-        has kind (fileText kind ts) ts (endOfFile (length ts + 1)) (closed-judged kind (fileText kind ts) c ∙ ap (judged (isRecord kind) 0) l ∙ start kind ts e) l
+        has kind (fileText kind ts) ts (endOfFile (length ts + 1)) (closed-judged kind (fileText kind ts) c ∙ ap (judged kind 0) l ∙ start kind ts e) l
     go false c =
         let l = file-lines kind ts e ∙ open-lines kind ts c in
-        has kind (fileText kind ts) ts ([] ∷ []) (open-judged kind (fileText kind ts) c ∙ ap (judgedOne (isRecord kind)) l ∙ one-text (isRecord kind) ts (single c) e) l
+        has kind (fileText kind ts) ts ([] ∷ []) (open-judged kind (fileText kind ts) c ∙ ap (judgedOne kind) l ∙ one-text kind ts (single c) e) l
 
 -- ---- writing what was read
 -- the file is the one written from these texts, and each is a record
@@ -122,12 +122,12 @@ file-written kind file n e = go (hasClosing kind) refl
   where
     go : (t : Bool) → hasClosing kind ≡ t → (Is kind file (recordsOf kind file)) × (length (recordsOf kind file) ≡ n)
     go true c =
-        let w = lines-written (isRecord kind) (split 13 file) 0 n (sym (closed-judged kind file c) ∙ e) in
+        let w = lines-written kind (split 13 file) 0 n (sym (closed-judged kind file c) ∙ e) in
         let q : n ≡ length (w .texts) = w .count ∙ zero-add (length (w .texts)) in
         let t = counted kind file n (w .texts) (endOfFile (n + 1)) e q (w .lines) in
         rw t (record { whole = closed-file kind file (w .texts) c (w .lines ∙ ap (λ (k : ℕ). w .texts ++ endOfFile (k + 1)) q); records = w .records }, sym q)
     go false c =
-        let w = one-written (isRecord kind) (split 13 file) n (sym (open-judged kind file c) ∙ e) in
+        let w = one-written kind (split 13 file) n (sym (open-judged kind file c) ∙ e) in
         let t = counted kind file n (w .text ∷ []) ([] ∷ []) e (w .count) (w .lines) in
         rw t (record { whole = open-file kind file (w .text ∷ []) c (w .lines); records = one-all (isRecord kind) (w .text) (w .good) }, sym (w .count))
 
@@ -147,40 +147,40 @@ record Held (kind : FileKind) (vs : List (List ℕ)) (n : ℕ) : Type 0 where
   pub count : n ≡ length vs
   pub single : hasClosing kind ≡ false → length vs ≡ 1
 
-never : {n : ℕ} {A : Type 0} (i : ℕ) → Fault i ≡ Records n → A
+never : {n : ℕ} {A : Type 0} (i : ℕ) → Holding.Fault i ≡ Holding.Records n → A
 never i e = absurd (let z : _≡_ {A = ℕ} 0 1 = cc in omega arith)
 
-all-parts : (kind : FileKind) (vs : List (List ℕ)) (n : ℕ) → hasClosing kind ≡ true → heldAll kind vs ≡ Records n → Held kind vs n
+all-parts : (kind : FileKind) (vs : List (List ℕ)) (n : ℕ) → hasClosing kind ≡ true → heldAll kind vs ≡ Holding.Records n → Held kind vs n
 unfolding heldAll
 all-parts kind vs n c e = go (all (fits kind) vs) refl e
   where
-    go : (t : Bool) → all (fits kind) vs ≡ t → cond t (Records (length vs)) (Fault (firstAt (unfit kind) vs)) ≡ Records n → Held kind vs n
+    go : (t : Bool) → all (fits kind) vs ≡ t → cond t (Holding.Records (length vs)) (Holding.Fault (firstAt (unfit kind) vs)) ≡ Holding.Records n → Held kind vs n
     go true p e = let q : length vs ≡ n = cc in record { fit = p; count = sym q; single = λ o. absurd (let z : _≡_ {A = ℕ} 0 1 = cc in omega arith) }
     go false p e = never (firstAt (unfit kind) vs) e
 
-one-parts : (kind : FileKind) (vs : List (List ℕ)) (n : ℕ) → heldOne kind vs ≡ Records n → Held kind vs n
+one-parts : (kind : FileKind) (vs : List (List ℕ)) (n : ℕ) → heldOne kind vs ≡ Holding.Records n → Held kind vs n
 unfolding heldOne
 one-parts kind [] n e = never 0 e
 one-parts kind (v ∷ []) n e = go (fits kind v) refl e
   where
-    go : (t : Bool) → fits kind v ≡ t → cond t (Records 1) (Fault 0) ≡ Records n → Held kind (v ∷ []) n
+    go : (t : Bool) → fits kind v ≡ t → cond t (Holding.Records 1) (Holding.Fault 0) ≡ Holding.Records n → Held kind (v ∷ []) n
     go true p e = let q : 1 ≡ n = cc in record { fit = one-all (fits kind) v p; count = sym q; single = λ o. refl }
     go false p e = never 0 e
 one-parts kind (v ∷ w ∷ vs) n e = go (fits kind v) e
   where
-    go : (t : Bool) → cond t (Fault 1) (Fault 0) ≡ Records n → Held kind (v ∷ w ∷ vs) n
+    go : (t : Bool) → cond t (Holding.Fault 1) (Holding.Fault 0) ≡ Holding.Records n → Held kind (v ∷ w ∷ vs) n
     go true e = never 1 e
     go false e = never 0 e
 
-held-parts : (kind : FileKind) (vs : List (List ℕ)) (n : ℕ) → held kind vs ≡ Records n → Held kind vs n
+held-parts : (kind : FileKind) (vs : List (List ℕ)) (n : ℕ) → held kind vs ≡ Holding.Records n → Held kind vs n
 unfolding held
 held-parts kind vs n e = go (hasClosing kind) refl e
   where
-    go : (t : Bool) → hasClosing kind ≡ t → cond t (heldAll kind vs) (heldOne kind vs) ≡ Records n → Held kind vs n
+    go : (t : Bool) → hasClosing kind ≡ t → cond t (heldAll kind vs) (heldOne kind vs) ≡ Holding.Records n → Held kind vs n
     go true c e = all-parts kind vs n c e
     go false c e = one-parts kind vs n e
 
-pub words-read : (kind : FileKind) (words : List ℕ) (n : ℕ) → held kind (valuesIn kind words) ≡ Records n → (Has kind (fileOf kind words) (map (textOf kind) (valuesIn kind words))) × (length (valuesIn kind words) ≡ n)
+pub words-read : (kind : FileKind) (words : List ℕ) (n : ℕ) → held kind (valuesIn kind words) ≡ Holding.Records n → (Has kind (fileOf kind words) (map (textOf kind) (valuesIn kind words))) × (length (valuesIn kind words) ≡ n)
 unfolding fileOf
 words-read kind words n e =
     let vs : List (List ℕ) = valuesIn kind words in
@@ -188,7 +188,7 @@ words-read kind words n e =
     (file-read kind (map (textOf kind) vs) (texts-records kind vs (h .fit)) (λ c. length-map vs (textOf kind) ∙ h .single c), sym (h .count))
 
 -- and each of its values fits
-pub words-fit : (kind : FileKind) (words : List ℕ) (n : ℕ) → held kind (valuesIn kind words) ≡ Records n → all (fits kind) (valuesIn kind words) ≡ true
+pub words-fit : (kind : FileKind) (words : List ℕ) (n : ℕ) → held kind (valuesIn kind words) ≡ Holding.Records n → all (fits kind) (valuesIn kind words) ≡ true
 words-fit kind words n e = held-parts kind (valuesIn kind words) n e .fit
 
 -- ---- the closing record can always be held: a place that can't be held is that of a record
@@ -201,11 +201,11 @@ unfit-inside kind (v ∷ vs) e = go (fits kind v) e (unfit-inside kind vs)
     go true e ih = omega (arith, ih e)
     go false e ih = omega arith
 
-pub closing-held : (kind : FileKind) (vs : List (List ℕ)) (i : ℕ) → hasClosing kind ≡ true → held kind vs ≡ Fault i → i < length vs
+pub closing-held : (kind : FileKind) (vs : List (List ℕ)) (i : ℕ) → hasClosing kind ≡ true → held kind vs ≡ Holding.Fault i → i < length vs
 unfolding held heldAll
 closing-held kind vs i c e = go (all (fits kind) vs) refl (sym (ap (λ (t : Bool). cond t (heldAll kind vs) (heldOne kind vs)) c) ∙ e)
   where
-    go : (t : Bool) → all (fits kind) vs ≡ t → cond t (Records (length vs)) (Fault (firstAt (unfit kind) vs)) ≡ Fault i → i < length vs
+    go : (t : Bool) → all (fits kind) vs ≡ t → cond t (Holding.Records (length vs)) (Holding.Fault (firstAt (unfit kind) vs)) ≡ Holding.Fault i → i < length vs
     go true p e = absurd (let z : _≡_ {A = ℕ} 0 1 = cc in omega arith)
     go false p e =
         let q : firstAt (unfit kind) vs ≡ i = cc in

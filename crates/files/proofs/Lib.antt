@@ -1,4 +1,5 @@
 pub mod JudgeLaws
+pub mod AsBefore
 pub mod ReadLaws
 pub mod LineTrip
 pub mod FileTrip

@@ -8,6 +8,8 @@ use lib.ListN.{length, getD, take, length-take, List·getD-eq-default}
 use lib.Seq.{getD-take}
 use Rattle.laws.specs.Split.{split, pieceOf}
 use Rattle.names.specs.declared.kind.FileKind.{FileKind}
+use Rattle.faults.specs.declared.cause.Cause.{Cause}
+use Rattle.faults.specs.declared.cause.FaultPlace.{FaultPlace}
 use Rattle.files.specs.declared.judge.Judged.the-variants.{Records, Fault}
 use Rattle.files.specs.Judged.{judgedFile, recordsOf}
 use Rattle.files.specs.Reading.{recordAt}
@@ -26,6 +28,6 @@ module _ (kind : FileKind) (file : List ℕ) (k : ℕ) where
   unfolding recordAt recordsOf
   record-beyond n e h = rw e (sym (take-past n k (split 13 file) [] h))
 
-  pub record-fault : (i : ℕ) → judgedFile kind file ≡ Fault i → [] ≡ recordAt kind file k
+  pub record-fault : (place : FaultPlace) (cause : Cause) → judgedFile kind file ≡ Fault place cause → [] ≡ recordAt kind file k
   unfolding recordAt recordsOf
-  record-fault i e = rw e
+  record-fault place cause e = rw e

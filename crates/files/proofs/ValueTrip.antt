@@ -2,7 +2,7 @@
 --     report-there, correction-there, request-there         where there is a record, its value is read, and it is spelt as the record is
 --     report-kept, correction-kept, request-kept            reading a file that was written from words gives the values of these words
 --     response-as-default                                   a response file is read as a default file is
-use Prim.Native.Nat.{ℕ, zero, suc, _<_, _≤_}
+use Prim.Native.Nat.{ℕ, zero, suc, _+_, _<_, _≤_}
 use native.Mathlib.Omega.{arith}
 use mathlib.Core.Path.{_≡_, refl, sym, ap, _∙_}
 use mathlib.Core.Bool.{Bool, true, false, cond}
@@ -11,8 +11,9 @@ use lib.Dec.{ltb}
 use lib.ListN.{length, getD, length-map}
 use borrow.Author.Tests.{lt-ltb, ltb-true}
 use Rattle.laws.specs.Lists.{all}
-use Rattle.laws.specs.Split.{pieceOf}
+use Rattle.laws.specs.Split.{split, pieceOf}
 use Rattle.laws.proofs.Tables.{all-at}
+use Rattle.laws.proofs.Tests.{never}
 use Rattle.layout.specs.declared.report.Report.{Report}
 use Rattle.layout.specs.declared.report.ReportRead.{ReportRead}
 use Rattle.layout.specs.declared.correction.Correction.{Correction}
@@ -34,15 +35,14 @@ use Rattle.files.specs.declared.read.Found.{Found}
 use Rattle.files.specs.declared.values.ReportAt.{ReportAt}
 use Rattle.files.specs.declared.values.CorrectionAt.{CorrectionAt}
 use Rattle.files.specs.declared.values.RequestAt.{RequestAt}
-use Rattle.files.specs.Judged.{judgedFile, recordsOf}
+use Rattle.closing.specs.Closing.{begins}
+use Rattle.faults.specs.Record.{reportFault, recordFault}
+use Rattle.files.specs.Judged.{closed, onLine, unended, lastLine, judged, judgedFile, recordsOf}
 use Rattle.files.specs.Reading.{foundIn, foundAt, recordAt}
-use Rattle.files.specs.Writing.{valuesIn, held, fileOf}
+use Rattle.files.specs.Writing.{Holding, valuesIn, held, fileOf}
 use Rattle.files.specs.Values.{reportFound, reportAt, correctionFound, correctionAt, requestFound, requestAt}
 use Rattle.files.proofs.ReadLaws.{record-line}
 use Rattle.files.proofs.FileTrip.{Has, file-written, words-read, words-fit}
-
-never : {A : Type 0} → false ≡ true → A
-never e = absurd (let z : _≡_ {A = ℕ} 0 1 = cc in omega arith)
 
 -- ---- where there is a record
 -- a place with a record is one of so many
@@ -56,7 +56,7 @@ found-inside kind file k e = go (judgedFile kind file) refl e
 
     go : (j : Judged) → judgedFile kind file ≡ j → foundIn j k ≡ Found.Record → (n : ℕ) × (judgedFile kind file ≡ Records n) × (k < n)
     go (Records n) q e = (n, q, less n (ltb k n) refl e)
-    go (Judged.Fault i) q e = absurd (let z : _≡_ {A = ℕ} 0 1 = cc in omega arith)
+    go (Judged.Fault place cause) q e = absurd (let z : _≡_ {A = ℕ} 0 1 = cc in omega arith)
 
 -- its line is its text, and a record
 found-line : (kind : FileKind) (file : List ℕ) (k : ℕ) → foundAt kind file k ≡ Found.Record → (recordAt kind file k ≡ pieceOf 13 file k) × (isRecord kind (pieceOf 13 file k) ≡ true)
@@ -79,7 +79,7 @@ record Kept (kind : FileKind) (words : List ℕ) (k : ℕ) : Type 0 where
   pub line : pieceOf 13 (fileOf kind words) k ≡ textOf kind (getD (valuesIn kind words) k [])
   pub fit : fits kind (getD (valuesIn kind words) k []) ≡ true
 
-kept : (kind : FileKind) (words : List ℕ) (n k : ℕ) → held kind (valuesIn kind words) ≡ Records n → k < n → Kept kind words k
+kept : (kind : FileKind) (words : List ℕ) (n k : ℕ) → held kind (valuesIn kind words) ≡ Holding.Records n → k < n → Kept kind words k
 unfolding foundAt recordAt
 kept kind words n k e h =
     let vs : List (List ℕ) = valuesIn kind words in
@@ -104,8 +104,8 @@ report-there file k e = go (reportOf (pieceOf 13 file k)) refl (found-line FileK
     go (ReportRead.Report x) q t = (x, rw (e, q), report-back (pieceOf 13 file k) x q .0 ∙ sym (found-line FileKind.Default file k e .0))
     go ReportRead.Fault q t = never t
 
-pub report-kept : (words : List ℕ) (n k : ℕ) → held FileKind.Default (valuesIn FileKind.Default words) ≡ Records n → k < n
-    → reportAt (fileOf FileKind.Default words) k ≡ reportFound Found.Record k (reportOfWords (getD (valuesIn FileKind.Default words) k []))
+pub report-kept : (words : List ℕ) (n k : ℕ) → held FileKind.Default (valuesIn FileKind.Default words) ≡ Holding.Records n → k < n
+    → reportAt (fileOf FileKind.Default words) k ≡ reportFound Found.Record (reportOfWords (getD (valuesIn FileKind.Default words) k []))
 unfolding reportAt fits textOf
 report-kept words n k e h =
     let p = kept FileKind.Default words n k e h in
@@ -120,8 +120,8 @@ correction-there file k e = go (correctionOf (pieceOf 13 file k)) refl (found-li
     go (CorrectionRead.Correction x) q t = (x, rw (e, q), correction-back (pieceOf 13 file k) x q .0 ∙ sym (found-line FileKind.Correction file k e .0))
     go CorrectionRead.Fault q t = never t
 
-pub correction-kept : (words : List ℕ) (n k : ℕ) → held FileKind.Correction (valuesIn FileKind.Correction words) ≡ Records n → k < n
-    → correctionAt (fileOf FileKind.Correction words) k ≡ correctionFound Found.Record k (correctionOfWords (getD (valuesIn FileKind.Correction words) k []))
+pub correction-kept : (words : List ℕ) (n k : ℕ) → held FileKind.Correction (valuesIn FileKind.Correction words) ≡ Holding.Records n → k < n
+    → correctionAt (fileOf FileKind.Correction words) k ≡ correctionFound Found.Record (correctionOfWords (getD (valuesIn FileKind.Correction words) k []))
 unfolding correctionAt fits textOf
 correction-kept words n k e h =
     let p = kept FileKind.Correction words n k e h in
@@ -136,14 +136,20 @@ request-there file k e = go (requestOf (pieceOf 13 file k)) refl (found-line Fil
     go (RequestRead.Request x) q t = (x, rw (e, q), request-back (pieceOf 13 file k) x q .0 ∙ sym (found-line FileKind.Request file k e .0))
     go RequestRead.Fault q t = never t
 
-pub request-kept : (words : List ℕ) (n k : ℕ) → held FileKind.Request (valuesIn FileKind.Request words) ≡ Records n → k < n
-    → requestAt (fileOf FileKind.Request words) k ≡ requestFound Found.Record k (requestOfWords (getD (valuesIn FileKind.Request words) k []))
+pub request-kept : (words : List ℕ) (n k : ℕ) → held FileKind.Request (valuesIn FileKind.Request words) ≡ Holding.Records n → k < n
+    → requestAt (fileOf FileKind.Request words) k ≡ requestFound Found.Record (requestOfWords (getD (valuesIn FileKind.Request words) k []))
 unfolding requestAt fits textOf
 request-kept words n k e h =
     let p = kept FileKind.Request words n k e h in
     rw (p .found, p .line, request-same (getD (valuesIn FileKind.Request words) k []) (p .fit))
 
 -- ---- response files
+response-lines : (ls : List (List ℕ)) (i : ℕ) → judged FileKind.Response i ls ≡ judged FileKind.Default i ls
+unfolding judged lastLine unended recordFault
+response-lines [] i = refl
+response-lines (l ∷ []) i = refl
+response-lines (l ∷ m ∷ ls) i = ap (λ (j : Judged). cond (begins l) (closed i l (m ∷ ls)) (onLine i (reportFault l) j)) (response-lines (m ∷ ls) (i + 1))
+
 pub response-as-default : (file : List ℕ) (k : ℕ) → foundAt FileKind.Response file k ≡ foundAt FileKind.Default file k
-unfolding foundAt judgedFile isRecord
-response-as-default file k = refl
+unfolding foundAt judgedFile
+response-as-default file k = ap (λ (j : Judged). foundIn j k) (response-lines (split 13 file) 0)

@@ -1,4 +1,5 @@
 pub mod Judged
+pub mod Former
 pub mod Reading
 pub mod Writing
 pub mod Cursor

@@ -14,12 +14,12 @@ use Rattle.files.specs.Judged.{judgedFile, recordsOf}
 -- the paper's number of an answer
 abbrev pub foundNumber : Found → ℕ
 foundNumber Record = 0
-foundNumber (Found.Fault i) = 4
+foundNumber (Found.Fault place cause) = 4
 foundNumber Beyond = 7
 
 -- the place k of a file that was judged: a fault first, then a place beyond the records
 abbrev pub foundIn : Judged → ℕ → Found
-foundIn (Judged.Fault i) k = Found.Fault i
+foundIn (Judged.Fault place cause) k = Found.Fault place cause
 foundIn (Records n) k = cond (ltb k n) Record Beyond
 
 unfoldable pub foundAt : FileKind → List ℕ → ℕ → Found

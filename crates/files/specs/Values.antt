@@ -15,32 +15,33 @@ use Rattle.files.specs.declared.values.CorrectionAt.{CorrectionAt}
 use Rattle.files.specs.declared.values.RequestAt.{RequestAt}
 use Rattle.files.specs.Reading.{foundAt}
 
+-- ---- where a record is found, it is read (`proofs/ValueTrip`), so the last line of each is never asked
 -- reports of default and response files
-abbrev pub reportFound : Found → ℕ → ReportRead → ReportAt
-reportFound (Found.Fault i) k r = ReportAt.Fault i
-reportFound Found.Beyond k r = ReportAt.Beyond
-reportFound Found.Record k (ReportRead.Report x) = ReportAt.Report x
-reportFound Found.Record k ReportRead.Fault = ReportAt.Fault k
+abbrev pub reportFound : Found → ReportRead → ReportAt
+reportFound (Found.Fault place cause) r = ReportAt.Fault place cause
+reportFound Found.Beyond r = ReportAt.Beyond
+reportFound Found.Record (ReportRead.Report x) = ReportAt.Report x
+reportFound Found.Record ReportRead.Fault = ReportAt.Beyond
 
 unfoldable pub reportAt : List ℕ → ℕ → ReportAt
-reportAt file k = reportFound (foundAt FileKind.Default file k) k (reportOf (pieceOf 13 file k))
+reportAt file k = reportFound (foundAt FileKind.Default file k) (reportOf (pieceOf 13 file k))
 
 -- corrections
-abbrev pub correctionFound : Found → ℕ → CorrectionRead → CorrectionAt
-correctionFound (Found.Fault i) k r = CorrectionAt.Fault i
-correctionFound Found.Beyond k r = CorrectionAt.Beyond
-correctionFound Found.Record k (CorrectionRead.Correction x) = CorrectionAt.Correction x
-correctionFound Found.Record k CorrectionRead.Fault = CorrectionAt.Fault k
+abbrev pub correctionFound : Found → CorrectionRead → CorrectionAt
+correctionFound (Found.Fault place cause) r = CorrectionAt.Fault place cause
+correctionFound Found.Beyond r = CorrectionAt.Beyond
+correctionFound Found.Record (CorrectionRead.Correction x) = CorrectionAt.Correction x
+correctionFound Found.Record CorrectionRead.Fault = CorrectionAt.Beyond
 
 unfoldable pub correctionAt : List ℕ → ℕ → CorrectionAt
-correctionAt file k = correctionFound (foundAt FileKind.Correction file k) k (correctionOf (pieceOf 13 file k))
+correctionAt file k = correctionFound (foundAt FileKind.Correction file k) (correctionOf (pieceOf 13 file k))
 
 -- the request of a request file
-abbrev pub requestFound : Found → ℕ → RequestRead → RequestAt
-requestFound (Found.Fault i) k r = RequestAt.Fault i
-requestFound Found.Beyond k r = RequestAt.Beyond
-requestFound Found.Record k (RequestRead.Request x) = RequestAt.Request x
-requestFound Found.Record k RequestRead.Fault = RequestAt.Fault k
+abbrev pub requestFound : Found → RequestRead → RequestAt
+requestFound (Found.Fault place cause) r = RequestAt.Fault place cause
+requestFound Found.Beyond r = RequestAt.Beyond
+requestFound Found.Record (RequestRead.Request x) = RequestAt.Request x
+requestFound Found.Record RequestRead.Fault = RequestAt.Beyond
 
 unfoldable pub requestAt : List ℕ → ℕ → RequestAt
-requestAt file k = requestFound (foundAt FileKind.Request file k) k (requestOf (pieceOf 13 file k))
+requestAt file k = requestFound (foundAt FileKind.Request file k) (requestOf (pieceOf 13 file k))

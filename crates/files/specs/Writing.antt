@@ -12,8 +12,6 @@ use Rattle.names.specs.declared.written.Written.{Written}
 use Rattle.names.specs.declared.written.Written.the-variants.{Length, Long}
 use Rattle.names.specs.Kind.{hasClosing}
 use Rattle.records.specs.Record.{widthOf, fits, textOf}
-use Rattle.files.specs.declared.judge.Judged.{Judged}
-use Rattle.files.specs.declared.judge.Judged.the-variants.{Records, Fault}
 
 -- words in groups of w; the last group has what is left. There are no more groups than `most`
 unfoldable pub groupsTo : ℕ → ℕ → List ℕ → List (List ℕ)
@@ -31,17 +29,21 @@ valuesIn kind words = groups (widthOf kind) words
 unfoldable pub unfit : FileKind → List ℕ → Bool
 unfit kind values = not (fits kind values)
 
--- the layouts can hold all these records, or not the one at a place
-unfoldable pub heldAll : FileKind → List (List ℕ) → Judged
+-- so many records that the layouts can hold, or a record that they can't hold, at a place
+pub data Holding : Type 0 where
+  Records : ℕ → Holding
+  Fault : ℕ → Holding
+
+unfoldable pub heldAll : FileKind → List (List ℕ) → Holding
 heldAll kind vs = cond (all (fits kind) vs) (Records (length vs)) (Fault (firstAt (unfit kind) vs))
 
 -- a file of one record has no place for none, nor for a second
-unfoldable pub heldOne : FileKind → List (List ℕ) → Judged
+unfoldable pub heldOne : FileKind → List (List ℕ) → Holding
 heldOne kind [] = Fault 0
 heldOne kind (v ∷ []) = cond (fits kind v) (Records 1) (Fault 0)
 heldOne kind (v ∷ w ∷ vs) = cond (fits kind v) (Fault 1) (Fault 0)
 
-unfoldable pub held : FileKind → List (List ℕ) → Judged
+unfoldable pub held : FileKind → List (List ℕ) → Holding
 held kind vs = cond (hasClosing kind) (heldAll kind vs) (heldOne kind vs)
 
 -- the lines of a file with these records
@@ -56,7 +58,7 @@ unfoldable pub fileOf : FileKind → List ℕ → List ℕ
 fileOf kind words = fileText kind (map (textOf kind) (valuesIn kind words))
 
 -- what the writer answers, to a buffer of `room` bytes: 4 first, then 41
-abbrev pub answerTo : Judged → List ℕ → ℕ → Written
+abbrev pub answerTo : Holding → List ℕ → ℕ → Written
 answerTo (Fault i) text room = Written.Fault i
 answerTo (Records n) text room = cond (leb (length text) room) (Length (length text)) Long
 

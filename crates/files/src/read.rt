@@ -3,12 +3,14 @@ ghost use mathlib.Core.Path.{_≡_};
 ghost use Rattle.laws.specs.Split.{endOf};
 ghost use Rattle.files.specs.Reading.{foundAt, recordAt};
 use crate::judge::Judged;
+use faults::cause::Cause;
+use faults::cause::FaultPlace;
 use names::kind::FileKind;
 
-// What stands at a place of a file: a record; or 4, the file's first fault is at a place; or 7, the place is beyond the records.
+// What stands at a place of a file: a record; or 4, where the file's first fault is, and why; or 7, the place is beyond the records.
 pub enum Found {
     Record,
-    Fault(usize),
+    Fault(FaultPlace, Cause),
     Beyond,
 }
 
@@ -16,7 +18,7 @@ pub fn find(kind: FileKind, file: &[u8], place: usize) -> Found
     ensures { λ r. ⌜ r ≡ foundAt kind (now (file .entry)) place ⌝ }
 {
     match crate::judge::judge(kind, file) {
-        Judged::Fault(i) => Found::Fault(i),
+        Judged::Fault(at, cause) => Found::Fault(at, cause),
         Judged::Records(n) => {
             if place < n {
                 Found::Record

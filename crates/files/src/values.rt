@@ -1,8 +1,10 @@
-// The value of the record at a place of a file: a report of a default or a response file, a correction, a request. 4 and the place of the
-// file's first fault, then 7 for a place beyond its records.
+// The value of the record at a place of a file: a report of a default or a response file, a correction, a request. 4 with the file's first
+// fault and its cause, then 7 for a place beyond its records.
 ghost use mathlib.Core.Path.{_≡_};
 ghost use Rattle.files.specs.Values.{reportAt, correctionAt, requestAt};
 use crate::read::Found;
+use faults::cause::Cause;
+use faults::cause::FaultPlace;
 use layout::correction::Correction;
 use layout::correction::CorrectionRead;
 use layout::report::Report;
@@ -13,7 +15,7 @@ use names::kind::FileKind;
 
 pub enum ReportAt {
     Report(Report),
-    Fault(usize),
+    Fault(FaultPlace, Cause),
     Beyond,
 }
 
@@ -21,11 +23,11 @@ pub fn read_report(file: &[u8], place: usize) -> ReportAt
     ensures { λ r. ⌜ r ≡ reportAt (now (file .entry)) place ⌝ }
 {
     match crate::read::find(FileKind::Default, file, place) {
-        Found::Fault(i) => ReportAt::Fault(i),
+        Found::Fault(at, cause) => ReportAt::Fault(at, cause),
         Found::Beyond => ReportAt::Beyond,
         Found::Record => {
             let ReportRead::Report(x) = Report::read(text::piece(file, 13, place)) else {
-                return ReportAt::Fault(place);
+                return ReportAt::Beyond;
             };
             ReportAt::Report(x)
         }
@@ -34,7 +36,7 @@ pub fn read_report(file: &[u8], place: usize) -> ReportAt
 
 pub enum CorrectionAt {
     Correction(Correction),
-    Fault(usize),
+    Fault(FaultPlace, Cause),
     Beyond,
 }
 
@@ -42,12 +44,12 @@ pub fn read_correction(file: &[u8], place: usize) -> CorrectionAt
     ensures { λ r. ⌜ r ≡ correctionAt (now (file .entry)) place ⌝ }
 {
     match crate::read::find(FileKind::Correction, file, place) {
-        Found::Fault(i) => CorrectionAt::Fault(i),
+        Found::Fault(at, cause) => CorrectionAt::Fault(at, cause),
         Found::Beyond => CorrectionAt::Beyond,
         Found::Record => {
             let CorrectionRead::Correction(x) = Correction::read(text::piece(file, 13, place))
             else {
-                return CorrectionAt::Fault(place);
+                return CorrectionAt::Beyond;
             };
             CorrectionAt::Correction(x)
         }
@@ -56,7 +58,7 @@ pub fn read_correction(file: &[u8], place: usize) -> CorrectionAt
 
 pub enum RequestAt {
     Request(Request),
-    Fault(usize),
+    Fault(FaultPlace, Cause),
     Beyond,
 }
 
@@ -64,11 +66,11 @@ pub fn read_request(file: &[u8], place: usize) -> RequestAt
     ensures { λ r. ⌜ r ≡ requestAt (now (file .entry)) place ⌝ }
 {
     match crate::read::find(FileKind::Request, file, place) {
-        Found::Fault(i) => RequestAt::Fault(i),
+        Found::Fault(at, cause) => RequestAt::Fault(at, cause),
         Found::Beyond => RequestAt::Beyond,
         Found::Record => {
             let RequestRead::Request(x) = Request::read(text::piece(file, 13, place)) else {
-                return RequestAt::Fault(place);
+                return RequestAt::Beyond;
             };
             RequestAt::Request(x)
         }

@@ -13,8 +13,8 @@ file-kind-requires c κs = search needs
 judge-requires : tie.Need-judge-requires
 judge-requires c κs = search needs
 
-enum-known-i : tie.Need-enum-known-i
-enum-known-i c = search needs
+enum-known-place : tie.Need-enum-known-place
+enum-known-place c = search needs
 
 enum-known-m : tie.Need-enum-known-m
 enum-known-m c = search needs
@@ -25,7 +25,7 @@ check-room-requires c κs = search needs
 returns : tie.Need-returns
 returns c = let f = c .before .before .before .before in
     let a = f .before .before .before .args in
-    let j = sym (c .before .before .before .judge .ensures ∙ ap (λ (k : FileKind). judgedFile k (now (a .text))) (f .file-kind .ensures)) ∙ c .before .i .given .1 in
+    let j = sym (c .before .before .before .judge .ensures ∙ ap (λ (k : FileKind). judgedFile k (now (a .text))) (f .file-kind .ensures)) ∙ c .before .place .given .1 in
     rw j
 
 returns-2 : tie.Need-returns-2
@@ -40,7 +40,7 @@ check-text-spec =
     (tie.spec
     file-kind-requires
     judge-requires
-    enum-known-i
+    enum-known-place
     enum-known-m
     check-room-requires
     returns

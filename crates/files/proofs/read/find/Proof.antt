@@ -9,15 +9,15 @@ use Rattle.files.proofs.read.find.Tie as tie
 judge-requires : tie.Need-judge-requires
 judge-requires c κs = search needs
 
-enum-known-i : tie.Need-enum-known-i
-enum-known-i c = search needs
+enum-known-at : tie.Need-enum-known-at
+enum-known-at c = search needs
 
 enum-known-n : tie.Need-enum-known-n
 enum-known-n c = search needs
 
 returns : tie.Need-returns
 unfolding foundAt
-returns c = rw (sym (c .before .before .before .judge .ensures) ∙ c .before .i .given .1)
+returns c = rw (sym (c .before .before .before .judge .ensures) ∙ c .before .at .given .1)
 
 returns-2 : tie.Need-returns-2
 unfolding foundAt
@@ -29,4 +29,4 @@ returns-3 c = rw (sym (c .before .before .before .before .judge .ensures) ∙ c 
 
 pub find-spec : {M : Type 1} → statement M
 find-spec =
-    tie.close (tie.spec judge-requires enum-known-i enum-known-n returns returns-2 returns-3)
+    tie.close (tie.spec judge-requires enum-known-at enum-known-n returns returns-2 returns-3)

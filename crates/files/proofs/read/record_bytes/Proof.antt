@@ -27,7 +27,7 @@ returns : tie.Need-returns
 returns c =
     let j = c .before .before .before in
     let s = j .before .before in
-    record-fault (s .args .kind) (s .args .file .now) (s .args .place) _ (sym (j .judge .ensures) ∙ c .before .enum-told .given .1)
+    record-fault (s .args .kind) (s .args .file .now) (s .args .place) _ _ (sym (j .judge .ensures) ∙ c .before .enum-told .given .1)
 
 sub-result-2 : tie.Need-sub-result-2
 sub-result-2 c = search needs
