@@ -6,3 +6,4 @@ pub mod RequestExact
 pub mod CorrectionLine
 pub mod CorrectionExact
 pub mod RecordExact
+pub mod Examples

@@ -3,3 +3,4 @@ pub mod Cut
 pub mod Field
 pub mod Six
 pub mod Record
+pub mod Examples
