@@ -150,12 +150,12 @@ fn file_one(
     Ok(answer)
 }
 
-/// `PATH filed COUNT`, or `PATH refused NO`, for 4 with the record's place behind it.
+/// `PATH filed COUNT`, or `PATH refused NO`, for 4 with PLACE, FIELD and CAUSE behind it.
 fn print_answer(out: &mut Vec<u8>, file: &[u8], answer: &Answer) {
     let text = match answer {
         Answer::Filed(count) => format!("filed\t{}", count),
         Answer::Refused(number) => format!("refused\t{}", number),
-        Answer::Fault(place) => format!("refused\t4\t{}", place),
+        Answer::Fault(fault) => format!("refused\t4\t{}", fault),
     };
     print(out, &[file, text.as_bytes()]);
 }
@@ -293,7 +293,8 @@ fn rework(folder: &Path, out: &mut Vec<u8>) -> Result<Status, Stopped> {
     Ok(0)
 }
 
-/// `record` PLACE RECORD for each record, or `refused` 4 PLACE alone; `refused` 2 for a name.
+/// `record` PLACE RECORD for each record, or `refused` 4 PLACE FIELD CAUSE alone; `refused` 2 for
+/// a name.
 fn read(file: &[u8], out: &mut Vec<u8>) -> Result<Status, Stopped> {
     let kind = match read_name(file) {
         Some((kind, _)) => kind,
@@ -310,8 +311,8 @@ fn read(file: &[u8], out: &mut Vec<u8>) -> Result<Status, Stopped> {
             }
             Ok(0)
         }
-        Err(place) => {
-            print(out, &[b"refused", b"4", place.to_string().as_bytes()]);
+        Err(fault) => {
+            print(out, &[b"refused", b"4", fault.to_string().as_bytes()]);
             Ok(1)
         }
     }

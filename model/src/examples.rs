@@ -6,8 +6,10 @@ use crate::calendar::{
     the_exception, weekday, working_day_after, written, LAST_DAY,
 };
 use crate::dialogue::dialogue;
+use crate::faults::{Cause, Fault};
 use crate::files::{closing_record, read_file, read_name, FileKind};
 use crate::layout::{Code, Number};
+use crate::lines::lines;
 use crate::store::{read_table, shown, Answer, Store};
 use crate::worked::{Example, Row, NUMBER, PAPER, READINGS, REQUEST_K3, SPECIFICATION};
 
@@ -43,6 +45,7 @@ pub fn selftest(out: &mut Vec<u8>) -> Result<u8, String> {
     numbers(&mut tally);
     names(&mut tally);
     contents(&mut tally);
+    lines(&mut |what, holds| tally.check(what, holds));
     tables(&mut tally);
     for example in PAPER.iter().chain(REQUEST_K3).chain(SPECIFICATION).chain(READINGS) {
         run(example, &mut tally);
@@ -207,53 +210,54 @@ fn names(tally: &mut Tally) {
 }
 
 #[rustfmt::skip]
-/// Contents of files: how many records, or the place of the fault. `|` stands for CR.
+/// Contents of files: how many records, or place, field and cause of the fault. `|` stands for CR.
 fn contents(tally: &mut Tally) {
+    use Cause::{After, Closing, Code, Date, Length, Value};
     use FileKind::{Correction as K, Default as D, Request as Q};
     const P: &str = "3055501,,04032024,D002,D001,P";
     const U: &str = "2500U:3055501,,04032024,D002,D001,P";
-    let cases: Vec<(FileKind, String, Result<usize, usize>)> = vec![
+    let cases: Vec<(FileKind, String, Result<usize, (usize, usize, Cause)>)> = vec![
         (D, "Zeilenanzahl:1,|".into(), Ok(0)), // 4.5.2.2: an empty file has one line
         (D, format!("{P}|Zeilenanzahl:2,|"), Ok(1)),
-        (D, "".into(), Err(0)),
-        (D, format!("{P}|"), Err(1)),
-        (D, format!("{P}|Zeilenanzahl:2,"), Err(1)),
-        (D, format!("{P}|Zeilenanzahl:3,|"), Err(1)), // 4.5.2.3 would process it all the same
-        (D, format!("{P}|Zeilenanzahl:02,|"), Err(1)),
-        (D, format!("{P}|Zeilenanzahl:2,|{P}|"), Err(2)),
-        (D, format!("{P}|Zeilenanzahl:2,|\n"), Err(2)),
-        (D, format!("{P}|\nZeilenanzahl:2,|\n"), Err(1)), // 4.4.3 would accept CR LF
-        (D, " 3055501,,04032024,D002,D001,P|Zeilenanzahl:2,|".into(), Err(0)), // 4.4.3: blanks
-        (D, format!("{P}|{P}x|Zeilenanzahl:3,|"), Err(1)),
-        (D, format!("{P}|{P}"), Err(1)),
+        (D, "".into(), Err((0, 0, Closing))),
+        (D, format!("{P}|"), Err((1, 0, Closing))),
+        (D, format!("{P}|Zeilenanzahl:2,"), Err((1, 0, Closing))),
+        (D, format!("{P}|Zeilenanzahl:3,|"), Err((1, 0, Closing))), // 4.5.2.3 would process it all the same
+        (D, format!("{P}|Zeilenanzahl:02,|"), Err((1, 0, Closing))),
+        (D, format!("{P}|Zeilenanzahl:2,|{P}|"), Err((2, 0, After))),
+        (D, format!("{P}|Zeilenanzahl:2,|\n"), Err((2, 0, After))),
+        (D, format!("{P}|\nZeilenanzahl:2,|\n"), Err((1, 1, Length))), // 4.4.3 would accept CR LF
+        (D, " 3055501,,04032024,D002,D001,P|Zeilenanzahl:2,|".into(), Err((0, 1, Value))), // 4.4.3: blanks
+        (D, format!("{P}|{P}x|Zeilenanzahl:3,|"), Err((1, 11, Length))),
+        (D, format!("{P}|{P}"), Err((1, 12, Length))),
         (D, "3055501,,04032024,,D001,Z|Zeilenanzahl:2,|".into(), Ok(1)),
-        (D, "3055501,,04032024,,D001,L|Zeilenanzahl:2,|".into(), Err(0)),
-        (D, "3055501,,04032024,D002,,P|Zeilenanzahl:2,|".into(), Err(0)),
-        (D, "3055501,,04032024,D00B,D00A,P|Zeilenanzahl:2,|".into(), Err(0)),
-        (D, "3055501,,30022024,D002,D001,P|Zeilenanzahl:2,|".into(), Err(0)),
-        (D, "121,122,15062004,D002,D001,P|Zeilenanzahl:2,|".into(), Err(0)), // 11.1.2.7
-        (D, "123,123,15062004,D003,D001,L|Zeilenanzahl:2,|".into(), Err(0)), // 11.1.2.10
+        (D, "3055501,,04032024,,D001,L|Zeilenanzahl:2,|".into(), Err((0, 11, Value))),
+        (D, "3055501,,04032024,D002,,P|Zeilenanzahl:2,|".into(), Err((0, 9, Length))),
+        (D, "3055501,,04032024,D00B,D00A,P|Zeilenanzahl:2,|".into(), Err((0, 7, Code))),
+        (D, "3055501,,30022024,D002,D001,P|Zeilenanzahl:2,|".into(), Err((0, 5, Date))),
+        (D, "121,122,15062004,D002,D001,P|Zeilenanzahl:2,|".into(), Err((0, 3, Value))), // 11.1.2.7
+        (D, "123,123,15062004,D003,D001,L|Zeilenanzahl:2,|".into(), Err((0, 3, Value))), // 11.1.2.10
         (Q, "D456,,|".into(), Ok(1)),
         (Q, "D987,01041998,|".into(), Ok(1)),
-        (Q, "D987,01041997,|".into(), Err(0)),
-        (Q, "D987,01041998|".into(), Err(0)),
-        (Q, "D456,,".into(), Err(0)),
-        (Q, "D456,,|Zeilenanzahl:2,|".into(), Err(1)),
-        (Q, "Zeilenanzahl:1,|".into(), Err(0)),
+        (Q, "D987,01041997,|".into(), Err((0, 3, Date))),
+        (Q, "D987,01041998|".into(), Err((0, 4, Length))),
+        (Q, "D456,,".into(), Err((0, 5, Length))),
+        (Q, "D456,,|Zeilenanzahl:2,|".into(), Err((1, 0, After))),
+        (Q, "Zeilenanzahl:1,|".into(), Err((0, 1, Length))),
         (K, "Zeilenanzahl:1,|".into(), Ok(0)),
         (K, format!("{U},K:,,,,,|Zeilenanzahl:2,|"), Ok(1)),
         // the three examples of 4.7.9; the second has one comma fewer than the table of 4.7.8
         (K, "0500U:3012345000,3012345999,12022002,D009,D001,P,K:3012345000,3012345999,12022002,D009,D005,P|Zeilenanzahl:2,|".into(), Ok(1)),
-        (K, "6000U:,,,,,K:3012345000,3012345999,12042004,D001,D009,L|Zeilenanzahl:2,|".into(), Err(0)),
+        (K, "6000U:,,,,,K:3012345000,3012345999,12042004,D001,D009,L|Zeilenanzahl:2,|".into(), Err((0, 13, Length))),
         (K, "2000U:3012345000,3012345999,12042004,D001,D009,P,K:,,,,,|Zeilenanzahl:2,|".into(), Ok(1)),
         (K, "6000U:,,,,,,K:3012345000,3012345999,12042004,D001,D009,L|Zeilenanzahl:2,|".into(), Ok(1)),
-        (K, "6000U:,,,,,,K:,,12042004,D001,D009,L|Zeilenanzahl:2,|".into(), Err(0)),
-        (K, "2500U:,,,,,,K:3055501,,04032024,D002,D001,P|Zeilenanzahl:2,|".into(), Err(0)),
+        (K, "6000U:,,,,,,K:,,12042004,D001,D009,L|Zeilenanzahl:2,|".into(), Err((0, 16, Value))),
+        (K, "2500U:,,,,,,K:3055501,,04032024,D002,D001,P|Zeilenanzahl:2,|".into(), Err((0, 3, Value))),
         (K, "2500U:3055501,,04032024,,D001,Z,K:,,,,,|Zeilenanzahl:2,|".into(), Ok(1)),
-        (K, "2500U:3055501,,04032024,,D001,P,K:,,,,,|Zeilenanzahl:2,|".into(), Err(0)),
-        (K, "0100U:3055501,,04032024,,,,K:,3055509,,,,|Zeilenanzahl:2,|".into(), Err(0)),
-        (K, "250U:3055501,,04032024,D002,D001,P,K:,,,,,|Zeilenanzahl:2,|".into(), Err(0)),
-        (K, "2500K:3055501,,04032024,D002,D001,P,U:,,,,,|Zeilenanzahl:2,|".into(), Err(0)),
+        (K, "2500U:3055501,,04032024,,D001,P,K:,,,,,|Zeilenanzahl:2,|".into(), Err((0, 13, Value))),
+        (K, "0100U:3055501,,04032024,,,,K:,3055509,,,,|Zeilenanzahl:2,|".into(), Err((0, 18, Value))),
+        (K, "250U:3055501,,04032024,D002,D001,P,K:,,,,,|Zeilenanzahl:2,|".into(), Err((0, 1, Length))),
+        (K, "2500K:3055501,,04032024,D002,D001,P,U:,,,,,|Zeilenanzahl:2,|".into(), Err((0, 2, Value))),
         // 11.1.3: changes of number volumes; the base files them and gives 34
         (K, "4200U:12300,12399,15062004,D002,D002,,K:12300,12329,10072008,D002,D002,|Zeilenanzahl:2,|".into(), Ok(1)),
         (K, "4300U:12300,12309,15062004,D002,D002,,K:,,11072008,,,|Zeilenanzahl:2,|".into(), Ok(1)),
@@ -263,7 +267,8 @@ fn contents(tally: &mut Tally) {
     ];
     for (kind, text, result) in cases {
         let read = read_file(kind, text.replace('|', "\r").as_bytes());
-        tally.check(&format!("contents: {}", text), read.map(|records| records.len()) == result);
+        let read = read.map(|records| records.len()).map_err(|f| (f.place, f.field, f.cause));
+        tally.check(&format!("contents: {} is {:?}", text, read), read == result);
     }
 }
 
@@ -480,7 +485,8 @@ fn limits(tally: &mut Tally) {
         answers("D002", "1K240306.txt", file(object, 1)) == Answer::Refused(5),
     );
     tally.check("3 before 4", answers("D001", "1K240306.txt", "x".into()) == Answer::Refused(3));
-    tally.check("4 before 5", answers("D001", "1D240306.txt", "x".into()) == Answer::Fault(0));
+    let fault = Answer::Fault(Fault { place: 0, field: 1, cause: Cause::Value });
+    tally.check("4 before 5", answers("D001", "1D240306.txt", "x".into()) == fault);
     tally.check("1 before 2", answers("D00A", "x", "x".into()) == Answer::Refused(1));
     tally.check("2 before 3", answers("D001", "1R240305.txt", "x".into()) == Answer::Refused(2));
 }

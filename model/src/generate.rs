@@ -5,15 +5,20 @@ mod calendar;
 mod chance;
 mod commands;
 mod damage;
+mod faults;
 mod files;
 mod layout;
+mod refused;
 mod scenario;
 mod store;
 mod stories;
+mod strike;
 mod told;
 mod verdict;
+mod wrong;
 
 use calendar::{holiday_list_before, the_exception};
+use files::{read_name, FileKind};
 use layout::ReportKind;
 use scenario::{scenario, Scenario};
 use std::collections::BTreeMap;
@@ -77,12 +82,15 @@ const ANSWERS: [u32; 7] = [0, 1, 2, 3, 4, 5, 6];
 const VERDICTS: [u32; 18] =
     [10, 11, 12, 13, 14, 15, 16, 17, 18, 19, 20, 21, 22, 30, 31, 32, 33, 34];
 
+/// The causes of a refusal 4, which both `file` and `read` must answer.
+const CAUSES: [&str; 7] = ["character", "length", "date", "code", "value", "closing", "after"];
+
 /// What 31 October 2017 has to do with a scenario: returns confirmed over it, records and numbers
 /// that the list without it answers otherwise, and scenarios with such a record.
 const EXCEPTION: [&str; 4] = ["returns over it", "verdicts moved", "entries moved", "scenarios"];
 
-/// Runs scenarios through the model and prints how often each answer and verdict occurred; false
-/// where one never did.
+/// Runs scenarios through the model and prints how often each answer, cause and verdict occurred;
+/// false where one never did.
 fn coverage(scenarios: u64) -> bool {
     let mut counts: BTreeMap<String, usize> = BTreeMap::new();
     for number in ANSWERS {
@@ -90,6 +98,11 @@ fn coverage(scenarios: u64) -> bool {
     }
     for number in VERDICTS {
         counts.insert(format!("verdict\t{}", number), 0);
+    }
+    for cause in CAUSES {
+        for command in ["file", "read"] {
+            counts.insert(format!("cause\t{}\t{}", cause, command), 0);
+        }
     }
     for what in EXCEPTION {
         counts.insert(format!("2017-10-31\t{}", what), 0);
@@ -168,6 +181,12 @@ fn count_output(
     let mut latest = "";
     for line in text.lines() {
         let items: Vec<&str> = line.split('\t').collect();
+        let refused_file = if command[0] == "read" { &command[1][..] } else { items[0] };
+        if let [.., "refused", "4", _, field, cause] = items[..] {
+            *counts.entry(format!("cause\t{}\t{}", cause, command[0])).or_insert(0) += 1;
+            let fault = format!("fault\t{}\t{}\t{}", kind(refused_file), field, cause);
+            *counts.entry(fault).or_insert(0) += 1;
+        }
         let mut count = |what: String| *counts.entry(what).or_insert(0) += 1;
         match (&command[0][..], &items[..]) {
             ("file", [_, "filed", _]) | ("start", ["started", _]) => count("answer\t0".into()),
@@ -195,6 +214,17 @@ fn count_output(
             }
             _ => (),
         }
+    }
+}
+
+/// What a file is by its name.
+fn kind(path: &str) -> &'static str {
+    match read_name(path.as_bytes()) {
+        Some((FileKind::Default, _)) => "default",
+        Some((FileKind::Correction, _)) => "correction",
+        Some((FileKind::Request, _)) => "request",
+        Some((FileKind::Response, _)) => "response",
+        None => "none",
     }
 }
 

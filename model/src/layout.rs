@@ -61,7 +61,7 @@ fn is_single(num1: &[u8]) -> bool {
 /// Rules 5 and 8 of 4.4.2: as many digits in both; "for some n of at least 1, num1 ends in n
 /// zeros and num2 in n nines, and without these n digits they differ at most in the last digit,
 /// num1's being the smaller or equal one".
-fn is_block(num1: &[u8], num2: &[u8]) -> bool {
+pub fn is_block(num1: &[u8], num2: &[u8]) -> bool {
     if num1.len() != num2.len() || !num2.iter().all(u8::is_ascii_digit) {
         return false;
     }

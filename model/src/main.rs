@@ -1,14 +1,20 @@
 //! The model: a plain program that answers about porting files, written from the paper alone.
 
 mod calendar;
+#[allow(dead_code)] // the generator takes more chances
+mod chance;
 mod commands;
 mod dialogue;
 mod examples;
+mod faults;
 mod files;
 mod layout;
+mod lines;
 mod store;
+mod strike;
 mod verdict;
 mod worked;
+mod wrong;
 
 use std::io::Write;
 use std::os::unix::ffi::OsStringExt;

@@ -3,6 +3,8 @@
 use crate::calendar::{Day, LAST_DAY};
 use crate::chance::Chance;
 use crate::damage::DAMAGES;
+use crate::files::FileKind;
+use crate::refused::Refused;
 use crate::store::{read_table, Answer, Store};
 use crate::stories::{Flavour, World};
 use crate::told::{ddmmyyyy, file_name, file_text, Num, Told};
@@ -56,8 +58,18 @@ fn story_scenario(seed: u64) -> Scenario {
     let table: String = world.numbers.iter().map(Num::table_line).collect();
     let mut scenario = Scenario { files: Vec::new(), commands: Vec::new(), notes };
     scenario.files.push(("table.txt".into(), table.into_bytes()));
-    commands(&mut scenario, &mut world, offers);
+    let mut refused = refused(seed, &world);
+    commands(&mut scenario, &mut world, offers, &mut refused);
     scenario
+}
+
+/// Files that 4 refuses, made from what the stories told.
+fn refused(seed: u64, world: &World) -> Refused {
+    let records = |letter: char| {
+        let own = world.told.iter().filter(|told| told.letter == letter);
+        own.map(|told| told.record.clone().into_bytes()).collect()
+    };
+    Refused::new(seed, records('D'), records('K'))
 }
 
 /// The records in files, by publisher, day and kind; a few files have no records.
@@ -175,8 +187,14 @@ fn words(words: &[&str]) -> Vec<String> {
     words.iter().map(|word| word.to_string()).collect()
 }
 
-/// The command lines: start, file, ask; file what was held back, and ask again.
-fn commands(scenario: &mut Scenario, world: &mut World, mut offers: Vec<Offer>) {
+/// The command lines: start, file, ask; file what was held back, and ask again. Files that are
+/// refused with 4 stand between the others in LIST.
+fn commands(
+    scenario: &mut Scenario,
+    world: &mut World,
+    mut offers: Vec<Offer>,
+    refused: &mut Refused,
+) {
     bad_start(scenario, world);
     scenario.commands.push(words(&["start", "store", "table.txt"]));
     if world.chance.one_in(6) {
@@ -185,9 +203,11 @@ fn commands(scenario: &mut Scenario, world: &mut World, mut offers: Vec<Offer>) 
     let held_back = offers.split_off(offers.len() - world.chance.below(3).min(offers.len()));
     let mut accepted = accepted(world, &offers);
     scenario.commands.push(words(&["file", "store", "--list", "LIST"]));
-    scenario.files.push(("LIST".into(), list(world, &offers)));
+    let wrong = refused_offers(scenario, world, refused);
+    let list = list(world, &offers);
+    scenario.files.push(("LIST".into(), with_refused(list, &wrong, refused)));
     ask(scenario, world, accepted.files.len());
-    read_some(scenario, world, &offers);
+    read_some(scenario, world, &offers, &wrong, refused);
     if world.chance.one_in(5) {
         scenario.commands.push(words(&["rework", "store"]));
     }
@@ -204,7 +224,7 @@ fn commands(scenario: &mut Scenario, world: &mut World, mut offers: Vec<Offer>) 
     }
     scenario.commands.push(words(&["show", "store"]));
     rework(scenario, world);
-    for offer in offers.iter().chain(&held_back) {
+    for offer in offers.iter().chain(&held_back).chain(&wrong) {
         scenario.files.push((offer.path.clone(), offer.bytes.clone()));
     }
 }
@@ -260,6 +280,40 @@ fn list(world: &mut World, offers: &[Offer]) -> Vec<u8> {
     text.into_bytes()
 }
 
+/// Default and correction files of a network that has no other files: a worked fault of each kind,
+/// and any others.
+fn refused_offers(scenario: &mut Scenario, world: &World, refused: &mut Refused) -> Vec<Offer> {
+    let others = if world.flavour == Flavour::Damage { 8 } else { 2 };
+    let mut offers = Vec::new();
+    for i in 0..2 + others {
+        let (letter, kind) = refused.chance().pick(&[
+            ('D', FileKind::Default),
+            ('K', FileKind::Correction),
+            ('K', FileKind::Correction),
+        ]);
+        let (letter, (name, bytes)) = match i {
+            0 => ('D', refused.worked_in_turn(FileKind::Default)),
+            1 => ('K', refused.worked_in_turn(FileKind::Correction)),
+            _ => (letter, refused.any(kind)),
+        };
+        scenario.notes.push(format!("damage\t{}", name));
+        let path = format!("refused{}/{}", i, file_name(letter, world.base));
+        offers.push(Offer { publisher: "D777".to_string(), path, bytes });
+    }
+    offers
+}
+
+/// A LIST with these offers anywhere between its lines.
+fn with_refused(list: Vec<u8>, offers: &[Offer], refused: &mut Refused) -> Vec<u8> {
+    let mut lines: Vec<Vec<u8>> =
+        list.split_inclusive(|c| *c == b'\n').map(<[u8]>::to_vec).collect();
+    for offer in offers {
+        let at = refused.chance().below(lines.len() + 1);
+        lines.insert(at, format!("{}\t{}\n", offer.publisher, offer.path).into_bytes());
+    }
+    lines.concat()
+}
+
 /// The model's own store after these offers: `show --before N` needs to know how many files there
 /// are.
 fn accepted(world: &World, offers: &[Offer]) -> Store {
@@ -305,22 +359,36 @@ fn ask(scenario: &mut Scenario, world: &mut World, files: usize) {
     }
 }
 
-/// `read` of some offered files, and of request and response files.
-fn read_some(scenario: &mut Scenario, world: &mut World, offers: &[Offer]) {
-    for _ in 0..2.min(offers.len()) {
+/// `read` of an offered file, of one that is refused with 4, and of a request or response file,
+/// which is refused more often than not.
+fn read_some(
+    scenario: &mut Scenario,
+    world: &mut World,
+    offers: &[Offer],
+    wrong: &[Offer],
+    refused: &mut Refused,
+) {
+    for i in 0..2.min(offers.len()) {
         let offer = world.chance.pick(offers);
+        let offer = if i == 0 { offer } else { refused.chance().pick(wrong) };
         scenario.commands.push(words(&["read", &offer.path]));
     }
     let chance = &mut world.chance;
     let day = (world.base + chance.below(9) as Day).min(LAST_DAY);
-    let (letter, mut bytes) = if chance.one_in(2) && !offers.is_empty() {
-        ('R', chance.pick(offers).bytes)
+    let (letter, kind, mut bytes) = if chance.one_in(2) && !offers.is_empty() {
+        ('R', FileKind::Response, chance.pick(offers).bytes)
     } else {
         let date = chance.pick(&[String::new(), ddmmyyyy(day)]);
-        ('Q', format!("{},{},\r", chance.pick(&world.codes), date).into_bytes())
+        let request = format!("{},{},\r", chance.pick(&world.codes), date).into_bytes();
+        ('Q', FileKind::Request, request)
     };
     if chance.one_in(3) {
         bytes = damaged(chance, &bytes, &mut scenario.notes);
+    } else if !refused.chance().one_in(4) {
+        let in_turn = refused.chance().one_in(2);
+        let (name, wrong) = if in_turn { refused.worked_in_turn(kind) } else { refused.any(kind) };
+        scenario.notes.push(format!("damage\t{}", name));
+        bytes = wrong;
     }
     let path = format!("read/{}", file_name(letter, day));
     scenario.commands.push(words(&["read", &path]));

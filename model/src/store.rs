@@ -1,6 +1,7 @@
 //! The number table, the accepted files in order of arrival, and what filing answers.
 
 use crate::calendar::{holiday_list, read_ddmmyyyy, read_written, written, Day};
+use crate::faults::Fault;
 use crate::files::{read_file, read_name, FileKind};
 use crate::layout::{read_correction, read_report, Code, Number};
 use crate::verdict::{walk, Content, Entry, Filed, Line, Open, Outcome};
@@ -39,8 +40,8 @@ pub enum Answer {
     Filed(usize),
     /// 1, 2, 3 or 5.
     Refused(u32),
-    /// 4, with the place of the first record that breaks its layout.
-    Fault(usize),
+    /// 4, with the first record that breaks its layout, the field of it, and the cause.
+    Fault(Fault),
 }
 
 /// A table text: lines `num1,num2,OWNER,ddmmyyyy`, each ended by LF, nothing else. None is
@@ -101,7 +102,7 @@ impl Store {
         // 4: a record breaks its layout
         let records = match read_file(kind, bytes) {
             Ok(records) => records,
-            Err(place) => return Answer::Fault(place),
+            Err(fault) => return Answer::Fault(fault),
         };
         let file = Accepted { kind, publisher, published, records };
         // 5: records, bytes or files would exceed a limit
