@@ -55,6 +55,16 @@ extern "C" {
 #define DAGSKIMRA_REQUEST 2
 #define DAGSKIMRA_RESPONSE 3
 
+/* Why a file is refused with 4: a field with a character outside 4.4.1, of the wrong length, with a date that does not exist, a network code that is none
+ * or a value that the table does not allow, tried in this order; a closing record that is missing or wrong; bytes after the end. */
+#define DAGSKIMRA_CAUSE_CHARACTER 1
+#define DAGSKIMRA_CAUSE_LENGTH 2
+#define DAGSKIMRA_CAUSE_DATE 3
+#define DAGSKIMRA_CAUSE_CODE 4
+#define DAGSKIMRA_CAUSE_VALUE 5
+#define DAGSKIMRA_CAUSE_CLOSING 6
+#define DAGSKIMRA_CAUSE_AFTER 7
+
 /* ---- days. Day 0 is 1998-01-01, the last day 2049-12-31 */
 
 /* The day of a date; DAGSKIMRA_NO_DAY for none of the calendar. */
@@ -71,8 +81,9 @@ uint16_t dagskimra_working_day_after(uint16_t day, uint8_t count);
 
 /* ---- files. A kind above DAGSKIMRA_RESPONSE is taken as DAGSKIMRA_RESPONSE */
 
-/* 0, and *more is how many records the file has; 4, and *more is the place of its first fault. */
-uint8_t dagskimra_judge(uint8_t kind, const uint8_t *file, size_t file_length, uint64_t *more);
+/* 0, and *more is how many records the file has; 4, and *more is the place of its first faulty record, from 0, *field the "Pos." of the faulty field in
+ * the specification's table (0: none, a fault of the whole file) and *cause one of DAGSKIMRA_CAUSE_... On 0 *field and *cause are 0. */
+uint8_t dagskimra_judge(uint8_t kind, const uint8_t *file, size_t file_length, uint64_t *more, uint64_t *field, uint64_t *cause);
 
 /* What stands at a place of a file: 0 a record, 4 the file has a fault, 7 the place is beyond its records. */
 uint8_t dagskimra_find(uint8_t kind, const uint8_t *file, size_t file_length, size_t place);
@@ -100,11 +111,12 @@ bool dagskimra_readable(const uint8_t *table, size_t table_length, const uint8_t
 
 /* Files a file of a kind (DAGSKIMRA_DEFAULT or DAGSKIMRA_CORRECTION) from a publisher (`D001`) on its publication day. 0, and *more is the count of
  * the journal records whose number the file names; 44; 1: no network code; 2: no day of the calendar, or no kind that is filed; 3: filed already;
- * 4, and *more is the place of its first fault; 5: a limit would be passed. On every refusal no byte of the buffers changes. */
+ * 4, and *more, *field and *cause tell its first fault, as dagskimra_judge does; 5: a limit would be passed. On every refusal no byte of the buffers
+ * changes; on every answer but 4 *field and *cause are 0. */
 uint8_t dagskimra_file(const uint8_t *table, size_t table_length, uint8_t *files, size_t files_length, uint8_t *regular, size_t regular_length,
                        uint8_t *corrections, size_t corrections_length, uint8_t *entries, size_t entries_length, uint8_t kind,
                        const uint8_t *publisher, size_t publisher_length, uint16_t day, const uint8_t *text, size_t text_length,
-                       uint64_t *more);
+                       uint64_t *more, uint64_t *field, uint64_t *cause);
 
 /* ---- asking. A number is given by its two fields, digits as text; the second is empty but for a block */
 

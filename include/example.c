@@ -37,12 +37,45 @@ static const char p_file[] = "3055501,,04032024,D002,D001,P\rZeilenanzahl:2,\r";
 static const char l_file[] = "3055501,,04032024,D002,D001,L\rZeilenanzahl:2,\r";
 static const char objection[] = "2500U:3055501,,04032024,D002,D001,P,K:,,,,,\rZeilenanzahl:2,\r";
 
+/* Files that are refused with 4: the place of the record, the field in it, and the cause. The first ones have one fault less each time. */
+#define AFTER_ONE(record) "3055501,,04032024,D002,D001,P\r" record "\rZeilenanzahl:3,\r"
+static const struct fault {
+    int kind;
+    const char *text;
+    int place, field, cause;
+} faults[] = {
+    {DAGSKIMRA_DEFAULT, AFTER_ONE("3055501\001,3055502,30022024,D0X2,D001,PP"), 1, 1, DAGSKIMRA_CAUSE_CHARACTER},
+    {DAGSKIMRA_DEFAULT, AFTER_ONE("3055501,3055502,30022024,D0X2,D001,PP"), 1, 3, DAGSKIMRA_CAUSE_VALUE},
+    {DAGSKIMRA_DEFAULT, AFTER_ONE("3055501,,30022024,D0X2,D001,PP"), 1, 5, DAGSKIMRA_CAUSE_DATE},
+    {DAGSKIMRA_DEFAULT, AFTER_ONE("3055501,,04032024,D0X2,D001,PP"), 1, 7, DAGSKIMRA_CAUSE_CODE},
+    {DAGSKIMRA_DEFAULT, AFTER_ONE("3055501,,04032024,D002,D001,PP"), 1, 11, DAGSKIMRA_CAUSE_LENGTH},
+    {DAGSKIMRA_DEFAULT, AFTER_ONE("Zeilenanzahl:3,"), 1, 0, DAGSKIMRA_CAUSE_CLOSING},
+    {DAGSKIMRA_DEFAULT, AFTER_ONE("Zeilenanzahl:2,"), 2, 0, DAGSKIMRA_CAUSE_AFTER},
+    {DAGSKIMRA_DEFAULT, "3055501,,04032024,D002,D001,P", 0, 12, DAGSKIMRA_CAUSE_LENGTH},
+    {DAGSKIMRA_CORRECTION, "2500U:3055501,,04032024,D002,D001,,K:,,,,,\rZeilenanzahl:2,\r", 0, 13, DAGSKIMRA_CAUSE_VALUE},
+    {DAGSKIMRA_CORRECTION, "2500U:3055501,,04032024,D002,D001,P,K:,,,,D1,\rZeilenanzahl:2,\r", 0, 24, DAGSKIMRA_CAUSE_LENGTH},
+    {DAGSKIMRA_CORRECTION, p_file, 0, 2, DAGSKIMRA_CAUSE_VALUE},
+    {DAGSKIMRA_REQUEST, "D001,30022024,\r", 0, 3, DAGSKIMRA_CAUSE_DATE},
+    {DAGSKIMRA_REQUEST, "D001\r", 0, 2, DAGSKIMRA_CAUSE_LENGTH},
+    {DAGSKIMRA_RESPONSE, "", 0, 0, DAGSKIMRA_CAUSE_CLOSING},
+};
+enum { FAULTS = sizeof faults / sizeof faults[0] };
+
+static void same_three(const char *what, const uint64_t *is, int more, int field, int cause) {
+    same(what, is[0], more);
+    same(what, is[1], field);
+    same(what, is[2], cause);
+}
+
 static void reading(void) {
-    uint64_t more;
-    same("judging a file", dagskimra_judge(DAGSKIMRA_DEFAULT, TEXT(p_file), &more), 0);
-    same("its records", more, 1);
-    same("judging it as a correction file", dagskimra_judge(DAGSKIMRA_CORRECTION, TEXT(p_file), &more), 4);
-    same("the fault's place", more, 0);
+    uint64_t told[3] = {7, 7, 7};
+    same("judging a file", dagskimra_judge(DAGSKIMRA_DEFAULT, TEXT(p_file), &told[0], &told[1], &told[2]), 0);
+    same_three("its records, and no fault", told, 1, 0, 0);
+    for (int i = 0; i < FAULTS; i++) {
+        const struct fault *f = &faults[i];
+        same(f->text, dagskimra_judge(f->kind, TEXT(f->text), &told[0], &told[1], &told[2]), 4);
+        same_three(f->text, told, f->place, f->field, f->cause);
+    }
     same("a record", dagskimra_find(DAGSKIMRA_DEFAULT, TEXT(p_file), 0), 0);
     same("a place beyond", dagskimra_find(DAGSKIMRA_DEFAULT, TEXT(p_file), 1), 7);
     same("a request", dagskimra_find(DAGSKIMRA_REQUEST, TEXT("D001,,\r"), 0), 0);
@@ -72,10 +105,24 @@ static void starting(void) {
     same("it reads", dagskimra_readable(STORE), 1);
 }
 
+/* What is told beside the answer: a count, and no fault. */
 static uint64_t filed(int kind, const char *publisher, int day, const char *text, int answer) {
-    uint64_t more;
-    same(text, dagskimra_file(STORE, kind, TEXT(publisher), day, TEXT(text), &more), answer);
-    return more;
+    uint64_t told[3] = {7, 7, 7};
+    same(text, dagskimra_file(STORE, kind, TEXT(publisher), day, TEXT(text), &told[0], &told[1], &told[2]), answer);
+    same("no field", told[1], 0);
+    same("no cause", told[2], 0);
+    return told[0];
+}
+
+/* Refused with 4, as it is judged; a kind that is not filed with 2. */
+static void filing_faults(void) {
+    for (int i = 0; i < FAULTS; i++) {
+        uint64_t told[3] = {7, 7, 7};
+        const struct fault *f = &faults[i];
+        int is_filed = f->kind <= DAGSKIMRA_CORRECTION;
+        same(f->text, dagskimra_file(STORE, f->kind, TEXT("D001"), 9562, TEXT(f->text), &told[0], &told[1], &told[2]), is_filed ? 4 : 2);
+        same_three(f->text, told, is_filed ? f->place : 0, is_filed ? f->field : 0, is_filed ? f->cause : 0);
+    }
 }
 
 static void filing(void) {
@@ -92,7 +139,7 @@ static void filing(void) {
     filed(DAGSKIMRA_DEFAULT, "D00A", 9562, l_file, 1);
     filed(DAGSKIMRA_DEFAULT, "D001", DAGSKIMRA_LAST_DAY + 1, l_file, 2);
     filed(DAGSKIMRA_REQUEST, "D001", 9562, l_file, 2);
-    same("a fault's place", filed(DAGSKIMRA_DEFAULT, "D001", 9562, "Zeilenanzahl:1,\r.", 4), 1);
+    filing_faults();
 }
 
 /* After P and L: holder D002, confirmed 2024-03-04. Before the L arrived: holder D001, and the P open in the first place. */

@@ -49,6 +49,12 @@ constant NO_DAY "$(number capi/src/days.rt NO_DAY)"
 constant LAST_DAY "$(number calendar/src/dates.rt LAST_DAY)"
 constant HOLIDAYS "$(number calendar/src/table.rt COUNT)"
 
+# ---- causes: those of the source, each with its number, and no other
+sed -n 's/^ *Cause::\([A-Za-z]*\) => \([0-9]*\),$/\1 \2/p' crates/faults/src/cause.rt | tr a-z A-Z >"$work/causes"
+[ -s "$work/causes" ] || fail "no cause has a number in the source"
+sed -n 's/^#define DAGSKIMRA_CAUSE_//p' $header >"$work/named"
+cmp -s "$work/causes" "$work/named" || fail "the causes of the header are not those of the source"
+
 # ---- functions
 sed -n 's/^pub extern "C" fn \([a-z_]*\).*/\1/p' crates/capi/src/*.rt | sort >"$work/exported"
 grep -o 'dagskimra_[a-z_]*(' $header | tr -d '(' | sort >"$work/declared"

@@ -8,10 +8,13 @@ use Rattle.store.specs.Reads.{Buffers, held}
 use Rattle.entering.specs.declared.kind.Filable.{Filable}
 use Rattle.entering.specs.declared.kind.Filable.the-variants.{Default, Correction}
 use Rattle.checking.specs.declared.answer.Answer.{Answer}
-use Rattle.checking.specs.declared.answer.Answer.the-variants.{Unreadable, NoCode, NoDay, FiledAlready, Fault, Full}
+use Rattle.checking.specs.declared.answer.Answer.the-variants.{Unreadable, NoCode, NoDay, FiledAlready, Full}
 use Rattle.checking.specs.Answers.{answerNumber}
 use Rattle.checking.specs.Filing.{Decision, decide}
 use Rattle.filing.specs.Effect.{answerTo, buffersAfter}
+use Rattle.capi.specs.declared.told.Told.{Told}
+use Rattle.capi.specs.declared.told.Told.the-variants.{Count}
+use Rattle.capi.specs.Told.{toldMore, toldField, toldCause}
 
 -- the kinds that are filed by number: 0 default, any other correction
 unfoldable pub filableBy : ℕ → Filable
@@ -21,21 +24,27 @@ filableBy kind = cond (eqb kind 0) Default Correction
 unfoldable pub dayFor : ℕ → ℕ → ℕ
 dayFor kind day = cond (leb kind 1) day 65535
 
--- beside the answer's number: the count, or the place of the first fault
-abbrev pub answerMore : Answer → ℕ
-answerMore (Answer.Filed n) = n
-answerMore Unreadable = 0
-answerMore NoCode = 0
-answerMore NoDay = 0
-answerMore FiledAlready = 0
-answerMore (Fault i) = i
-answerMore Full = 0
+-- beside the answer's number: the count, or the first fault
+abbrev pub answerTold : Answer → Told
+answerTold (Answer.Filed n) = Count n
+answerTold Unreadable = Count 0
+answerTold NoCode = Count 0
+answerTold NoDay = Count 0
+answerTold FiledAlready = Count 0
+answerTold (Answer.Fault at cause) = Told.Fault at cause
+answerTold Full = Count 0
 
 -- what is decided of a file that is offered
 abbrev pub decided : Buffers → ℕ → List ℕ → ℕ → List ℕ → Decision
 decided b kind publisher day text = decide b (filableBy kind) publisher (dayFor kind day) text
 
-pub record FilesAs (b : Buffers) (kind : ℕ) (publisher : List ℕ) (day : ℕ) (text : List ℕ) (answer more : ℕ) (after : Buffers) : Type 0 where
-  pub answers : answer ≡ answerNumber (answerTo (held b .files) (decided b kind publisher day text))
-  pub tells : more ≡ answerMore (answerTo (held b .files) (decided b kind publisher day text))
+-- and what is answered
+abbrev pub answered : Buffers → ℕ → List ℕ → ℕ → List ℕ → Answer
+answered b kind publisher day text = answerTo (held b .files) (decided b kind publisher day text)
+
+pub record FilesAs (b : Buffers) (kind : ℕ) (publisher : List ℕ) (day : ℕ) (text : List ℕ) (answer more field cause : ℕ) (after : Buffers) : Type 0 where
+  pub answers : answer ≡ answerNumber (answered b kind publisher day text)
+  pub tells : more ≡ toldMore (answerTold (answered b kind publisher day text))
+  pub names : field ≡ toldField (answerTold (answered b kind publisher day text))
+  pub blames : cause ≡ toldCause (answerTold (answered b kind publisher day text))
   pub leaves : after ≡ buffersAfter b (decided b kind publisher day text)

@@ -8,4 +8,5 @@ pub mod kinds;
 pub mod offer;
 pub mod reading;
 pub mod show;
+mod told;
 pub mod writing;

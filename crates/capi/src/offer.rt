@@ -1,5 +1,7 @@
 // Filing a file.
 use crate::days::NO_DAY;
+use crate::told;
+use crate::told::Told;
 use calendar::dates::CalendarDays;
 use checking::answer;
 use checking::answer::Answer;
@@ -7,7 +9,7 @@ use entering::kind::Filable;
 use filing::file;
 ghost use mathlib.Core.Path.{_≡_};
 ghost use Rattle.store.specs.Reads.{lent};
-ghost use Rattle.capi.specs.Offer.{filableBy, dayFor, answerMore, FilesAs};
+ghost use Rattle.capi.specs.Offer.{filableBy, dayFor, answerTold, FilesAs};
 
 // The kind that is filed: 0 default, any other number correction.
 fn filable_by(kind: u8) -> Filable
@@ -29,22 +31,22 @@ fn day_for(kind: u8, day: u16) -> u16
     NO_DAY
 }
 
-fn more_of(a: Answer) -> u64
-    ensures { λ r. ⌜ r ≡ answerMore a ⌝ }
+fn tell(a: Answer) -> Told
+    ensures { λ r. ⌜ r ≡ answerTold a ⌝ }
 {
     match a {
-        Answer::Filed(n) => n as u64,
-        Answer::Unreadable => 0,
-        Answer::NoCode => 0,
-        Answer::NoDay => 0,
-        Answer::FiledAlready => 0,
-        Answer::Fault(i) => i as u64,
-        Answer::Full => 0,
+        Answer::Filed(n) => Told::Count(n),
+        Answer::Unreadable => Told::Count(0),
+        Answer::NoCode => Told::Count(0),
+        Answer::NoDay => Told::Count(0),
+        Answer::FiledAlready => Told::Count(0),
+        Answer::Fault(at, cause) => Told::Fault(at, cause),
+        Answer::Full => Told::Count(0),
     }
 }
 
-// Files a file: 0, and the count of the journal records whose number it names; or 44, 1, 2, 3, 4 with the place of its first fault, 5, and no
-// byte of the buffers changes.
+// Files a file: 0, and the count of the journal records whose number it names; or 44, 1, 2, 3, 4 with the place of its first faulty record, the
+// field in it (0: none) and the number of the cause, 5, and no byte of the buffers changes.
 #[no_mangle]
 pub extern "C" fn dagskimra_file(
     table: &[u8],
@@ -57,8 +59,10 @@ pub extern "C" fn dagskimra_file(
     day: u16,
     text: &[u8],
     more: &mut u64,
+    field: &mut u64,
+    cause: &mut u64,
 ) -> u8
-    ensures { λ r. ⌜ FilesAs (lent (now (table .entry)) (now (files .entry)) (now (regular .entry)) (now (corrections .entry)) (now (entries .entry))) kind (now (publisher .entry)) day (now (text .entry)) r (now (more .exit)) (lent (now (table .entry)) (now (files .exit)) (now (regular .exit)) (now (corrections .exit)) (now (entries .exit))) ⌝ }
+    ensures { λ r. ⌜ FilesAs (lent (now (table .entry)) (now (files .entry)) (now (regular .entry)) (now (corrections .entry)) (now (entries .entry))) kind (now (publisher .entry)) day (now (text .entry)) r (now (more .exit)) (now (field .exit)) (now (cause .exit)) (lent (now (table .entry)) (now (files .exit)) (now (regular .exit)) (now (corrections .exit)) (now (entries .exit))) ⌝ }
 {
     let which = filable_by(kind);
     let on = day_for(kind, day);
@@ -73,6 +77,9 @@ pub extern "C" fn dagskimra_file(
         CalendarDays(on),
         text,
     );
-    *more = more_of(a);
+    let t = tell(a);
+    *more = told::more_of(t);
+    *field = told::field_of(t);
+    *cause = told::cause_of(t);
     answer::number(a)
 }

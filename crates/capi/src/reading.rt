@@ -1,5 +1,7 @@
 // Reading files of each kind.
 use crate::kinds;
+use crate::told;
+use crate::told::Told;
 use files::judge;
 use files::judge::Judged;
 use files::read;
@@ -9,23 +11,23 @@ ghost use Rattle.laws.specs.Split.{endOf};
 ghost use Rattle.files.specs.Judged.{judgedFile, judgedNumber};
 ghost use Rattle.files.specs.Reading.{foundAt, foundNumber};
 ghost use Rattle.capi.specs.Kinds.{kindBy};
-ghost use Rattle.capi.specs.Reading.{judgedMore, Judges};
+ghost use Rattle.capi.specs.Reading.{judgedTold, Judges};
 
 fn number(j: Judged) -> u8
     ensures { λ r. ⌜ r ≡ judgedNumber j ⌝ }
 {
     match j {
         Judged::Records(_) => 0,
-        Judged::Fault(_) => 4,
+        Judged::Fault(_, _) => 4,
     }
 }
 
-fn more_of(j: Judged) -> u64
-    ensures { λ r. ⌜ r ≡ judgedMore j ⌝ }
+fn tell(j: Judged) -> Told
+    ensures { λ r. ⌜ r ≡ judgedTold j ⌝ }
 {
     match j {
-        Judged::Records(n) => n as u64,
-        Judged::Fault(i) => i as u64,
+        Judged::Records(n) => Told::Count(n),
+        Judged::Fault(at, cause) => Told::Fault(at, cause),
     }
 }
 
@@ -34,18 +36,28 @@ fn found_number(f: Found) -> u8
 {
     match f {
         Found::Record => 0,
-        Found::Fault(_) => 4,
+        Found::Fault(_, _) => 4,
         Found::Beyond => 7,
     }
 }
 
-// A file of a kind: 0, and how many records it has; or 4, and the place of its first fault.
+// A file of a kind: 0, and how many records it has; or 4, and the place of its first faulty record, the field in it (0: none) and the number of
+// the cause.
 #[no_mangle]
-pub extern "C" fn dagskimra_judge(kind: u8, file: &[u8], more: &mut u64) -> u8
-    ensures { λ r. ⌜ Judges (judgedFile (kindBy kind) (now (file .entry))) r (now (more .exit)) ⌝ }
+pub extern "C" fn dagskimra_judge(
+    kind: u8,
+    file: &[u8],
+    more: &mut u64,
+    field: &mut u64,
+    cause: &mut u64,
+) -> u8
+    ensures { λ r. ⌜ Judges (judgedFile (kindBy kind) (now (file .entry))) r (now (more .exit)) (now (field .exit)) (now (cause .exit)) ⌝ }
 {
     let j = judge::judge(kinds::kind_by(kind), file);
-    *more = more_of(j);
+    let t = tell(j);
+    *more = told::more_of(t);
+    *field = told::field_of(t);
+    *cause = told::cause_of(t);
     number(j)
 }
 

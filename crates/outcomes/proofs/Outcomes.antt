@@ -105,8 +105,8 @@ figure-settles right x y p q = pair-settles _ _ x y (p .answers, p .differ) (q .
 pub rework-settles : (b : Buffers) (list : List ℕ) → Settles (λ (o : ℕ × ℕ × List ℕ × List ℕ). ReworksAs b list (o .0) (o .1) (o .2) (o .3))
 rework-settles b list x y p q = λ i. ((p .answers ∙ sym (q .answers)) i, (p .tells ∙ sym (q .tells)) i, (p .leaves ∙ sym (q .leaves)) i, (p .lists ∙ sym (q .lists)) i)
 
-pub judging-settles : (right : Judged) → Settles (λ (o : ℕ × ℕ). Judges right (o .0) (o .1))
-judging-settles right x y p q = pair-settles _ _ x y (p .answers, p .tells) (q .answers, q .tells)
+pub judging-settles : (right : Judged) → Settles (λ (o : ℕ × ℕ × ℕ × ℕ). Judges right (o .0) (o .1) (o .2) (o .3))
+judging-settles right x y p q = λ i. ((p .answers ∙ sym (q .answers)) i, (p .tells ∙ sym (q .tells)) i, (p .names ∙ sym (q .names)) i, (p .blames ∙ sym (q .blames)) i)
 
 pub showing-settles : (a : EntryAnswer) (before : List ℕ) → Settles (λ (o : ℕ × List ℕ). ShowsEntry a before (o .0) (o .1))
 showing-settles a before x y p q = pair-settles _ _ x y (p .answers, p .leaves) (q .answers, q .leaves)
@@ -114,8 +114,8 @@ showing-settles a before x y p q = pair-settles _ _ x y (p .answers, p .leaves) 
 pub start-settles : (text : List ℕ) (before : Buffers) → Settles (λ (o : ℕ × ℕ × Buffers). StartsAs text before (o .0) (o .1) (o .2))
 start-settles text before x y p q = three-settle _ _ _ x y (p .answers, p .tells, p .leaves) (q .answers, q .tells, q .leaves)
 
-pub file-settles : (b : Buffers) (kind : ℕ) (publisher : List ℕ) (day : ℕ) (text : List ℕ) → Settles (λ (o : ℕ × ℕ × Buffers). FilesAs b kind publisher day text (o .0) (o .1) (o .2))
-file-settles b kind publisher day text x y p q = three-settle _ _ _ x y (p .answers, p .tells, p .leaves) (q .answers, q .tells, q .leaves)
+pub file-settles : (b : Buffers) (kind : ℕ) (publisher : List ℕ) (day : ℕ) (text : List ℕ) → Settles (λ (o : ℕ × ℕ × ℕ × ℕ × Buffers). FilesAs b kind publisher day text (o .0) (o .1) (o .2) (o .3) (o .4))
+file-settles b kind publisher day text x y p q = λ i. ((p .answers ∙ sym (q .answers)) i, (p .tells ∙ sym (q .tells)) i, (p .names ∙ sym (q .names)) i, (p .blames ∙ sym (q .blames)) i, (p .leaves ∙ sym (q .leaves)) i)
 
 pub write-settles : (right : Written) (text before : List ℕ) → Settles (λ (o : List ℕ × ℕ × ℕ). Writes right text before (o .0) (o .1) (o .2))
 write-settles right text before x y p q = three-settle _ _ _ x y (p .bytes, p .answers, p .tells) (q .bytes, q .answers, q .tells)
