@@ -59,13 +59,14 @@ static void least(double *to, double value) {
 static void plain_whole(struct store *s) {
     double sum = 0;
     int count;
+    struct fault fault;
     expect(plain_start(s, year.table, year.table_length, &count) == 0, "plain start", 0);
     for (int i = 0; i < year.file_count; i++) {
         const struct year_file *f = &year.files[i];
         char code[8];
         sprintf(code, "D%03d", f->publisher);
         double t = now();
-        int answer = plain_file(s, f->kind, (const uint8_t *)code, 4, f->day, f->text, f->length, &count);
+        int answer = plain_file(s, f->kind, (const uint8_t *)code, 4, f->day, f->text, f->length, &count, &fault);
         t = now() - t;
         expect(answer == 0, "plain filing", i);
         sum += t;
@@ -77,13 +78,14 @@ static void plain_whole(struct store *s) {
 static void plain_phases(struct store *s) {
     double sum[PHASES] = {0}, t[5];
     int count;
+    struct fault fault;
     plain_start(s, year.table, year.table_length, &count);
     for (int i = 0; i < year.file_count; i++) {
         const struct year_file *f = &year.files[i];
         t[0] = now();
         int good = plain_readable(s);
         t[1] = now();
-        good &= !plain_filed_already(s, f->kind, f->publisher, f->day) && plain_judge(f->kind, f->text, f->length, &count) == 0 && plain_has_room(s, f->kind, count);
+        good &= !plain_filed_already(s, f->kind, f->publisher, f->day) && plain_judge(f->kind, f->text, f->length, &count, &fault) == 0 && plain_has_room(s, f->kind, count);
         t[2] = now();
         plain_append(s, f->kind, f->publisher, f->day, f->text, count);
         t[3] = now();
@@ -120,14 +122,14 @@ static void proved_start(struct store *s) {
 
 static void proved_whole(struct store *s) {
     double sum = 0;
-    uint64_t count;
+    uint64_t count, field, cause;
     proved_start(s);
     for (int i = 0; i < year.file_count; i++) {
         const struct year_file *f = &year.files[i];
         char code[8];
         sprintf(code, "D%03d", f->publisher);
         double t = now();
-        int answer = dagskimra_file(FIVE(s), f->kind, (const uint8_t *)code, 4, f->day, f->text, f->length, &count);
+        int answer = dagskimra_file(FIVE(s), f->kind, (const uint8_t *)code, 4, f->day, f->text, f->length, &count, &field, &cause);
         t = now() - t;
         expect(answer == 0, "proved filing", i);
         sum += t;

@@ -19,7 +19,8 @@ static char codes[FILES][8];
 
 static int read_plain(const struct year_file *f) {
     int m;
-    return !plain_filed_already(&store, f->kind, f->publisher, f->day) && plain_judge(f->kind, f->text, f->length, &m) == 0 && plain_has_room(&store, f->kind, m);
+    struct fault fault;
+    return !plain_filed_already(&store, f->kind, f->publisher, f->day) && plain_judge(f->kind, f->text, f->length, &m, &fault) == 0 && plain_has_room(&store, f->kind, m);
 }
 
 static int read_proved(const struct year_file *f, const char *code) {

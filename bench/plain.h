@@ -65,6 +65,14 @@ struct pair {
     int first, second;
 };
 
+/* Why a file is refused with 4; RIGHT is no fault. */
+enum cause { RIGHT, CHARACTER, LENGTH, DATE, CODE, VALUE, CLOSING, AFTER };
+
+/* The place of the record, its field by the "Pos." of the specification's table (0: none), and the cause. */
+struct fault {
+    int place, field, cause;
+};
+
 /* A filed record, with the publisher, day and place in its file that it came with. */
 struct filed {
     int publisher, day, place, verdict;
@@ -82,13 +90,13 @@ int read_report(const uint8_t *s, size_t length, struct part *p);
 int read_correction(const uint8_t *s, size_t length, struct correction *c);
 int same_number(struct number a, struct number b);
 
-/* Each answers the paper's number. */
+/* Each answers the paper's number; with 4 the fault is told. */
 int plain_start(struct store *s, const uint8_t *text, size_t length, int *count);
-int plain_file(struct store *s, int kind, const uint8_t *publisher, size_t publisher_length, int day, const uint8_t *text, size_t length, int *count);
+int plain_file(struct store *s, int kind, const uint8_t *publisher, size_t publisher_length, int day, const uint8_t *text, size_t length, int *count, struct fault *fault);
 
 /* The parts of filing, in their order. */
 int plain_readable(const struct store *s);
-int plain_judge(int kind, const uint8_t *text, size_t length, int *count);
+int plain_judge(int kind, const uint8_t *text, size_t length, int *count, struct fault *fault);
 int plain_filed_already(const struct store *s, int kind, int publisher, int day);
 int plain_has_room(const struct store *s, int kind, int count);
 void plain_append(struct store *s, int kind, int publisher, int day, const uint8_t *text, int count);

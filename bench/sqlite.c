@@ -194,12 +194,13 @@ int sqlite_file(int kind, int publisher, int day, const uint8_t *text, size_t le
     static struct number named[REPORTS];
     static const int most[2] = {REPORTS, CORRECTIONS};
     sqlite3_int64 key[3] = {kind, publisher, day};
+    struct fault fault;
     int m;
     run(begin);
     bind(add_file, 3, key);
     int twice = sqlite3_step(add_file) != SQLITE_DONE;
     sqlite3_reset(add_file);
-    int answer = twice ? 3 : plain_judge(kind, text, length, &m) != 0 ? 4 : stored[kind] + m > most[kind] ? 5 : 0;
+    int answer = twice ? 3 : plain_judge(kind, text, length, &m, &fault) != 0 ? 4 : stored[kind] + m > most[kind] ? 5 : 0;
     if (answer) {
         run(rollback);
         return answer;

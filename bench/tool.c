@@ -93,6 +93,11 @@ static void print_report(int place) {
     print_day(f.day);
 }
 
+static void print_fault(const struct fault *f) {
+    static const char *const causes[] = {"", "character", "length", "date", "code", "value", "closing", "after"};
+    printf("refused\t4\t%d\t%d\t%s\n", f->place, f->field, causes[f->cause]);
+}
+
 /* ---- names */
 
 static int read_name(const char *path, int *day) {
@@ -140,6 +145,7 @@ static int start(const char *path, const char *text_path) {
 
 static int file_one(const char *publisher, const char *path) {
     int day, count = 0, answer;
+    struct fault fault;
     if (read_code((const uint8_t *)publisher, strlen(publisher)) == NONE) {
         answer = 1;
     } else {
@@ -147,18 +153,19 @@ static int file_one(const char *publisher, const char *path) {
         if (kind == DEFAULT || kind == CORRECTION) {
             size_t length;
             uint8_t *text = read_whole(path, &length);
-            answer = plain_file(&store, kind, (const uint8_t *)publisher, strlen(publisher), day, text, length, &count);
+            answer = plain_file(&store, kind, (const uint8_t *)publisher, strlen(publisher), day, text, length, &count, &fault);
             free(text);
         } else {
             answer = 2;
         }
     }
+    printf("%s\t", path);
     if (answer == 0)
-        printf("%s\tfiled\t%d\n", path, count);
+        printf("filed\t%d\n", count);
     else if (answer == 4)
-        printf("%s\trefused\t4\t%d\n", path, count);
+        print_fault(&fault);
     else
-        printf("%s\trefused\t%d\n", path, answer);
+        printf("refused\t%d\n", answer);
     return answer != 0;
 }
 
@@ -322,28 +329,17 @@ static int rework(const char *path) {
     return 0;
 }
 
-static int read_request(const uint8_t *s, size_t length) {
-    return length >= 6 && read_code(s, 4) != NONE && s[4] == ',' && s[length - 1] == ',' && (length == 6 || (length == 14 && read_date(s + 5, 8) != NONE));
-}
-
 static int read_file(const char *path) {
-    int day, count, kind = read_name(path, &day), answer;
+    int day, count, kind = read_name(path, &day);
+    struct fault fault;
     if (kind == NONE) {
         printf("refused\t2\n");
         return 1;
     }
     size_t length;
     uint8_t *text = read_whole(path, &length), *at = text;
-    if (kind == REQUEST) {
-        uint8_t *cr = memchr(text, 13, length);
-        int good = cr && read_request(text, cr - text);
-        answer = good && cr + 1 == text + length ? 0 : 4;
-        count = good;
-    } else {
-        answer = plain_judge(kind, text, length, &count);
-    }
-    if (answer != 0) {
-        printf("refused\t4\t%d\n", count);
+    if (plain_judge(kind, text, length, &count, &fault) != 0) {
+        print_fault(&fault);
         return 1;
     }
     for (int i = 0; i < count; i++) {
