@@ -27,9 +27,9 @@ pub fn judged(j: Judged) {
             number(n);
             say(b" records");
         }
-        Judged::Fault(i) => {
+        Judged::Fault(at, _) => {
             say(b"4 at ");
-            number(i);
+            number(at.place);
         }
     }
 }
@@ -38,7 +38,10 @@ pub fn judged(j: Judged) {
 pub fn sign(j: Judged) -> u8 {
     match j {
         Judged::Records(n) => { if n < 26 { 97 + n as u8 } else { 33 } }
-        Judged::Fault(i) => { if i < 10 { 48 + i as u8 } else { 63 } }
+        Judged::Fault(at, _) => {
+            let i = at.place;
+            if i < 10 { 48 + i as u8 } else { 63 }
+        }
     }
 }
 

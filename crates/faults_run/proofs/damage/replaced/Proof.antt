@@ -1,0 +1,60 @@
+-- `faults_run::damage::replaced` meets its contract. Assumes nothing.
+use lib.ListN.{length}
+use Prim.Native.Nat.{_-_}
+use mathlib.Core.Path.{_≡_}
+use borrow.Author.Needs.{needs}
+use Rattle.faults_run.proofs.damage.replaced.Statement.{statement}
+use Rattle.faults_run.proofs.damage.replaced.Tie as tie
+
+abbrev Inv-loop : tie.InvT-loop
+Inv-loop kind file₀ b n last₀ i₀ file last i = length file ≡ length file₀
+
+abbrev μ-loop : tie.MeasureT-loop
+μ-loop kind file₀ b n last₀ i₀ file last i = n - i
+
+loop-holds : tie.Need-loop-holds Inv-loop μ-loop
+loop-holds c = search needs
+
+slice-read-was : tie.Need-slice-read-was Inv-loop μ-loop
+slice-read-was c = search needs
+
+slice-write-file : tie.Need-slice-write-file Inv-loop μ-loop
+slice-write-file c = search needs
+
+turn-requires : tie.Need-turn-requires Inv-loop μ-loop
+turn-requires c κs = search needs
+
+slice-write-file-2 : tie.Need-slice-write-file-2 Inv-loop μ-loop
+slice-write-file-2 c = search needs
+
+add-i : tie.Need-add-i Inv-loop μ-loop
+add-i c = search needs
+
+loop-less : tie.Need-loop-less Inv-loop μ-loop
+loop-less c = search needs
+
+loop-again : tie.Need-loop-again Inv-loop μ-loop
+loop-again c = search needs
+
+same-length : tie.Need-same-length Inv-loop μ-loop
+same-length c = search needs
+
+returns : tie.Need-returns Inv-loop μ-loop
+returns c = search needs
+
+pub replaced-spec : {M : Type 1} → statement M
+replaced-spec =
+    tie.close
+    (tie.spec
+    Inv-loop
+    μ-loop
+    loop-holds
+    slice-read-was
+    slice-write-file
+    turn-requires
+    slice-write-file-2
+    add-i
+    loop-less
+    loop-again
+    same-length
+    returns)
