@@ -41,7 +41,7 @@ pub(crate) fn behind(s: &[u8], n: usize) -> &[u8]
 }
 
 // How many bytes the code of a correction has: up to `U:`, or four where that is missing.
-pub(crate) fn code_width(head: &[u8]) -> usize
+pub fn code_width(head: &[u8]) -> usize
     ensures { λ r. ⌜ r ≡ codeWidth (now (head .entry)) ⌝ }
 {
     let colon = text::field_end(head, 0, 58);
