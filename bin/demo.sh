@@ -43,7 +43,7 @@ demo() { # DAGSKIMRA
     tell 'Under which two reports did the number move, and when were they published?'
     run why books 3055501
 
-    tell 'A damaged file (an O in a date) is refused with the place of its first fault, and changes nothing.'
+    tell 'A damaged file (an O in a date) is refused with record, field and cause of its first fault, and changes nothing.'
     published D003/1D240307.txt '3055502,,05032024,D003,D001,P' '40600,40699,06O32024,D003,D004,P'
     run file books D003 D003/1D240307.txt
 

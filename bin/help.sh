@@ -48,9 +48,19 @@ Files default (1Dyymmdd.txt) and correction files (1Kyymmdd.txt); the name tells
 kind and publication day. A line of LIST is PUBLISHER, a tab and PATH.
 Prints for each file PATH `filed` COUNT (journal records whose number the file
 names), or PATH `refused` NO:
-  1   the publisher is no network code       4   a record at PLACE breaks its layout
+  1   the publisher is no network code       4   it breaks its layout
   2   the name tells no kind and day         5   there is no room
   3   it is filed already                    44  the store is damaged
+Behind a 4 stand PLACE, FIELD and CAUSE of the first fault: the record, counted
+from 0; the field, by its "Pos." in the specification's table, or 0; and one of
+  character   a character outside 4.4.1
+  length      a field of the wrong length, or missing
+  date        a date that does not exist
+  code        a network code that is none
+  value       a value that the table does not allow
+  closing     a closing record that is missing, or whose count disagrees
+  after       bytes after the end
+Standard error shows the record with a mark under the field.
 A refused file changes nothing. What is answered as filed is on the disk.
 
   dagskimra file books D001 D001/1D240305.txt D001/1K240306.txt
@@ -143,8 +153,9 @@ END
 usage: dagskimra read FILE
 
 Prints `record` PLACE RECORD for each record of a default (1D), correction (1K),
-request (1Q) or response file (1R), or `refused` 4 PLACE, or `refused` 2 for
-another name.
+request (1Q) or response file (1R); or `refused` 4 PLACE FIELD CAUSE where the
+file breaks its layout (see `help file`), with the record and a mark under the
+field on standard error; or `refused` 2 for another name.
 
   dagskimra read D001/1D240305.txt
 END

@@ -59,11 +59,12 @@ while read -r what place byte kind; do
     1)
         refused=$((refused + 1))
         cmp -s store/store before || fault "refused, and the store has changed"
-        grep -q "^$to	refused	4	[0-9]*\$" out || fault "refused with: $(cat out)"
-        # read tells the same place
+        grep -qE "^$to	refused	4	[0-9]+	[0-9]+	(character|length|date|code|value|closing|after)\$" out || fault "refused with: $(cat out)"
+        # read tells the same fault, in the same words
         sed 's/^[^	]*	//' out >told
-        "$tool" read "$to" >out 2>said
-        cmp -s told out || fault "filing says $(cat told), reading $(cat out)"
+        "$tool" read "$to" >out 2>said-too
+        cmp -s told out || fault "filing tells $(cat told), reading $(cat out)"
+        cmp -s said said-too || fault "filing says $(cat said), reading $(cat said-too)"
         ;;
     *) fault "status $status: $(cat said)" ;;
     esac

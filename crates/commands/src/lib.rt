@@ -3,6 +3,7 @@
 // command line or a file is at fault.
 pub mod arrivals;
 pub mod end;
+pub mod fault;
 pub mod given;
 pub mod opened;
 pub mod read;

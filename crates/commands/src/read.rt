@@ -1,10 +1,13 @@
 // read FILE: the records of a file of any of the four kinds.
 use crate::LONGEST;
 use crate::end;
+use crate::fault;
 use crate::given;
 use desk::args;
 use desk::page;
 use desk::within;
+use faults::cause::Cause;
+use faults::cause::FaultPlace;
 use files::judge::Judged;
 use libc::STDOUT_FILENO;
 use names::kind::FileKind;
@@ -47,19 +50,21 @@ fn records(file: &[u8], n: usize) -> u8 {
     end::done(p, &room, 0)
 }
 
-// `refused` 4 PLACE
-fn fault(path: &[u8], place: usize) -> u8 {
-    words::refusal::refused(path, 4, place as u64);
+// `refused` 4 PLACE FIELD CAUSE
+fn refused(at: FaultPlace, cause: Cause) -> u8 {
     let mut room = [0u8; ROOM];
-    let p = page::text(page::begin(STDOUT_FILENO), &mut room, b"refused\t4\t");
-    let q = page::number(p, &mut room, place as u64);
+    let p = page::text(page::begin(STDOUT_FILENO), &mut room, b"refused\t");
+    let q = fault::columns(p, &mut room, at.place, at.field, cause.number());
     let r = page::line_end(q, &mut room);
     end::done(r, &room, 1)
 }
 
 fn read_bytes(path: &[u8], kind: FileKind, file: &[u8]) -> u8 {
     match files::judge::judge(kind, file) {
-        Judged::Fault(place) => fault(path, place),
+        Judged::Fault(at, cause) => {
+            words::fault::refused(path, kind, file, at, cause);
+            refused(at, cause)
+        }
         Judged::Records(n) => records(file, n),
     }
 }

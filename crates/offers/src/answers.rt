@@ -1,33 +1,45 @@
 // The answers, printed once what was filed is on the disk.
-use crate::MOST;
+use crate::kept;
+use crate::kept::KEPT;
+use crate::kept::Told;
 use crate::list;
+use commands::fault;
 use desk::page;
 use page::Page;
 use page::ROOM;
 
-// PATH `filed` COUNT, or PATH `refused` NO, for 4 with the place behind it
-fn answer(first: Page, room: &mut [u8; ROOM], path: &[u8], number: u8, value: usize) -> Page {
+// PATH `filed` COUNT, or PATH `refused` NO, for 4 with PLACE, FIELD and CAUSE behind it
+fn answer(first: Page, room: &mut [u8; ROOM], path: &[u8], told: Told) -> Page {
     let mut p = page::text(first, room, path);
-    if number == 0 {
+    if told.number == 0 {
         p = page::text(p, room, b"\tfiled\t");
-        p = page::number(p, room, value as u64);
+        p = page::number(p, room, told.value as u64);
         return page::line_end(p, room);
     }
     p = page::text(p, room, b"\trefused\t");
-    p = page::number(p, room, number as u64);
-    if number == 4 {
-        p = page::tab(p, room);
-        p = page::number(p, room, value as u64);
+    if told.number == 4 {
+        p = fault::columns(p, room, told.value, told.field, told.cause);
+    } else {
+        p = page::number(p, room, told.number as u64);
     }
     page::line_end(p, room)
 }
 
-fn line(p: Page, room: &mut [u8; ROOM], offer: &[u8], number: u8, value: usize) -> Page {
-    let at = list::path_at(offer);
-    if number != 0 {
-        words::refusal::refused(&offer[at..], number, value as u64);
+// Why a file was refused; of a 4 it was said when the file was looked into.
+fn say(path: &[u8], number: u8) {
+    if number == 0 {
+        return;
     }
-    answer(p, room, &offer[at..], number, value)
+    if number == 4 {
+        return;
+    }
+    words::refusal::refused(path, number, 0);
+}
+
+fn line(p: Page, room: &mut [u8; ROOM], offer: &[u8], told: Told) -> Page {
+    let at = list::path_at(offer);
+    say(&offer[at..], told.number);
+    answer(p, room, &offer[at..], told)
 }
 
 // The lines of the first n offers of a list.
@@ -37,8 +49,7 @@ pub fn print(
     offers: &[u8],
     sep: u8,
     n: usize,
-    numbers: &[u8; MOST],
-    values: &[usize; MOST],
+    kept: &[usize; KEPT],
 ) -> Page {
     let mut p = first;
     let mut at = 0;
@@ -49,13 +60,10 @@ pub fn print(
             return p;
         }
         if at < end {
-            if MOST <= k {
-                return p;
-            }
             if n <= k {
                 return p;
             }
-            p = line(p, room, &offers[at..end], numbers[k], values[k]);
+            p = line(p, room, &offers[at..end], kept::at(kept, k));
             k += 1;
         }
         at = end + 1;

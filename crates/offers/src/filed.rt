@@ -1,4 +1,5 @@
-// What is asked of the library: one file, filed.
+// What is asked of the library: one file, filed. Why a file is refused with 4 is said at once, since its text is at hand.
+use crate::kept::Told;
 use calendar::dates::CalendarDays;
 use checking::answer::Answer;
 use disk::CORRECTIONS;
@@ -7,40 +8,39 @@ use disk::FILES;
 use disk::REGULAR;
 use disk::TABLE;
 use entering::kind::Filable;
+use faults::cause::Cause;
+use faults::cause::FaultPlace;
 
-// An answer: its number, and the count of a 0 or the place of a 4.
-pub struct Told {
-    pub number: u8,
-    pub value: usize,
-}
-
-// An answer that is its number alone.
-fn plain(a: Answer) -> Told {
+// An answer that is its number, and the count of a 0.
+fn plain(a: Answer, value: usize) -> Told {
     Told {
         number: checking::answer::number(a),
-        value: 0,
+        value,
+        field: 0,
+        cause: 0,
     }
 }
 
-fn as_told(a: Answer) -> Told {
+fn fault(path: &[u8], kind: Filable, text: &[u8], at: FaultPlace, cause: Cause) -> Told {
+    words::fault::refused(path, kind.file_kind(), text, at, cause);
+    Told {
+        number: 4,
+        value: at.place,
+        field: at.field,
+        cause: cause.number(),
+    }
+}
+
+fn as_told(path: &[u8], kind: Filable, text: &[u8], a: Answer) -> Told {
     match a {
-        Answer::Filed(count) => Told {
-            number: 0,
-            value: count,
-        },
-        Answer::Fault(place) => Told {
-            number: 4,
-            value: place,
-        },
-        Answer::Unreadable => plain(a),
-        Answer::NoCode => plain(a),
-        Answer::NoDay => plain(a),
-        Answer::FiledAlready => plain(a),
-        Answer::Full => plain(a),
+        Answer::Filed(count) => plain(a, count),
+        Answer::Fault(at, cause) => fault(path, kind, text, at, cause),
+        _ => plain(a, 0),
     }
 }
 
 pub fn file(
+    path: &[u8],
     table: &[u8; TABLE],
     files: &mut [u8; FILES],
     regular: &mut [u8; REGULAR],
@@ -51,7 +51,7 @@ pub fn file(
     day: CalendarDays,
     text: &[u8],
 ) -> Told {
-    as_told(filing::file::file(
+    let answer = filing::file::file(
         table,
         files,
         regular,
@@ -61,5 +61,6 @@ pub fn file(
         publisher,
         day,
         text,
-    ))
+    );
+    as_told(path, kind, text, answer)
 }

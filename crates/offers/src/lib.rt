@@ -3,6 +3,7 @@
 pub mod answers;
 pub mod filed;
 pub mod gather;
+pub mod kept;
 pub mod list;
 pub mod offer;
 pub mod run;

@@ -1,6 +1,6 @@
 // One file offered: read where publisher and name are right, and filed.
 use crate::filed;
-use crate::filed::Told;
+use crate::kept::Told;
 use calendar::dates::CalendarDays;
 use commands::LONGEST;
 use commands::given;
@@ -68,6 +68,7 @@ fn is_code(publisher: &[u8]) -> bool {
 }
 
 fn file_text(
+    path: &[u8],
     h: Heading,
     publisher: &[u8],
     text: &[u8; LONGEST],
@@ -83,6 +84,7 @@ fn file_text(
     let kind = h.kind;
     let day = h.day;
     filed::file(
+        path,
         table,
         files,
         regular,
@@ -109,6 +111,7 @@ pub fn offer(
     let h = heading_of(path);
     if !(is_code(publisher) & h.right) {
         return Offered::Answer(file_text(
+            path,
             h,
             publisher,
             text,
@@ -123,6 +126,7 @@ pub fn offer(
     match given::load(path, text) {
         Given::Unreadable => Offered::Unreadable,
         Given::Bytes(n) => Offered::Answer(file_text(
+            path,
             h,
             publisher,
             text,

@@ -3,6 +3,8 @@ use crate::MOST;
 use crate::answers;
 use crate::gather;
 use crate::gather::Gathered;
+use crate::kept;
+use crate::kept::KEPT;
 use crate::list;
 use crate::list::Counted;
 use crate::offer;
@@ -65,17 +67,19 @@ fn all_refused(total: usize) -> Round {
     }
 }
 
-// How far the work has come, for a person who waits.
+// How far the work has come, for a person who waits. What is said next is written over it, and is longer.
 fn progress(terminal: bool, k: usize, total: usize) {
     if !terminal {
         return;
     }
-    io::write_all(STDERR_FILENO, b"\rfile ");
+    io::write_all(STDERR_FILENO, b"file ");
     io::print_decimal(STDERR_FILENO, k as u64);
     io::write_all(STDERR_FILENO, b" of ");
     io::print_decimal(STDERR_FILENO, total as u64);
     if k == total {
         io::write_all(STDERR_FILENO, b"\n");
+    } else {
+        io::write_all(STDERR_FILENO, b"\r");
     }
 }
 
@@ -115,8 +119,7 @@ fn offer_line(
     r: Round,
     line: &[u8],
     text: &mut [u8; LONGEST],
-    numbers: &mut [u8; MOST],
-    values: &mut [usize; MOST],
+    kept: &mut [usize; KEPT],
     table: &[u8; TABLE],
     files: &mut [u8; FILES],
     regular: &mut [u8; REGULAR],
@@ -140,8 +143,7 @@ fn offer_line(
     ) else {
         return with_stop(r);
     };
-    numbers[k] = told.number;
-    values[k] = told.value;
+    kept::keep(kept, k, told);
     with_answer(r, told.number)
 }
 
@@ -151,8 +153,7 @@ fn offer_each(
     sep: u8,
     total: usize,
     text: &mut [u8; LONGEST],
-    numbers: &mut [u8; MOST],
-    values: &mut [usize; MOST],
+    kept: &mut [usize; KEPT],
     table: &[u8; TABLE],
     files: &mut [u8; FILES],
     regular: &mut [u8; REGULAR],
@@ -172,8 +173,7 @@ fn offer_each(
                 r,
                 &offers[at..end],
                 text,
-                numbers,
-                values,
+                kept,
                 table,
                 files,
                 regular,
@@ -196,8 +196,7 @@ fn file_loaded(
     offers: &[u8],
     sep: u8,
     total: usize,
-    numbers: &mut [u8; MOST],
-    values: &mut [usize; MOST],
+    kept: &mut [usize; KEPT],
     table: &[u8; TABLE],
     files: &mut [u8; FILES],
     regular: &mut [u8; REGULAR],
@@ -210,8 +209,7 @@ fn file_loaded(
         sep,
         total,
         &mut text,
-        numbers,
-        values,
+        kept,
         table,
         files,
         regular,
@@ -232,8 +230,7 @@ fn file_locked(
     offers: &[u8],
     sep: u8,
     total: usize,
-    numbers: &mut [u8; MOST],
-    values: &mut [usize; MOST],
+    kept: &mut [usize; KEPT],
 ) -> Round {
     let mut table = [0u8; TABLE];
     let mut files = [0u8; FILES];
@@ -256,8 +253,7 @@ fn file_locked(
             offers,
             sep,
             total,
-            numbers,
-            values,
+            kept,
             &table,
             &mut files,
             &mut regular,
@@ -268,7 +264,7 @@ fn file_locked(
 }
 
 // Prints what was answered.
-fn print(offers: &[u8], sep: u8, r: Round, numbers: &[u8; MOST], values: &[usize; MOST]) -> u8 {
+fn print(offers: &[u8], sep: u8, r: Round, kept: &[usize; KEPT]) -> u8 {
     let mut room = [0u8; ROOM];
     let p = answers::print(
         page::begin(STDOUT_FILENO),
@@ -276,8 +272,7 @@ fn print(offers: &[u8], sep: u8, r: Round, numbers: &[u8; MOST], values: &[usize
         offers,
         sep,
         r.answered,
-        numbers,
-        values,
+        kept,
     );
     if r.stopped {
         return end::done(p, &room, 2);
@@ -290,14 +285,13 @@ fn print(offers: &[u8], sep: u8, r: Round, numbers: &[u8; MOST], values: &[usize
 
 fn file_offers(folder: &[u8], offers: &[u8], sep: u8, total: usize) -> u8 {
     // until it is answered otherwise, a file is refused with 44
-    let mut numbers = [44u8; MOST];
-    let mut values = [0usize; MOST];
+    let mut kept = [44usize; KEPT];
     if !lock::take(folder) {
         return 2;
     }
-    let r = file_locked(folder, offers, sep, total, &mut numbers, &mut values);
+    let r = file_locked(folder, offers, sep, total, &mut kept);
     lock::release(folder);
-    print(offers, sep, r, &numbers, &values)
+    print(offers, sep, r, &kept)
 }
 
 fn no_tab(path: &[u8], line: usize) -> u8 {

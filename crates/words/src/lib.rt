@@ -1,10 +1,19 @@
 // Words for people, on standard error: what was refused, where, why, and what to do next.
+pub mod fault;
+mod field;
+mod marked;
 pub mod refusal;
+mod span;
+mod wrong;
 
 use libc::STDERR_FILENO;
 
 pub fn text(bytes: &[u8]) {
     io::write_all(STDERR_FILENO, bytes);
+}
+
+pub(crate) fn number(n: usize) {
+    io::print_decimal(STDERR_FILENO, n as u64);
 }
 
 // A line: what, a colon, and why.

@@ -1,4 +1,4 @@
-// What the numbers of refusals mean, and what to do next.
+// What the numbers of refusals mean, and what to do next. Of a 4 there is more to say: `fault` does.
 use crate::text;
 
 fn publisher() {
@@ -15,14 +15,6 @@ fn name() {
 
 fn filed_already() {
     text(b"a file of this publisher, day and kind is filed already; 'files' lists them");
-}
-
-fn fault(place: u64) {
-    text(b"the record at place ");
-    io::print_decimal(libc::STDERR_FILENO, place);
-    text(
-        b", counted from 0, breaks its layout, or the closing record there is missing or wrong; ask the publisher for a whole file",
-    );
 }
 
 fn full() {
@@ -51,12 +43,11 @@ fn damaged() {
     );
 }
 
-fn why(number: u8, value: u64) {
+fn why(number: u8) {
     match number {
         1 => publisher(),
         2 => name(),
         3 => filed_already(),
-        4 => fault(value),
         5 => full(),
         6 => table(),
         7 => beyond(),
@@ -73,16 +64,25 @@ fn changes(number: u8) -> bool {
     number != 12
 }
 
-// What was refused with which number, and why; `value` is the place of a 4.
-pub fn refused(what: &[u8], number: u8, value: u64) {
+// What was refused, and with which number.
+pub(crate) fn begin(what: &[u8], number: u8) {
     text(b"dagskimra: ");
     text(what);
     text(b": refused (");
     io::print_decimal(libc::STDERR_FILENO, number as u64);
     text(b"): ");
-    why(number, value);
+}
+
+pub(crate) fn end(number: u8) {
     if changes(number) {
         text(b"; nothing was changed");
     }
     text(b"\n");
+}
+
+// What was refused with which number other than 4, and why.
+pub fn refused(what: &[u8], number: u8, _value: u64) {
+    begin(what, number);
+    why(number);
+    end(number);
 }

@@ -6,10 +6,10 @@ use Rattle.offers.proofs.answers.print.Statement.{statement}
 use Rattle.offers.proofs.answers.print.Tie as tie
 
 abbrev Inv-loop : tie.InvT-loop
-Inv-loop room₀ offers sep n numbers values p₀ at₀ k₀ room p at k = Unit
+Inv-loop room₀ offers sep n kept p₀ at₀ k₀ room p at k = Unit
 
 abbrev μ-loop : tie.MeasureT-loop
-μ-loop room₀ offers sep n numbers values p₀ at₀ k₀ room p at k = length offers - at
+μ-loop room₀ offers sep n kept p₀ at₀ k₀ room p at k = length offers - at
 
 loop-holds : tie.Need-loop-holds Inv-loop μ-loop
 loop-holds c = search needs
@@ -23,23 +23,14 @@ returns c = search needs
 returns-2 : tie.Need-returns-2 Inv-loop μ-loop
 returns-2 c = search needs
 
-returns-3 : tie.Need-returns-3 Inv-loop μ-loop
-returns-3 c = search needs
-
 part-line-start : tie.Need-part-line-start Inv-loop μ-loop
 part-line-start c = search needs
 
 part-line-end : tie.Need-part-line-end Inv-loop μ-loop
 part-line-end c = search needs
 
-element-copy-out-line : tie.Need-element-copy-out-line Inv-loop μ-loop
-element-copy-out-line c = search needs
-
-mul-line : tie.Need-mul-line Inv-loop μ-loop
-mul-line c = search needs
-
-element-copy-out-line-2 : tie.Need-element-copy-out-line-2 Inv-loop μ-loop
-element-copy-out-line-2 c = search needs
+at-requires : tie.Need-at-requires Inv-loop μ-loop
+at-requires c κs = search needs
 
 line-requires : tie.Need-line-requires Inv-loop μ-loop
 line-requires c κs = search needs
@@ -56,8 +47,8 @@ loop-less c = search needs
 loop-again : tie.Need-loop-again Inv-loop μ-loop
 loop-again c = search needs
 
-returns-4 : tie.Need-returns-4 Inv-loop μ-loop
-returns-4 c = search needs
+returns-3 : tie.Need-returns-3 Inv-loop μ-loop
+returns-3 c = search needs
 
 pub print-spec : {M : Type 1} → statement M
 print-spec =
@@ -69,15 +60,12 @@ print-spec =
     line-end-requires
     returns
     returns-2
-    returns-3
     part-line-start
     part-line-end
-    element-copy-out-line
-    mul-line
-    element-copy-out-line-2
+    at-requires
     line-requires
     add-k
     add-at
     loop-less
     loop-again
-    returns-4)
+    returns-3)

@@ -6,11 +6,11 @@ use Rattle.offers.proofs.run.offer_each.Statement.{statement}
 use Rattle.offers.proofs.run.offer_each.Tie as tie
 
 abbrev Inv-loop : tie.InvT-loop
-Inv-loop offers sep total text₀ numbers₀ values₀ table files₀ regular₀ corrections₀ entries₀ terminal r₀ at₀ text numbers values files regular corrections entries r at =
+Inv-loop offers sep total text₀ kept₀ table files₀ regular₀ corrections₀ entries₀ terminal r₀ at₀ text kept files regular corrections entries r at =
     Unit
 
 abbrev μ-loop : tie.MeasureT-loop
-μ-loop offers sep total text₀ numbers₀ values₀ table files₀ regular₀ corrections₀ entries₀ terminal r₀ at₀ text numbers values files regular corrections entries r at =
+μ-loop offers sep total text₀ kept₀ table files₀ regular₀ corrections₀ entries₀ terminal r₀ at₀ text kept files regular corrections entries r at =
     length offers - at
 
 watched-requires : tie.Need-watched-requires Inv-loop μ-loop
