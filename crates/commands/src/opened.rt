@@ -9,7 +9,7 @@ use disk::saved;
 
 // The store is damaged: `refused` 44.
 pub fn damaged(folder: &[u8]) -> u8 {
-    words::refusal::refused(folder, 44, 0);
+    words::refusal::refused(folder, 44);
     end::refused(44)
 }
 

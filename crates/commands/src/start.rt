@@ -74,7 +74,7 @@ fn started(n: usize) -> u8 {
 }
 
 fn refused(path: &[u8], number: u8) -> u8 {
-    words::refusal::refused(path, number, 0);
+    words::refusal::refused(path, number);
     end::refused(number)
 }
 

@@ -33,7 +33,7 @@ fn say(path: &[u8], number: u8) {
     if number == 4 {
         return;
     }
-    words::refusal::refused(path, number, 0);
+    words::refusal::refused(path, number);
 }
 
 fn line(p: Page, room: &mut [u8; ROOM], offer: &[u8], told: Told) -> Page {

@@ -75,7 +75,7 @@ fn print_all<'a>(
 
 // WORD `refused` 12
 fn unknown(first: Page, room: &mut [u8; ROOM], word: &[u8]) -> Page {
-    words::refusal::refused(word, 12, 0);
+    words::refusal::refused(word, 12);
     let p = page::text(first, room, word);
     page::text(p, room, b"\trefused\t12\n")
 }
@@ -190,7 +190,7 @@ fn print<'a>(
 
 // There is no such file.
 fn beyond(folder: &[u8]) -> u8 {
-    words::refusal::refused(folder, 7, 0);
+    words::refusal::refused(folder, 7);
     end::refused(7)
 }
 

@@ -49,7 +49,7 @@ fn with(t: Told, p: Page) -> Told {
 }
 
 fn unknown(p: Page, room: &mut [u8; ROOM], word: &[u8]) -> Told {
-    words::refusal::refused(word, 12, 0);
+    words::refusal::refused(word, 12);
     Told {
         page: page::text(p, room, b"\trefused\t12\n"),
         known: false,

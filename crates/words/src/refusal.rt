@@ -81,7 +81,7 @@ pub(crate) fn end(number: u8) {
 }
 
 // What was refused with which number other than 4, and why.
-pub fn refused(what: &[u8], number: u8, _value: u64) {
+pub fn refused(what: &[u8], number: u8) {
     begin(what, number);
     why(number);
     end(number);
