@@ -19,9 +19,9 @@ fn told(a: Answer) {
             print::text(b", count ");
             print::number(n);
         }
-        Answer::Fault(i) => {
+        Answer::Fault(at, _) => {
             print::text(b", place ");
-            print::number(i);
+            print::number(at.place);
         }
         _ => {}
     }
