@@ -13,8 +13,8 @@ use lib.Seq.{take-suc, getD-drop}
 use Rattle.laws.specs.Lists.{table, keep}
 use Rattle.laws.specs.Order.{sorted}
 use Rattle.laws.proofs.Lists.{keep-end-yes, keep-end-no, keep-both, keep-same, keep-map, mem-keep}
-use Rattle.groups.specs.Groups.{tag, group}
-use Rattle.groups.proofs.Groups.{grouped}
+use Rattle.order.specs.groups.Groups.{tag, group}
+use Rattle.order.proofs.groups.Groups.{grouped}
 use Rattle.fields.specs.declared.number.Number.{Number}
 use Rattle.fields.specs.Number.{sameNumber}
 use Rattle.fields.proofs.NumberLaws.{same-number}

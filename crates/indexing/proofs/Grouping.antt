@@ -16,8 +16,8 @@ use Rattle.laws.proofs.ByKey.{by-number}
 use Rattle.laws.proofs.Rising.{take-sorted-any}
 use Rattle.laws.proofs.Tables.{table-cong}
 use Rattle.laws.proofs.Tests.{le-or-lt}
-use Rattle.groups.specs.Groups.{below, tag, tags, group}
-use Rattle.groups.proofs.Below.{sorted-ordered, below-most, below-past, below-here, below-rise}
+use Rattle.order.specs.groups.Groups.{below, tag, tags, group}
+use Rattle.order.proofs.groups.Below.{sorted-ordered, below-most, below-past, below-here, below-rise}
 
 -- ---- where a group stands
 module _ (l : List ℕ) (digits : ℕ) where

@@ -12,7 +12,7 @@ use lib.Seq.{getD-take, getD-set-same}
 use Rattle.laws.specs.Lists.{keep}
 use Rattle.laws.proofs.Lists.{keep-yes, keep-no}
 use Rattle.laws.proofs.Tests.{le-or-lt}
-use Rattle.groups.specs.Groups.{below, tag}
+use Rattle.order.specs.groups.Groups.{below, tag}
 use Rattle.indexing.specs.Index.{front, isWanted, Marked}
 
 -- ---- marking

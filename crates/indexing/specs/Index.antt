@@ -8,7 +8,7 @@ use lib.Dec.{eqb, ltb}
 use lib.ListN.{length, take, getD}
 use Rattle.laws.specs.Lists.{keep}
 use Rattle.laws.specs.Order.{sorted}
-use Rattle.groups.specs.Groups.{below, tag, tags}
+use Rattle.order.specs.groups.Groups.{below, tag, tags}
 use Rattle.fields.specs.declared.number.Number.{Number}
 use Rattle.fields.specs.Number.{sameNumber}
 use Rattle.journals.specs.Files.{fileAt}

@@ -12,7 +12,7 @@ ghost use Prim.Native.Nat.{_+_, _≤_, _%_};
 ghost use lib.ListN.{length, take, drop, getD};
 ghost use Rattle.laws.specs.Lists.{keep};
 ghost use Rattle.laws.specs.Order.{sorted};
-ghost use Rattle.groups.specs.Groups.{group};
+ghost use Rattle.order.specs.groups.Groups.{group};
 ghost use Rattle.working.specs.Working.{Sound, Behind, Gathered, WorkedAfresh};
 ghost use Rattle.indexing.specs.Index.{Wanted, front, aboutKey, keysBehind, Indexed};
 
@@ -96,8 +96,8 @@ fn gather_group<'a>(
 {
     let first = number.first;
     let front = first.0 % FRONTS;
-    let from = groups::search(places, c, front * PLACES);
-    let to = groups::search(places, c, (front + 1) * PLACES);
+    let from = order::groups::search(places, c, front * PLACES);
+    let to = order::groups::search(places, c, (front + 1) * PLACES);
     pick_all(
         regular,
         corrections,

@@ -12,7 +12,7 @@ ghost use Prim.Native.Nat.{_+_, _*_, _%_, _≤_, _<_};
 ghost use lib.Dec.{eqb, ltb};
 ghost use lib.ListN.{length, take, getD};
 ghost use Rattle.laws.specs.Lists.{table};
-ghost use Rattle.groups.specs.Groups.{tag, tags};
+ghost use Rattle.order.specs.groups.Groups.{tag, tags};
 ghost use Rattle.rules.specs.Records.{numberIn};
 ghost use Rattle.journals.specs.Records.{shownIn};
 ghost use Rattle.journals.specs.Reads.{recordsAt};
@@ -46,7 +46,7 @@ pub fn is_wanted(wanted: &[u64; 10240], w: usize, digits: u64) -> bool
     ensures { λ r. ⌜ r ≡ isWanted (take w (now (wanted .entry))) digits ⌝ }
 {
     let front = digits % FRONTS;
-    let from = groups::search(wanted, w, front * PLACES);
+    let from = order::groups::search(wanted, w, front * PLACES);
     is_below(wanted, w, from, (front + 1) * PLACES)
 }
 

@@ -3,7 +3,7 @@ use mathlib.Core.List.{List, _++_}
 use Prim.Native.Nat.{ℕ}
 use lib.ListN.{take, drop}
 use Rattle.laws.specs.Order.{sorted}
-use Rattle.groups.specs.Groups.{tag}
+use Rattle.order.specs.groups.Groups.{tag}
 use Rattle.numbers.specs.Lines.{lineAt}
 use Rattle.indexing.specs.Index.{front}
 

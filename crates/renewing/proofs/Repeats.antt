@@ -14,8 +14,8 @@ use Rattle.laws.proofs.Lists.{mem-below}
 use Rattle.laws.proofs.Rising.{take-sorted-any}
 use Rattle.laws.proofs.Tables.{length-table, getD-table, map-table, table-cong}
 use Rattle.laws.proofs.Tests.{and-right}
-use Rattle.groups.specs.Groups.{tag, tags, group}
-use Rattle.groups.proofs.Groups.{placed}
+use Rattle.order.specs.groups.Groups.{tag, tags, group}
+use Rattle.order.proofs.groups.Groups.{placed}
 use Rattle.fields.specs.declared.number.Number.{Number}
 use Rattle.fields.specs.Number.{sameNumber}
 use Rattle.fields.proofs.NumberLaws.{same-number}

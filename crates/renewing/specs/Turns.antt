@@ -8,7 +8,7 @@ use lib.ListN.{length, take, drop}
 use Rattle.laws.specs.Lists.{table, any, keep, noneTwice}
 use Rattle.laws.specs.Overlay.{overlay}
 use Rattle.laws.specs.Slots.{slotAt}
-use Rattle.groups.specs.Groups.{tags}
+use Rattle.order.specs.groups.Groups.{tags}
 use Rattle.fields.specs.declared.number.Number.{Number}
 use Rattle.fields.specs.Number.{sameNumber}
 use Rattle.model.specs.Rules.{Event}

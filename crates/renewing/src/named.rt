@@ -9,7 +9,7 @@ ghost use mathlib.Core.Path.{_≡_};
 ghost use Prim.Native.Nat.{_+_, _%_, _≤_, _<_};
 ghost use lib.ListN.{length, take, drop};
 ghost use Rattle.laws.specs.Lists.{table, any};
-ghost use Rattle.groups.specs.Groups.{tag};
+ghost use Rattle.order.specs.groups.Groups.{tag};
 ghost use Rattle.journals.specs.Reads.{recordsAt};
 ghost use Rattle.working.specs.Working.{InFile};
 ghost use Rattle.renewing.specs.Turns.{filedFrom, numberFrom, namedTo, earlier, frontFrom, Tagged};
@@ -191,8 +191,8 @@ pub fn named_before<'a>(
 {
     let first = number.first;
     let front = first.0 % FRONTS;
-    let from = groups::search(wanted, w, front * PLACES);
-    let to = groups::search(wanted, w, (front + 1) * PLACES);
+    let from = order::groups::search(wanted, w, front * PLACES);
+    let to = order::groups::search(wanted, w, (front + 1) * PLACES);
     named_among_all(
         regular,
         corrections,

@@ -5,7 +5,7 @@ use Prim.Native.Nat.{ℕ, _-_, _≤_}
 use native.Mathlib.Omega.{arith}
 use lib.ListN.{length, take, getD}
 use Rattle.laws.specs.Lists.{table}
-use Rattle.groups.specs.Groups.{tag}
+use Rattle.order.specs.groups.Groups.{tag}
 use Rattle.indexing.specs.Index.{frontBehind}
 use borrow.Author.Needs.{needs}
 use Rattle.indexing.proofs.index.lay_tags.Statement.{statement}

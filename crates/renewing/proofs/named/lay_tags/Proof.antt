@@ -5,7 +5,7 @@ use native.Mathlib.Omega.{arith}
 use lib.ListN.{length, take}
 use Rattle.laws.specs.Lists.{table}
 use Rattle.laws.proofs.Tables.{lay-none, lay-next}
-use Rattle.groups.specs.Groups.{tag}
+use Rattle.order.specs.groups.Groups.{tag}
 use Rattle.journals.specs.Reads.{recordsAt}
 use Rattle.renewing.specs.Turns.{filedFrom, frontFrom}
 use borrow.Author.Needs.{needs}

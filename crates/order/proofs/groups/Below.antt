@@ -19,7 +19,7 @@ use Rattle.laws.proofs.Tests.{le-or-lt}
 use Rattle.laws.proofs.Lists.{keep-yes, keep-no, keep-none, keep-all, keep-append, keep-passes, keep-both, keep-at-most}
 use Rattle.laws.proofs.Order.{keep-inOrder, inOrder-parts, inOrder-ordered, length-inOrder, mem-inOrder}
 use Rattle.laws.proofs.ByKey.{by-number}
-use Rattle.groups.specs.Groups.{below}
+use Rattle.order.specs.groups.Groups.{below}
 
 -- what is the same once sorted is in order
 pub sorted-ordered : (l : List ℕ) → sorted l ≡ l → Ordered leb l

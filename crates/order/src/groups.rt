@@ -3,7 +3,7 @@ ghost use mathlib.Core.Path.{_≡_};
 ghost use Prim.Native.Nat.{_≤_};
 ghost use lib.ListN.{length, take};
 ghost use Rattle.laws.specs.Order.{sorted};
-ghost use Rattle.groups.specs.Groups.{below};
+ghost use Rattle.order.specs.groups.Groups.{below};
 
 // How many of the first n keys, which are in order, are below `key`.
 fn search_first(keys: &[u64], n: usize, key: u64) -> usize

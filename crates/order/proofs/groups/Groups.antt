@@ -20,8 +20,8 @@ use Rattle.laws.proofs.Lists.{keep-map, keep-passes, mem-keep, mem-below}
 use Rattle.laws.proofs.Tables.{table-self, map-table}
 use Rattle.laws.proofs.Order.{keep-inOrder, inOrder-ordered, inOrder-of-ordered}
 use Rattle.laws.proofs.ByKey.{by-number}
-use Rattle.groups.specs.Groups.{below, tag, tags, group}
-use Rattle.groups.proofs.Below.{amid, below-rise, between}
+use Rattle.order.specs.groups.Groups.{below, tag, tags, group}
+use Rattle.order.proofs.groups.Below.{amid, below-rise, between}
 
 -- ---- the numbers from 0 on are in order
 below-end : (x : ℕ) (l : List ℕ) (y : ℕ) → Below leb x l → x ≤ y → Below leb x (l ++ (y ∷ []))

@@ -1,14 +1,14 @@
--- `groups::search_first` meets its contract. The loop's invariant: the place is from lo on, and not behind hi. Assumes nothing.
+-- `order::groups::search_first` meets its contract. The loop's invariant: the place is from lo on, and not behind hi. Assumes nothing.
 use mathlib.Core.Path.{_≡_}
 use Prim.Native.Nat.{_+_, _-_, _/_, _≤_}
 use native.Mathlib.Omega.{arith}
 use borrow.Author.Needs.{needs}
 use lib.ListN.{length, take}
 use lib.Seq.{length-take-le}
-use Rattle.groups.specs.Groups.{below}
-use Rattle.groups.proofs.Below.{below-most, search-up, search-down}
-use Rattle.groups.proofs.search_first.Statement.{statement}
-use Rattle.groups.proofs.search_first.Tie as tie
+use Rattle.order.specs.groups.Groups.{below}
+use Rattle.order.proofs.groups.Below.{below-most, search-up, search-down}
+use Rattle.order.proofs.groups.search_first.Statement.{statement}
+use Rattle.order.proofs.groups.search_first.Tie as tie
 
 abbrev Inv-loop : tie.InvT-loop
 Inv-loop keys n key lo₀ hi₀ lo hi = (hi ≤ n) × (lo ≤ below key (take n keys)) × (below key (take n keys) ≤ hi)
