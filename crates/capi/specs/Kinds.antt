@@ -2,8 +2,8 @@
 use Prim.Native.Nat.{ℕ}
 use mathlib.Core.Bool.{cond}
 use lib.Dec.{eqb}
-use Rattle.names.specs.declared.kind.FileKind.{FileKind}
-use Rattle.names.specs.declared.kind.FileKind.the-variants.{Default, Correction, Request, Response}
+use Rattle.records.specs.declared.names.kind.FileKind.{FileKind}
+use Rattle.records.specs.declared.names.kind.FileKind.the-variants.{Default, Correction, Request, Response}
 
 -- 0 default, 1 correction, 2 request; any other number is a response file
 unfoldable pub kindBy : ℕ → FileKind

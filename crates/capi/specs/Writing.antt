@@ -2,9 +2,9 @@
 use mathlib.Core.Path.{_≡_}
 use mathlib.Core.List.{List}
 use Prim.Native.Nat.{ℕ}
-use Rattle.names.specs.declared.written.Written.{Written}
-use Rattle.names.specs.declared.written.Written.the-variants.{Length, Fault, Long}
-use Rattle.names.specs.Written.{writtenNumber, afterWriting}
+use Rattle.records.specs.declared.names.written.Written.{Written}
+use Rattle.records.specs.declared.names.written.Written.the-variants.{Length, Fault, Long}
+use Rattle.records.specs.names.Written.{writtenNumber, afterWriting}
 
 -- beside the answer's number: the length of what was written, or the place of the first record that can't be
 abbrev pub writtenMore : Written → ℕ

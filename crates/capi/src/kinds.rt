@@ -1,5 +1,5 @@
 // The kinds of file by number.
-use names::kind::FileKind;
+use records::names::kind::FileKind;
 ghost use mathlib.Core.Path.{_≡_};
 ghost use Rattle.capi.specs.Kinds.{kindBy};
 

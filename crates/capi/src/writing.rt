@@ -1,10 +1,10 @@
 // Writing files of each kind.
 use crate::kinds;
 use composing::write;
-use names::written::Written;
+use records::names::written::Written;
 ghost use mathlib.Core.Path.{_≡_};
 ghost use lib.ListN.{length};
-ghost use Rattle.names.specs.Written.{writtenNumber};
+ghost use Rattle.records.specs.names.Written.{writtenNumber};
 ghost use Rattle.files.specs.Writing.{fileOf, fileAnswer};
 ghost use Rattle.capi.specs.Kinds.{kindBy};
 ghost use Rattle.capi.specs.Writing.{writtenMore, Writes};

@@ -17,9 +17,9 @@ fn name_at(path: &[u8]) -> usize
 }
 
 // The kind and the publication day that a path's last component tells.
-pub fn name_of(path: &[u8]) -> names::name::NameRead {
+pub fn name_of(path: &[u8]) -> records::names::name::NameRead {
     let at = name_at(path);
-    names::name::Name::read(&path[at..])
+    records::names::name::Name::read(&path[at..])
 }
 
 pub enum Given {

@@ -10,8 +10,8 @@ use faults::cause::Cause;
 use faults::cause::FaultPlace;
 use files::judge::Judged;
 use libc::STDOUT_FILENO;
-use names::kind::FileKind;
-use names::name::NameRead;
+use records::names::kind::FileKind;
+use records::names::name::NameRead;
 use page::Page;
 use page::ROOM;
 

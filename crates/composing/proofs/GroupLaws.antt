@@ -7,8 +7,8 @@ use mathlib.Core.Bool.{true, false}
 use mathlib.Core.List.{List, [], _∷_}
 use lib.ListN.{length, take, drop, length-drop, length-take}
 use lib.Seq.{drop-drop}
-use Rattle.names.specs.declared.kind.FileKind.{FileKind}
-use Rattle.names.specs.declared.kind.FileKind.the-variants.{Default, Correction, Request, Response}
+use Rattle.records.specs.declared.names.kind.FileKind.{FileKind}
+use Rattle.records.specs.declared.names.kind.FileKind.the-variants.{Default, Correction, Request, Response}
 use Rattle.records.specs.Record.{widthOf, fits, textOf}
 use Rattle.records.proofs.RecordLaws.{fits-width, fits-short}
 use Rattle.composing.specs.declared.measure.Measured.the-variants.{Length, Fault}

@@ -12,9 +12,9 @@ use Rattle.laws.specs.Overlay.{overlay, Laid}
 use Rattle.laws.proofs.Tests.{and-left, and-right}
 use Rattle.laws.proofs.Ended.{ended-append}
 use Rattle.laws.proofs.Overlay.{overlay-append, laid-then, laid-length}
-use Rattle.closing.specs.Closing.{closingText}
-use Rattle.names.specs.declared.kind.FileKind.{FileKind}
-use Rattle.names.specs.Kind.{hasClosing}
+use Rattle.records.specs.closing.Closing.{closingText}
+use Rattle.records.specs.declared.names.kind.FileKind.{FileKind}
+use Rattle.records.specs.names.Kind.{hasClosing}
 use Rattle.records.specs.Record.{widthOf, fits, textOf}
 use Rattle.composing.specs.declared.measure.Measured.{Measured}
 use Rattle.files.specs.Writing.{Holding, valuesIn, unfit, heldAll}

@@ -12,11 +12,11 @@ use Rattle.laws.specs.Ended.{ended}
 use Rattle.laws.specs.Overlay.{overlay, Laid}
 use Rattle.laws.proofs.Ended.{ended-append}
 use Rattle.laws.proofs.Overlay.{laid-then}
-use Rattle.closing.specs.Closing.{closingText}
-use Rattle.names.specs.declared.kind.FileKind.{FileKind}
-use Rattle.names.specs.declared.written.Written.{Written}
-use Rattle.names.specs.Kind.{hasClosing}
-use Rattle.names.specs.Written.{Wrote}
+use Rattle.records.specs.closing.Closing.{closingText}
+use Rattle.records.specs.declared.names.kind.FileKind.{FileKind}
+use Rattle.records.specs.declared.names.written.Written.{Written}
+use Rattle.records.specs.names.Kind.{hasClosing}
+use Rattle.records.specs.names.Written.{Wrote}
 use Rattle.records.specs.Record.{widthOf, fits, textOf}
 use Rattle.records.proofs.RecordLaws.{fits-width}
 use Rattle.files.specs.Writing.{Holding, valuesIn, heldAll, heldOne, held, linesOf, fileText, fileOf, answerTo}

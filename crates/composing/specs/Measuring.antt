@@ -4,8 +4,8 @@ use mathlib.Core.Bool.{cond}
 use mathlib.Core.List.{List, [], _∷_, _++_, map}
 use lib.ListN.{length}
 use Rattle.laws.specs.Ended.{ended}
-use Rattle.closing.specs.Closing.{closingText}
-use Rattle.names.specs.declared.kind.FileKind.{FileKind}
+use Rattle.records.specs.closing.Closing.{closingText}
+use Rattle.records.specs.declared.names.kind.FileKind.{FileKind}
 use Rattle.records.specs.Record.{fits, textOf}
 use Rattle.composing.specs.declared.measure.Measured.{Measured}
 use Rattle.composing.specs.declared.measure.Measured.the-variants.{Length, Fault}

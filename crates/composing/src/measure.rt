@@ -4,7 +4,7 @@ ghost use Prim.Native.Nat.{_≤_};
 ghost use lib.ListN.{length, take, drop};
 ghost use Rattle.files.specs.Writing.{valuesIn};
 ghost use Rattle.composing.specs.Measuring.{measuredFrom};
-use names::kind::FileKind;
+use records::names::kind::FileKind;
 
 // How many records there are and how many bytes their lines have, or the place of the first that its layout can't hold.
 pub enum Measured {

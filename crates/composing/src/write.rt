@@ -5,13 +5,13 @@ ghost use Prim.Native.Nat.{_+_, _≤_};
 ghost use lib.ListN.{length};
 ghost use Rattle.laws.specs.Lists.{all};
 ghost use Rattle.laws.specs.Overlay.{Laid};
-ghost use Rattle.names.specs.Written.{Wrote};
+ghost use Rattle.records.specs.names.Written.{Wrote};
 ghost use Rattle.records.specs.Record.{fits};
 ghost use Rattle.files.specs.Writing.{valuesIn, heldAll, heldOne, answerTo, fileOf, fileAnswer};
 ghost use Rattle.composing.specs.Measuring.{recordLines, closedText};
 use crate::measure::Measured;
-use names::kind::FileKind;
-use names::written::Written;
+use records::names::kind::FileKind;
+use records::names::written::Written;
 
 // Each record with its CR, from the start of a lent buffer on; what follows them is the answer.
 fn put_records(kind: FileKind, words: &[u64], out: &mut [u8]) -> usize
@@ -36,7 +36,7 @@ fn put_closed(kind: FileKind, words: &[u64], lines: u64, out: &mut [u8]) -> usiz
     ensures { λ r. ⌜ Laid (now (out .entry)) 0 (closedText kind (valuesIn kind (now (words .entry)))) (now (out .exit)) r ⌝ }
 {
     let at = put_records(kind, words, out);
-    let end = closing::put(out, at, lines);
+    let end = records::closing::put(out, at, lines);
     text::put_byte(out, end, 13)
 }
 
@@ -52,7 +52,7 @@ fn write_closed(kind: FileKind, words: &[u64], out: &mut [u8]) -> Written
                 return Written::Long;
             }
             let lines = (count + 1) as u64;
-            if out.len() - total < closing::text_len(lines) + 1 {
+            if out.len() - total < records::closing::text_len(lines) + 1 {
                 return Written::Long;
             }
             Written::Length(put_closed(kind, words, lines, out))

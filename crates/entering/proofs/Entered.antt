@@ -17,7 +17,7 @@ use Rattle.laws.specs.Slots.{slotAt, slotOf}
 use Rattle.laws.proofs.Slots.{held-slot}
 use Rattle.laws.proofs.Tables.{all-at}
 use Rattle.laws.proofs.Tests.{and-left, and-right}
-use Rattle.names.specs.declared.kind.FileKind.{FileKind}
+use Rattle.records.specs.declared.names.kind.FileKind.{FileKind}
 use Rattle.records.specs.Record.{isRecord}
 use Rattle.files.specs.Judged.{recordsOf as textsOf}
 use Rattle.journals.specs.Files.{filesOf, goodFile, recordsIn, recordsOf}

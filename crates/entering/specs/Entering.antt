@@ -12,7 +12,7 @@ use Rattle.laws.specs.Split.{split}
 use Rattle.laws.specs.Words.{lowFirst}
 use Rattle.calendar.specs.Dates.{inCalendar}
 use Rattle.model.specs.Model.{Filed}
-use Rattle.names.specs.declared.kind.FileKind.{FileKind}
+use Rattle.records.specs.declared.names.kind.FileKind.{FileKind}
 use Rattle.files.specs.Judged.{judgedFile, recordsOf as textsOf}
 use Rattle.files.specs.declared.judge.Judged.the-variants.{Records}
 use Rattle.journals.specs.Files.{fileCount, filesOf, fileSlot, sameFile, recordsOf}

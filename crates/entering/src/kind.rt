@@ -1,5 +1,5 @@
 // The kinds of file that are filed, each with a journal of its own.
-use names::kind::FileKind;
+use records::names::kind::FileKind;
 ghost use mathlib.Core.Path.{_≡_};
 ghost use Rattle.entering.specs.Entering.{kindNumber, fileKind, most};
 

@@ -4,7 +4,7 @@ use mathlib.Core.Path.{_≡_}
 use mathlib.Core.List.{List, [], _∷_, _++_}
 use Rattle.laws.specs.Digits.{digits}
 use Rattle.laws.specs.Split.{joined}
-use Rattle.names.specs.declared.kind.FileKind.{FileKind}
+use Rattle.records.specs.declared.names.kind.FileKind.{FileKind}
 use Rattle.faults.specs.declared.cause.Cause.the-variants.{Character, Length, Date, Code, Value}
 use Rattle.faults.specs.declared.cause.RecordCheck.{RecordCheck}
 use Rattle.faults.specs.declared.cause.RecordCheck.the-variants.{Right, Wrong}

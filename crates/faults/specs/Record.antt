@@ -6,7 +6,7 @@ use mathlib.Core.List.{List}
 use lib.Dec.{eqb, leb}
 use lib.ListN.{length, take, drop}
 use Rattle.laws.specs.Split.{split}
-use Rattle.names.specs.declared.kind.FileKind.{FileKind}
+use Rattle.records.specs.declared.names.kind.FileKind.{FileKind}
 use Rattle.faults.specs.declared.cause.Cause.the-variants.{Length, Value}
 use Rattle.faults.specs.declared.cause.FieldCheck.{FieldCheck}
 use Rattle.faults.specs.declared.cause.RecordCheck.{RecordCheck}

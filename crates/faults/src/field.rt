@@ -158,7 +158,7 @@ pub(crate) fn mark_alone(f: &[u8], letter: u8) -> FieldCheck
 {
     let long = f.len() == 2;
     let mark = [letter, 58];
-    let good = closing::same(f, &mark);
+    let good = records::closing::same(f, &mark);
     alone(
         f,
         FieldCheck::Wrong(Cause::Length),

@@ -11,7 +11,7 @@ use crate::field;
 use crate::six::on_field;
 use crate::six::on_record;
 use crate::six::six;
-use names::kind::FileKind;
+use records::names::kind::FileKind;
 
 fn field_at(s: &[u8], k: usize) -> &[u8]
     ensures { λ r. ⌜ now r ≡ pieceOf 44 (now (s .entry)) k ⌝ }

@@ -1,7 +1,7 @@
 // The cases, line by line.
 use crate::damage;
 use crate::show;
-use names::kind::FileKind;
+use records::names::kind::FileKind;
 
 // The byte that a sign stands for.
 fn plain(b: u8) -> u8 {

@@ -1,6 +1,6 @@
 // A file judged as it is, and damaged at each byte in turn.
 use crate::show;
-use names::kind::FileKind;
+use records::names::kind::FileKind;
 
 pub fn whole(kind: FileKind, file: &[u8]) {
     show::say(b": ");

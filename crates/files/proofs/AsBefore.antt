@@ -11,9 +11,9 @@ use lib.Dec.{eqb}
 use lib.ListN.{length}
 use Rattle.laws.specs.Lists.{sameLists}
 use Rattle.laws.specs.Split.{split}
-use Rattle.closing.specs.Closing.{begins, closingText}
-use Rattle.names.specs.declared.kind.FileKind.{FileKind}
-use Rattle.names.specs.Kind.{hasClosing}
+use Rattle.records.specs.closing.Closing.{begins, closingText}
+use Rattle.records.specs.declared.names.kind.FileKind.{FileKind}
+use Rattle.records.specs.names.Kind.{hasClosing}
 use Rattle.records.specs.Record.{isRecord}
 use Rattle.faults.specs.declared.cause.Cause.{Cause}
 use Rattle.faults.specs.declared.cause.Cause.the-variants.{Length, Closing, After}

@@ -14,7 +14,7 @@ use lib.Seq.{drop-drop, getD-drop, getD-take}
 use Rattle.laws.specs.Split.{split, between, endOf, EndsAt}
 use Rattle.laws.proofs.Tests.{le-or-lt}
 use Rattle.laws.proofs.Split.{ends-at, ends-more, ends-last}
-use Rattle.names.specs.declared.kind.FileKind.{FileKind}
+use Rattle.records.specs.declared.names.kind.FileKind.{FileKind}
 use Rattle.files.specs.declared.judge.Judged.the-variants.{Records}
 use Rattle.files.specs.Judged.{judgedFile, recordsOf}
 use Rattle.files.specs.Reading.{recordAt}

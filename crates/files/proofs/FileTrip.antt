@@ -18,10 +18,10 @@ use Rattle.laws.specs.Ended.{ended}
 use Rattle.laws.proofs.Tests.{and-left, and-right, and-true}
 use Rattle.laws.proofs.Tables.{all-append, all-weaker}
 use Rattle.laws.proofs.Ended.{split-ended, ended-split}
-use Rattle.closing.specs.Closing.{closingText}
-use Rattle.closing.proofs.ClosingLaws.{lacks-closing}
-use Rattle.names.specs.declared.kind.FileKind.{FileKind}
-use Rattle.names.specs.Kind.{hasClosing}
+use Rattle.records.specs.closing.Closing.{closingText}
+use Rattle.records.proofs.closing.ClosingLaws.{lacks-closing}
+use Rattle.records.specs.declared.names.kind.FileKind.{FileKind}
+use Rattle.records.specs.names.Kind.{hasClosing}
 use Rattle.records.specs.Record.{isRecord, fits, textOf}
 use Rattle.records.proofs.RecordTrip.{fits-record, record-lacks, record-begins}
 use Rattle.files.specs.declared.judge.Judged.{Judged}

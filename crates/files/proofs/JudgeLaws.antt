@@ -12,8 +12,8 @@ use lib.Dec.{eqb}
 use lib.ListN.{length, drop, length-drop, drop-of-length-le}
 use Rattle.laws.specs.Split.{before, split, between, endOf, EndsAt}
 use Rattle.laws.proofs.Split.{split-some, ends-at, ends-more, ends-last}
-use Rattle.closing.specs.Closing.{begins}
-use Rattle.names.specs.declared.kind.FileKind.{FileKind}
+use Rattle.records.specs.closing.Closing.{begins}
+use Rattle.records.specs.declared.names.kind.FileKind.{FileKind}
 use Rattle.faults.specs.declared.cause.Cause.{Cause}
 use Rattle.faults.specs.declared.cause.Cause.the-variants.{After}
 use Rattle.faults.specs.declared.cause.RecordCheck.the-variants.{Right, Wrong}

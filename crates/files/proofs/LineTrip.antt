@@ -13,9 +13,9 @@ use lib.ListN.{length, take}
 use Rattle.laws.specs.Lists.{all, sameLists}
 use Rattle.laws.proofs.Tests.{and-left, and-right, and-true}
 use Rattle.laws.proofs.Same.{numbers-refl, numbers-equal}
-use Rattle.closing.specs.Closing.{begins, closingText}
-use Rattle.closing.proofs.ClosingLaws.{begins-closing}
-use Rattle.names.specs.declared.kind.FileKind.{FileKind}
+use Rattle.records.specs.closing.Closing.{begins, closingText}
+use Rattle.records.proofs.closing.ClosingLaws.{begins-closing}
+use Rattle.records.specs.declared.names.kind.FileKind.{FileKind}
 use Rattle.records.specs.Record.{isRecord}
 use Rattle.faults.specs.declared.cause.Cause.{Cause}
 use Rattle.faults.specs.declared.cause.Cause.the-variants.{Length, Closing, After}

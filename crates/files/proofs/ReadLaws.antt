@@ -7,7 +7,7 @@ use mathlib.Core.List.{List, []}
 use lib.ListN.{length, getD, take, length-take, List·getD-eq-default}
 use lib.Seq.{getD-take}
 use Rattle.laws.specs.Split.{split, pieceOf}
-use Rattle.names.specs.declared.kind.FileKind.{FileKind}
+use Rattle.records.specs.declared.names.kind.FileKind.{FileKind}
 use Rattle.faults.specs.declared.cause.Cause.{Cause}
 use Rattle.faults.specs.declared.cause.FaultPlace.{FaultPlace}
 use Rattle.files.specs.declared.judge.Judged.the-variants.{Records, Fault}

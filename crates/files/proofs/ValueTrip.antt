@@ -26,7 +26,7 @@ use Rattle.layout.specs.Request.{requestOf, requestOfWords, requestText}
 use Rattle.layout.proofs.ReportLaws.{report-back}
 use Rattle.layout.proofs.CorrectionTrip.{correction-back}
 use Rattle.layout.proofs.RequestTrip.{request-back}
-use Rattle.names.specs.declared.kind.FileKind.{FileKind}
+use Rattle.records.specs.declared.names.kind.FileKind.{FileKind}
 use Rattle.records.specs.Record.{isCorrection, isRequest, isRecord, fits, textOf}
 use Rattle.records.proofs.RecordTrip.{report-same, correction-same, request-same}
 use Rattle.files.specs.declared.judge.Judged.{Judged}
@@ -35,7 +35,7 @@ use Rattle.files.specs.declared.read.Found.{Found}
 use Rattle.files.specs.declared.values.ReportAt.{ReportAt}
 use Rattle.files.specs.declared.values.CorrectionAt.{CorrectionAt}
 use Rattle.files.specs.declared.values.RequestAt.{RequestAt}
-use Rattle.closing.specs.Closing.{begins}
+use Rattle.records.specs.closing.Closing.{begins}
 use Rattle.faults.specs.Record.{reportFault, recordFault}
 use Rattle.files.specs.Judged.{closed, onLine, unended, lastLine, judged, judgedFile, recordsOf}
 use Rattle.files.specs.Reading.{foundIn, foundAt, recordAt}

@@ -6,9 +6,9 @@ use mathlib.Core.Bool.{Bool, cond}
 use mathlib.Core.List.{List, [], _∷_}
 use Rattle.laws.specs.Lists.{sameLists}
 use Rattle.laws.specs.Split.{split}
-use Rattle.closing.specs.Closing.{begins, closingText}
-use Rattle.names.specs.declared.kind.FileKind.{FileKind}
-use Rattle.names.specs.Kind.{hasClosing}
+use Rattle.records.specs.closing.Closing.{begins, closingText}
+use Rattle.records.specs.declared.names.kind.FileKind.{FileKind}
+use Rattle.records.specs.names.Kind.{hasClosing}
 use Rattle.records.specs.Record.{isRecord}
 use Rattle.files.specs.declared.judge.Judged.{Judged}
 use Rattle.files.specs.Judged.{isEnd}

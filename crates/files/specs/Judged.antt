@@ -7,9 +7,9 @@ use mathlib.Core.List.{List, [], _∷_}
 use lib.ListN.{length, take}
 use Rattle.laws.specs.Lists.{sameLists}
 use Rattle.laws.specs.Split.{split}
-use Rattle.closing.specs.Closing.{begins, closingText}
-use Rattle.names.specs.declared.kind.FileKind.{FileKind}
-use Rattle.names.specs.Kind.{hasClosing}
+use Rattle.records.specs.closing.Closing.{begins, closingText}
+use Rattle.records.specs.declared.names.kind.FileKind.{FileKind}
+use Rattle.records.specs.names.Kind.{hasClosing}
 use Rattle.faults.specs.declared.cause.Cause.the-variants.{Length, Closing, After}
 use Rattle.faults.specs.declared.cause.FaultPlace.{FaultPlace}
 use Rattle.faults.specs.declared.cause.RecordCheck.{RecordCheck}

@@ -4,7 +4,7 @@ use mathlib.Core.Bool.{cond}
 use mathlib.Core.List.{List, []}
 use lib.Dec.{ltb}
 use lib.ListN.{getD}
-use Rattle.names.specs.declared.kind.FileKind.{FileKind}
+use Rattle.records.specs.declared.names.kind.FileKind.{FileKind}
 use Rattle.files.specs.declared.judge.Judged.{Judged}
 use Rattle.files.specs.declared.judge.Judged.the-variants.{Records}
 use Rattle.files.specs.declared.read.Found.{Found}

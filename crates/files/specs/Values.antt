@@ -8,7 +8,7 @@ use Rattle.layout.specs.declared.request.RequestRead.{RequestRead}
 use Rattle.layout.specs.Report.{reportOf}
 use Rattle.layout.specs.Correction.{correctionOf}
 use Rattle.layout.specs.Request.{requestOf}
-use Rattle.names.specs.declared.kind.FileKind.{FileKind}
+use Rattle.records.specs.declared.names.kind.FileKind.{FileKind}
 use Rattle.files.specs.declared.read.Found.{Found}
 use Rattle.files.specs.declared.values.ReportAt.{ReportAt}
 use Rattle.files.specs.declared.values.CorrectionAt.{CorrectionAt}

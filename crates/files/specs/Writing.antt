@@ -6,11 +6,11 @@ use lib.Dec.{leb}
 use lib.ListN.{length, take, drop}
 use Rattle.laws.specs.Lists.{all, firstAt}
 use Rattle.laws.specs.Ended.{ended}
-use Rattle.closing.specs.Closing.{closingText}
-use Rattle.names.specs.declared.kind.FileKind.{FileKind}
-use Rattle.names.specs.declared.written.Written.{Written}
-use Rattle.names.specs.declared.written.Written.the-variants.{Length, Long}
-use Rattle.names.specs.Kind.{hasClosing}
+use Rattle.records.specs.closing.Closing.{closingText}
+use Rattle.records.specs.declared.names.kind.FileKind.{FileKind}
+use Rattle.records.specs.declared.names.written.Written.{Written}
+use Rattle.records.specs.declared.names.written.Written.the-variants.{Length, Long}
+use Rattle.records.specs.names.Kind.{hasClosing}
 use Rattle.records.specs.Record.{widthOf, fits, textOf}
 
 -- words in groups of w; the last group has what is left. There are no more groups than `most`

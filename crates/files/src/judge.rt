@@ -8,7 +8,7 @@ ghost use Rattle.files.specs.Judged.{placeAt, closed, unended, lastLine,
 use faults::cause::Cause;
 use faults::cause::FaultPlace;
 use faults::cause::RecordCheck;
-use names::kind::FileKind;
+use records::names::kind::FileKind;
 
 // A file has so many records, or a fault: at a place, with a cause.
 pub enum Judged {
@@ -36,7 +36,7 @@ fn judge_closing(file: &[u8], at: usize, end: usize, i: usize) -> Judged
     ensures { λ r. ⌜ r ≡ closed i (between (now (file .entry)) at end) (split 13 (drop (end + 1) (now (file .entry)))) ⌝ }
 {
     let count = (i + 1) as u64;
-    if !closing::is_closing(&file[at..end], count) {
+    if !records::closing::is_closing(&file[at..end], count) {
         return at_line(i, Cause::Closing);
     }
     if end + 1 < file.len() {
@@ -62,7 +62,7 @@ fn judge_last(kind: FileKind, line: &[u8], i: usize) -> Judged
     if line.len() == 0 {
         return at_line(i, Cause::Closing);
     }
-    if closing::begins(line) {
+    if records::closing::begins(line) {
         return at_line(i, Cause::Closing);
     }
     judge_unended(kind, line, i)
@@ -76,7 +76,7 @@ fn judge_closed(kind: FileKind, file: &[u8]) -> Judged
     let mut i: usize = 0;
     let mut end = text::field_end(file, 0, 13);
     while end < file.len() {
-        if closing::begins(&file[at..end]) {
+        if records::closing::begins(&file[at..end]) {
             return judge_closing(file, at, end, i);
         }
         if let RecordCheck::Wrong(field, cause) = faults::record::check(kind, &file[at..end]) {

@@ -5,7 +5,7 @@ ghost use Rattle.files.specs.Reading.{foundAt, recordAt};
 use crate::judge::Judged;
 use faults::cause::Cause;
 use faults::cause::FaultPlace;
-use names::kind::FileKind;
+use records::names::kind::FileKind;
 
 // What stands at a place of a file: a record; or 4, where the file's first fault is, and why; or 7, the place is beyond the records.
 pub enum Found {

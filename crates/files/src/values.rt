@@ -11,7 +11,7 @@ use layout::report::Report;
 use layout::report::ReportRead;
 use layout::request::Request;
 use layout::request::RequestRead;
-use names::kind::FileKind;
+use records::names::kind::FileKind;
 
 pub enum ReportAt {
     Report(Report),

@@ -4,8 +4,8 @@ use crate::damage;
 use crate::examples;
 use crate::show;
 use crate::writing;
-use names::kind::FileKind;
-use names::kind::KindRead;
+use records::names::kind::FileKind;
+use records::names::kind::KindRead;
 
 fn plain(b: u8) -> u8 {
     match b {

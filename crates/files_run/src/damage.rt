@@ -1,6 +1,6 @@
 // Damaged files, each rule broken once; a small file of each kind cut short at every byte, and with every byte replaced.
 use crate::show;
-use names::kind::FileKind;
+use records::names::kind::FileKind;
 
 pub fn one(kind: FileKind, why: &[u8], file: &[u8]) {
     show::say(why);

@@ -9,10 +9,10 @@ use files::values::CorrectionAt;
 use files::values::ReportAt;
 use files::values::RequestAt;
 use layout::part::Part;
-use names::kind::FileKind;
-use names::name::Name;
-use names::name::NameRead;
-use names::written::Written;
+use records::names::kind::FileKind;
+use records::names::name::Name;
+use records::names::name::NameRead;
+use records::names::written::Written;
 
 // A word at `base + k`, where there is room.
 fn store(words: &mut [u64], base: usize, k: usize, w: u64) {
@@ -135,7 +135,7 @@ fn compared(file: &[u8], answer: Written, out: &[u8]) {
         return;
     };
     if m <= out.len() {
-        if closing::same(file, &out[0..m]) {
+        if records::closing::same(file, &out[0..m]) {
             show::say(b", the same\n");
             return;
         }
@@ -168,7 +168,7 @@ fn walk(kind: FileKind, file: &[u8], n: usize) {
         }
         show::say(b"  ");
         show::say(&file[at..end]);
-        if closing::same(&file[at..end], files::read::record_bytes(kind, file, i)) {
+        if records::closing::same(&file[at..end], files::read::record_bytes(kind, file, i)) {
             show::say(b"\n");
         } else {
             show::say(b" differs\n");

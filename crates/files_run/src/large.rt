@@ -1,8 +1,8 @@
 // A file of 8,192 records, written, judged, and gone through record by record.
 use crate::show;
 use files::judge::Judged;
-use names::kind::FileKind;
-use names::written::Written;
+use records::names::kind::FileKind;
+use records::names::written::Written;
 
 // The word at `i` of reports one number behind the other.
 fn word(i: u64) -> u64 {

@@ -1,7 +1,7 @@
 // Words for what was found.
 use files::judge::Judged;
-use names::kind::FileKind;
-use names::written::Written;
+use records::names::kind::FileKind;
+use records::names::written::Written;
 
 pub fn say(text: &[u8]) {
     io::write_all(1, text);

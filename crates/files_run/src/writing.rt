@@ -1,7 +1,7 @@
 // Files written from words that a case gives: behind the length of the buffer, with blanks between them.
 use crate::show;
-use names::kind::FileKind;
-use names::written::Written;
+use records::names::kind::FileKind;
+use records::names::written::Written;
 use text::Spelt;
 
 // How many bytes of `s` from `at` on are not `b`.

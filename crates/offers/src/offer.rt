@@ -14,8 +14,8 @@ use disk::TABLE;
 use entering::kind::Filable;
 use fields::code::Code;
 use fields::code::CodeRead;
-use names::kind::FileKind;
-use names::name::NameRead;
+use records::names::kind::FileKind;
+use records::names::name::NameRead;
 
 pub enum Offered {
     Answer(Told),

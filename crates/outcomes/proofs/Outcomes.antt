@@ -10,8 +10,8 @@ use Rattle.laws.specs.Overlay.{Laid}
 use Rattle.laws.proofs.Slots.{same-slots}
 use Rattle.fields.specs.declared.number.Number.{Number}
 use Rattle.entries.specs.declared.entry.Line.{Line}
-use Rattle.names.specs.declared.written.Written.{Written}
-use Rattle.names.specs.Written.{Wrote}
+use Rattle.records.specs.declared.names.written.Written.{Written}
+use Rattle.records.specs.names.Written.{Wrote}
 use Rattle.store.specs.Reads.{Buffers}
 use Rattle.starting.specs.declared.start.Started.{Started}
 use Rattle.starting.specs.Start.{Starts}

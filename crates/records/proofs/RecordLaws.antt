@@ -18,8 +18,8 @@ use Rattle.layout.specs.Request.{requestOfWords}
 use Rattle.layout.proofs.PartLaws.{words-count, part-short, date-short}
 use Rattle.layout.proofs.CorrectionLaws as correction
 use Rattle.layout.proofs.RequestLaws as request
-use Rattle.names.specs.declared.kind.FileKind.{FileKind}
-use Rattle.names.specs.declared.kind.FileKind.the-variants.{Default, Correction, Request, Response}
+use Rattle.records.specs.declared.names.kind.FileKind.{FileKind}
+use Rattle.records.specs.declared.names.kind.FileKind.the-variants.{Default, Correction, Request, Response}
 use Rattle.records.specs.Record.{isCorrection, isRequest, reportSpelt, correctionSpelt, requestSpelt, widthOf, fits, textOf}
 
 -- ---- how many words

@@ -24,10 +24,10 @@ use Rattle.layout.proofs.RecordBytes.{part-record-bytes, correction-bytes, requ
 use Rattle.layout.proofs.ReportLaws.{report-trip, report-back, report-words}
 use Rattle.layout.proofs.CorrectionTrip.{correction-trip, correction-back, correction-words}
 use Rattle.layout.proofs.RequestTrip.{request-trip, request-back, request-words}
-use Rattle.closing.specs.Closing.{begins}
-use Rattle.closing.proofs.ClosingLaws.{begins-not}
-use Rattle.names.specs.declared.kind.FileKind.{FileKind}
-use Rattle.names.specs.declared.kind.FileKind.the-variants.{Default, Correction, Request, Response}
+use Rattle.records.specs.closing.Closing.{begins}
+use Rattle.records.proofs.closing.ClosingLaws.{begins-not}
+use Rattle.records.specs.declared.names.kind.FileKind.{FileKind}
+use Rattle.records.specs.declared.names.kind.FileKind.the-variants.{Default, Correction, Request, Response}
 use Rattle.records.specs.Record.{isCorrection, isRequest, isRecord, reportSpelt, correctionSpelt, requestSpelt, fits, textOf}
 
 -- ---- the bytes of a record

@@ -9,8 +9,8 @@ use Rattle.layout.specs.declared.request.RequestRead.{RequestRead}
 use Rattle.layout.specs.Report.{reportOf, reportOfWords, reportText}
 use Rattle.layout.specs.Correction.{correctionOf, correctionOfWords, correctionText, isReport}
 use Rattle.layout.specs.Request.{requestOf, requestOfWords, requestText}
-use Rattle.names.specs.declared.kind.FileKind.{FileKind}
-use Rattle.names.specs.declared.kind.FileKind.the-variants.{Default, Correction, Request, Response}
+use Rattle.records.specs.declared.names.kind.FileKind.{FileKind}
+use Rattle.records.specs.declared.names.kind.FileKind.the-variants.{Default, Correction, Request, Response}
 
 abbrev pub isCorrection : CorrectionRead → Bool
 isCorrection (CorrectionRead.Correction c) = true

@@ -2,3 +2,5 @@
 // and written from plain words.
 pub mod line;
 pub mod words;
+pub mod closing;
+pub mod names;

@@ -10,7 +10,7 @@ use layout::report::Report;
 use layout::report::ReportRead;
 use layout::request::Request;
 use layout::request::RequestRead;
-use names::kind::FileKind;
+use crate::names::kind::FileKind;
 
 fn is_report(line: &[u8]) -> bool
     ensures { λ r. ⌜ r ≡ isReport (reportOf (now (line .entry))) ⌝ }

@@ -13,7 +13,7 @@ use layout::report::Report;
 use layout::report::ReportRead;
 use layout::request::Request;
 use layout::request::RequestRead;
-use names::kind::FileKind;
+use crate::names::kind::FileKind;
 
 // How many words a record of this kind is given by.
 pub fn width(kind: FileKind) -> usize

@@ -9,7 +9,7 @@ use crate::text;
 use crate::wrong;
 use faults::cause::Cause;
 use faults::cause::FaultPlace;
-use names::kind::FileKind;
+use records::names::kind::FileKind;
 
 fn at_place(place: usize) {
     text(b" at place ");
@@ -78,7 +78,7 @@ fn closing(line: &[u8], place: usize) {
     }
     text(b"the closing record");
     at_place(place);
-    if closing::is_closing(line, lines) {
+    if records::closing::is_closing(line, lines) {
         text(b", has no CR at its end");
         show(line, line.len(), line.len());
         return;

@@ -1,6 +1,6 @@
 // The fields of a record, as the specification's tables name them (4.5.1, 4.5.2.3, 4.7.8).
 use crate::text;
-use names::kind::FileKind;
+use records::names::kind::FileKind;
 
 pub enum Field {
     First,

@@ -1,6 +1,6 @@
 // Where a field stands in its line, also in a line that is damaged. A field is known by its "Pos." in the specification's table (4.5.1,
 // 4.5.2.3, 4.7.8) and reaches to the next comma, the last one to the line's end. What is missing is empty, and stands at the line's end.
-use names::kind::FileKind;
+use records::names::kind::FileKind;
 
 // From its first byte to the one behind its last.
 pub struct Span {

@@ -2,7 +2,7 @@
 use denote.Ref.{now}
 use borrow.Author.Needs.{needs}
 use mathlib.Core.Path.{sym, ap, _∙_}
-use Rattle.names.specs.declared.kind.FileKind.{FileKind}
+use Rattle.records.specs.declared.names.kind.FileKind.{FileKind}
 use Rattle.files.specs.Judged.{judgedFile}
 use Rattle.checking.proofs.check.check_text.Statement.{statement}
 use Rattle.checking.proofs.check.check_text.Tie as tie

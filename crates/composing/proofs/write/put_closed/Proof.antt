@@ -2,7 +2,7 @@
 use Rattle.composing.proofs.WroteLaws.{laid-closed}
 use Rattle.composing.proofs.LayLaws.{length-closed}
 use Rattle.files.specs.Writing.{valuesIn}
-use Rattle.closing.specs.Closing.{closingText}
+use Rattle.records.specs.closing.Closing.{closingText}
 use Rattle.laws.proofs.Overlay.{laid-length}
 use lib.ListN.{length}
 use mathlib.Core.Path.{ap}

@@ -4,8 +4,8 @@ use Rattle.composing.proofs.WroteLaws.{wrote-fault, wrote-long, wrote-w
 use Rattle.composing.proofs.LayLaws.{measured-fault, measured-length, held-all, length-closed, lines-long}
 use Rattle.composing.specs.Measuring.{closedText}
 use Rattle.files.specs.Writing.{valuesIn, heldAll}
-use Rattle.closing.proofs.ClosingLaws.{length-closing, short-closing}
-use Rattle.closing.specs.Closing.{closingText}
+use Rattle.records.proofs.closing.ClosingLaws.{length-closing, short-closing}
+use Rattle.records.specs.closing.Closing.{closingText}
 use lib.ListN.{length}
 use mathlib.Core.Path.{sym, ap, _∙_}
 use native.Mathlib.Omega.{arith}

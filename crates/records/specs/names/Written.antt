@@ -1,0 +1,23 @@
+-- What a writer answers, in the paper's numbers, and what it leaves in the lent buffer. Assumes nothing: these are definitions.
+use Prim.Native.Nat.{ℕ}
+use mathlib.Core.Path.{_≡_}
+use mathlib.Core.List.{List}
+use Rattle.laws.specs.Overlay.{overlay}
+use Rattle.records.specs.declared.names.written.Written.{Written}
+use Rattle.records.specs.declared.names.written.Written.the-variants.{Length, Fault, Long}
+
+abbrev pub writtenNumber : Written → ℕ
+writtenNumber (Length n) = 0
+writtenNumber (Fault place) = 4
+writtenNumber Long = 41
+
+-- the buffer after a writer that was to write `text`
+abbrev pub afterWriting : Written → List ℕ → List ℕ → List ℕ
+afterWriting (Length n) text before = overlay before 0 text
+afterWriting (Fault place) text before = before
+afterWriting Long text before = before
+
+-- the writer answered `right`, and left in the buffer what that answer says
+pub record Wrote (right : Written) (text before after : List ℕ) (r : Written) : Type 0 where
+  pub answer : r ≡ right
+  pub bytes : after ≡ afterWriting right text before
