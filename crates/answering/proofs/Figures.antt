@@ -18,8 +18,8 @@ use Rattle.laws.proofs.Lists.{length-keep-end}
 use Rattle.laws.proofs.Tables.{table-more, length-table, map-table}
 use Rattle.fields.specs.declared.number.Number.{Number}
 use Rattle.entries.specs.declared.entry.Entry.{Entry}
-use Rattle.comparing.specs.Same.{sameEntry}
-use Rattle.comparing.proofs.SameLaws.{same-entry-equal, same-entry-refl}
+use Rattle.entries.specs.comparing.Same.{sameEntry}
+use Rattle.entries.proofs.comparing.SameLaws.{same-entry-equal, same-entry-refl}
 use Rattle.model.specs.Rules.{TableLine}
 use Rattle.model.specs.Model.{Filed, Store, Reached, entryOver}
 use Rattle.verdict.specs.declared.step.Standing.{Standing}

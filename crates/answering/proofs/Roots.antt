@@ -22,7 +22,7 @@ use Rattle.entries.specs.declared.entry.Line.{Line}
 use Rattle.entries.specs.declared.entry.Listed.the-variants.{With}
 use Rattle.entries.specs.Entry.{freePlace, firstEntry}
 use Rattle.entries.specs.Report.{meantBy, publisherOf, sameCode, matches}
-use Rattle.places.specs.Places.{lowestFree, lapsed}
+use Rattle.entries.specs.places.Places.{lowestFree, lapsed}
 use Rattle.entries.proofs.SameLaws.{same-code, matches-equal}
 use Rattle.verdict_numbers.specs.declared.Verdict.{Verdict}
 use Rattle.verdict_numbers.specs.declared.Verdict.the-variants.{Kept}

@@ -8,7 +8,7 @@ use lib.ListN.{length}
 use Rattle.laws.specs.Lists.{table, keep}
 use Rattle.fields.specs.declared.number.Number.{Number}
 use Rattle.entries.specs.declared.entry.Entry.{Entry}
-use Rattle.comparing.specs.Same.{sameEntry}
+use Rattle.entries.specs.comparing.Same.{sameEntry}
 use Rattle.model.specs.Rules.{TableLine}
 use Rattle.model.specs.Model.{Filed, entryOver}
 use Rattle.rules.specs.Rules.{rules}

@@ -16,7 +16,7 @@ ghost use Rattle.numbers.specs.Lines.{lineAt};
 ghost use Rattle.entry_slots.specs.Entries.{entryAt};
 ghost use Rattle.store.specs.Reads.{tableLine, lent, reads};
 ghost use Rattle.working.specs.Working.{Sound};
-ghost use Rattle.comparing.specs.Same.{sameEntry};
+ghost use Rattle.entries.specs.comparing.Same.{sameEntry};
 ghost use Rattle.indexing.specs.Index.{Wanted, Indexed};
 ghost use Rattle.answering.specs.Figure.{differs, differsShown, differing, figureAsked};
 
@@ -33,7 +33,7 @@ fn is_other(entries: &[u8], i: usize, s: Standing) -> bool
 {
     let worked = s.entry;
     let stored = entry_slots::entry::entry_at(entries, i);
-    !comparing::same_entry(stored, worked)
+    !entries::comparing::same_entry(stored, worked)
 }
 
 // Whether the entry of the line i differs from the one worked out.

@@ -17,7 +17,7 @@ use Rattle.correction_rules.specs.declared.Named.the-variants.{Whole, Le
 use Rattle.correction_rules.specs.declared.Correction.{Correction}
 use Rattle.entries.specs.Report.{byKind, sameCode, meantBy, publisherOf}
 use Rattle.entries.specs.Entry.{isMissing, lineIn}
-use Rattle.places.specs.Places.{isOpen}
+use Rattle.entries.specs.places.Places.{isOpen}
 
 unfoldable pub isAmong : ℕ → List ℕ → Bool
 isAmong code codes = any (eqb code) codes

@@ -101,7 +101,7 @@ fn names_open(owner: Code, named: Named, places: [Place; PLACES]) -> bool
         Named::Whole(p) => {
             let r = report::meant(owner, p);
             let k = p.kind;
-            places::is_open(places, k, r)
+            entries::places::is_open(places, k, r)
         }
         Named::Less => false,
     }

@@ -9,7 +9,7 @@ use Rattle.verdict_numbers.specs.declared.Verdict.{Verdict}
 use Rattle.entries.specs.declared.entry.Place.{Place}
 use Rattle.entries.specs.declared.entry.Entry.{Entry}
 use Rattle.entries.specs.Entry.{placeCount, freePlace}
-use Rattle.places.specs.Places.{placeOf}
+use Rattle.entries.specs.places.Places.{placeOf}
 use Rattle.correction_rules.specs.declared.Named.{Named}
 use Rattle.correction_rules.specs.Corrections.{ofNamed}
 use Rattle.verdict_numbers.specs.Numbers.{numberOf}

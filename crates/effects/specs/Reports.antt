@@ -11,7 +11,7 @@ use Rattle.entries.specs.declared.entry.Entry.{Entry}
 use Rattle.entries.specs.declared.entry.Last.the-variants.{On}
 use Rattle.entries.specs.Report.{byKind}
 use Rattle.entries.specs.Entry.{placeCount}
-use Rattle.places.specs.Places.{isOpen, placeOf, keptIn, lapsed}
+use Rattle.entries.specs.places.Places.{isOpen, placeOf, keptIn, lapsed}
 use Rattle.verdict_numbers.specs.Numbers.{numberOf}
 
 -- 11: the holder is the gaining network and the last confirmed date the porting date; every open report with that date or an older one lapses

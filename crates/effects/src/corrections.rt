@@ -17,7 +17,7 @@ fn named_at(owner: Code, named: Named, places: [Place; PLACES]) -> usize
         Named::Whole(p) => {
             let r = report::meant(owner, p);
             let k = p.kind;
-            places::place_of(places, k, r)
+            entries::places::place_of(places, k, r)
         }
         Named::Less => PLACES,
     }
@@ -30,7 +30,7 @@ fn without_named(e: Entry, owner: Code, named: Named) -> Entry
     let places = e.places;
     let holder = e.holder;
     let last = e.last;
-    let left = places::freed(places, named_at(owner, named, places));
+    let left = entries::places::freed(places, named_at(owner, named, places));
     Entry {
         holder: holder,
         last: last,

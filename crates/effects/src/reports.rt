@@ -16,7 +16,7 @@ fn keep(e: Entry, p: Place) -> Entry
     let holder = e.holder;
     let last = e.last;
     let before = e.places;
-    let after = places::keep(before, p);
+    let after = entries::places::keep(before, p);
     Entry {
         holder: holder,
         last: last,
@@ -31,7 +31,7 @@ fn confirm(e: Entry, r: Report) -> Entry
     let holder = r.gaining;
     let date = r.date;
     let before = e.places;
-    let after = places::lapse_all(before, date);
+    let after = entries::places::lapse_all(before, date);
     Entry {
         holder: holder,
         last: Last::On(date),
@@ -60,12 +60,12 @@ pub fn partner_at(places: [Place; PLACES], r: Report) -> usize
     let k = r.kind;
     match k {
         Kind::P => {
-            if places::is_open(places, Kind::L, r) {
-                return places::place_of(places, Kind::L, r);
+            if entries::places::is_open(places, Kind::L, r) {
+                return entries::places::place_of(places, Kind::L, r);
             }
-            places::place_of(places, Kind::Z, r)
+            entries::places::place_of(places, Kind::Z, r)
         }
-        Kind::L => places::place_of(places, Kind::P, r),
+        Kind::L => entries::places::place_of(places, Kind::P, r),
         Kind::Z => PLACES,
     }
 }

@@ -1,2 +1,4 @@
 pub mod Report
 pub mod Entry
+pub mod comparing
+pub mod places

@@ -22,7 +22,7 @@ use Rattle.entries.specs.declared.entry.Line.{Line}
 use Rattle.entries.specs.declared.entry.Listed.the-variants.{With}
 use Rattle.entries.specs.Report.{gainingOf, meantBy}
 use Rattle.entries.specs.Entry.{freePlace}
-use Rattle.places.specs.Places.{lowestFree, lapsed}
+use Rattle.entries.specs.places.Places.{lowestFree, lapsed}
 use Rattle.verdict_numbers.specs.declared.Verdict.{Verdict}
 use Rattle.correction_rules.specs.declared.Named.{Named}
 use Rattle.verdict.specs.declared.step.Says.{Says}

@@ -12,7 +12,7 @@ use Rattle.entries.specs.declared.entry.Entry.{Entry}
 use Rattle.entries.specs.declared.entry.Listed.{Listed}
 use Rattle.entries.specs.Report.{sameCode, publisherOf}
 use Rattle.entries.specs.Entry.{isMissing, lineIn}
-use Rattle.places.specs.Places.{isOpen, isFull}
+use Rattle.entries.specs.places.Places.{isOpen, isFull}
 use Rattle.report_tests.specs.Tests.{beforeLast, equalsLast, toOther, partnerOpen, zedOpen, tooSoon}
 
 -- The table, line by line. `n` is what the number table has for the number, `e` its entry, `from` the publisher, `day` the publication day.

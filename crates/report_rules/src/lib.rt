@@ -89,10 +89,10 @@ pub fn verdict(n: Listed, e: Entry, from: Code, day: CalendarDays, r: Report) ->
         report_tests::before_last(r.date, last),
         report_tests::equals_last(r.date, last),
         report_tests::to_other(line.owner, r),
-        places::is_open(places, kind, r),
+        entries::places::is_open(places, kind, r),
         report_tests::partner_open(places, r),
         zed & report_tests::too_soon(places, day, r),
         zed,
-        places::is_full(places),
+        entries::places::is_full(places),
     )
 }

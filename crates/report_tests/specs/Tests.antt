@@ -16,7 +16,7 @@ use Rattle.entries.specs.declared.entry.Last.{Last}
 use Rattle.entries.specs.declared.entry.Last.the-variants.{Never, On}
 use Rattle.entries.specs.Report.{byKind, sameCode}
 use Rattle.entries.specs.Entry.{freePlace}
-use Rattle.places.specs.Places.{isOpen, placeOf}
+use Rattle.entries.specs.places.Places.{isOpen, placeOf}
 
 -- the fifth working day
 abbrev pub returnPeriod : ℕ

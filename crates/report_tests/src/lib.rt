@@ -52,8 +52,8 @@ pub fn partner_open(places: [Place; PLACES], r: Report) -> bool
 {
     let k = r.kind;
     match k {
-        Kind::P => places::is_open(places, Kind::L, r),
-        Kind::L => places::is_open(places, Kind::P, r),
+        Kind::P => entries::places::is_open(places, Kind::L, r),
+        Kind::L => entries::places::is_open(places, Kind::P, r),
         Kind::Z => false,
     }
 }
@@ -64,7 +64,7 @@ pub fn zed_open(places: [Place; PLACES], r: Report) -> bool
 {
     let k = r.kind;
     match k {
-        Kind::P => places::is_open(places, Kind::Z, r),
+        Kind::P => entries::places::is_open(places, Kind::Z, r),
         Kind::L => false,
         Kind::Z => false,
     }
@@ -84,7 +84,7 @@ fn not_yet(day: CalendarDays, earliest: Later) -> bool
 fn zed_day(places: [Place; PLACES], r: Report) -> CalendarDays
     ensures { λ d. ⌜ d ≡ zedDay r places ⌝ }
 {
-    let z = places::place_at(places, places::place_of(places, Kind::Z, r));
+    let z = entries::places::place_at(places, entries::places::place_of(places, Kind::Z, r));
     z.day
 }
 

@@ -19,7 +19,7 @@ use Rattle.laws.proofs.Overlay.{length-overlay, overlay-append, overlay-none, p
 use Rattle.laws.proofs.Tables.{table-more, length-table}
 use Rattle.fields.specs.declared.number.Number.{Number}
 use Rattle.entries.specs.declared.entry.Entry.{Entry}
-use Rattle.comparing.specs.Same.{sameEntry}
+use Rattle.entries.specs.comparing.Same.{sameEntry}
 use Rattle.verdict.specs.declared.step.Standing.{Standing}
 use Rattle.model.specs.Rules.{TableLine}
 use Rattle.model.specs.Model.{Filed, entryOver}

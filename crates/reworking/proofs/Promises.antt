@@ -21,7 +21,7 @@ use Rattle.laws.proofs.Slots.{slot-laid}
 use Rattle.laws.proofs.Tables.{length-table, getD-table, table-cong, map-table, all-each}
 use Rattle.fields.specs.declared.number.Number.{Number}
 use Rattle.entries.specs.declared.entry.Entry.{Entry}
-use Rattle.comparing.proofs.SameLaws.{same-entry-refl}
+use Rattle.entries.proofs.comparing.SameLaws.{same-entry-refl}
 use Rattle.model.specs.Rules.{TableLine}
 use Rattle.model.specs.Model.{Filed, Store, Reached, entryOver}
 use Rattle.rules.specs.Rules.{rules}

@@ -58,7 +58,7 @@ fn rework_line<'a>(
     let worked = s.entry;
     let stored = entry::entry_at(entries, i);
     entry::put_entry(entries, i, worked);
-    !comparing::same_entry(stored, worked)
+    !entries::comparing::same_entry(stored, worked)
 }
 
 // Lays the place i behind the first `count` of the list where its entry changed, and answers how many stand there then.

@@ -26,7 +26,7 @@ use Rattle.fields.specs.Number.{digitsFrom, digitsFieldOf, numberOf, sameNumber
 use Rattle.layout.specs.Part.{sixOf, partOf}
 use Rattle.layout.specs.Report.{wholeOf, reportFrom, reportOf}
 use Rattle.layout.specs.Correction.{headOf, reportedOf, isSound, soundOf, threeOf, correctionOf, namedNumber}
-use Rattle.places.specs.Places.{holdsOpen, isFree, lapsed}
+use Rattle.entries.specs.places.Places.{holdsOpen, isFree, lapsed}
 use Rattle.correction_rules.specs.Corrections.{isAmong}
 use Rattle.report_tests.specs.Tests.{returnPeriod, notYet}
 use Rattle.verdict.specs.Step.{standOn, entryAfter}

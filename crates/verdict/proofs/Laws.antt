@@ -31,10 +31,10 @@ use Rattle.verdict.specs.declared.step.Why.{Why}
 use Rattle.verdict.specs.declared.step.Why.the-variants.{Nothing, Pair}
 use Rattle.verdict.specs.declared.step.Standing.{Standing}
 use Rattle.entries.specs.Entry.{placeCount, freePlace, firstEntry}
-use Rattle.places.specs.Places.{holdsOpen, noTwoEqual}
+use Rattle.entries.specs.places.Places.{holdsOpen, noTwoEqual}
 use Rattle.verdict.specs.Step.{verdictOn, entryAfter, standOn, firstStanding, worked, verdicts, standing}
 use Rattle.verdict.specs.Sound.{NotAfter, holderBy, lastBy, Pairing, Tidy, Explained}
-use Rattle.places.proofs.PlaceLaws.{apart-at}
+use Rattle.entries.proofs.places.PlaceLaws.{apart-at}
 use Rattle.verdict.proofs.StepLaws.{not-after-refl, last-stays, tidy-stays, explained-stays}
 
 -- ---- the fold

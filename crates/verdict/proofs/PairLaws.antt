@@ -11,8 +11,8 @@ use Rattle.entries.specs.declared.report.Report.{Report}
 use Rattle.entries.specs.declared.entry.Place.{Place}
 use Rattle.entries.specs.Report.{byKind, matches}
 use Rattle.entries.specs.Entry.{placeCount, freePlace}
-use Rattle.places.specs.Places.{isOpen, placeOf}
-use Rattle.places.proofs.PlaceLaws.{found}
+use Rattle.entries.specs.places.Places.{isOpen, placeOf}
+use Rattle.entries.proofs.places.PlaceLaws.{found}
 use Rattle.report_tests.specs.Tests.{partnerOpen, zedOpen}
 use Rattle.effects.specs.Reports.{partnerAt}
 use Rattle.verdict.specs.Sound.{pairs}

@@ -34,14 +34,14 @@ use Rattle.verdict.specs.declared.step.Standing.{Standing}
 use Rattle.verdict_numbers.specs.Numbers.{numberOf}
 use Rattle.entries.specs.Report.{meantBy}
 use Rattle.entries.specs.Entry.{freePlace}
-use Rattle.places.specs.Places.{isOpen, lowestFree, lapsed}
+use Rattle.entries.specs.places.Places.{isOpen, lowestFree, lapsed}
 use Rattle.report_tests.specs.Tests.{beforeLast, partnerOpen, zedOpen}
 use Rattle.report_rules.specs.Reports.{reportTable, reportVerdict}
 use Rattle.effects.specs.Reports.{kept, confirmed, partnerAt}
 use Rattle.effects.specs.Corrections.{namedAt, withoutNamed}
 use Rattle.verdict.specs.Step.{placedAs, verdictBy, effectBy, whyBy, verdictOn, entryAfter, standOn}
 use Rattle.verdict.specs.Sound.{isDiscarded, NotAfter, Tidy, Explained}
-use Rattle.places.proofs.PlaceLaws.{thinned-set, thinned-map, apart-thinned, apart-kept}
+use Rattle.entries.proofs.places.PlaceLaws.{thinned-set, thinned-map, apart-thinned, apart-kept}
 use Rattle.verdict.proofs.PairLaws.{partner-pairs}
 
 -- ---- a verdict has one number

@@ -18,7 +18,7 @@ use Rattle.verdict.specs.declared.step.Standing.{Standing}
 use Rattle.verdict_numbers.specs.Numbers.{numberOf}
 use Rattle.entries.specs.Report.{byKind, matches}
 use Rattle.entries.specs.Entry.{placeCount}
-use Rattle.places.specs.Places.{noTwoEqual}
+use Rattle.entries.specs.places.Places.{noTwoEqual}
 
 -- a verdict that changes nothing: any other than 10, 11 and 30
 abbrev pub isDiscarded : Verdict → Bool

@@ -108,7 +108,7 @@ pub fn step(line: Line, e: Entry, rec: Record) -> Outcome
 fn paired(places: [Place; PLACES], second: Place) -> Why
     ensures { λ w. ⌜ w ≡ pairedIn places second ⌝ }
 {
-    let first = places::place_at(places, effects::reports::partner_at(places, second.report));
+    let first = entries::places::place_at(places, effects::reports::partner_at(places, second.report));
     Why::Pair(first, second)
 }
 

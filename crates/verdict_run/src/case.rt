@@ -132,7 +132,7 @@ fn seen(c: Case, s: &[u8], expected: u16) -> Case {
     let l = c.line;
     let e = c.entry;
     let ps = e.places;
-    if places::is_open(ps, k, report::meant(l.owner, p)) {
+    if entries::places::is_open(ps, k, report::meant(l.owner, p)) {
         return judged(c, 1, expected);
     }
     judged(c, 0, expected)
