@@ -13,14 +13,14 @@ use Rattle.entries.specs.declared.entry.Place.{Place}
 use Rattle.entries.specs.declared.entry.Entry.{Entry}
 use Rattle.entries.specs.declared.entry.Line.{Line}
 use Rattle.entries.specs.declared.entry.Listed.the-variants.{With}
-use Rattle.verdict_numbers.specs.declared.Verdict.{Verdict}
-use Rattle.correction_rules.specs.declared.Correction.{Correction}
+use Rattle.verdict.specs.declared.verdicts.Verdict.{Verdict}
+use Rattle.verdict.specs.declared.correction_rules.Correction.{Correction}
 use Rattle.verdict.specs.declared.step.Says.{Says}
 use Rattle.verdict.specs.declared.step.Record.{Record}
 use Rattle.verdict.specs.declared.step.Why.{Why}
 use Rattle.verdict.specs.declared.step.Standing.{Standing}
-use Rattle.verdict_numbers.specs.Numbers.{numberOf}
-use Rattle.correction_rules.specs.Corrections.{correctionTable, correctionVerdict}
+use Rattle.verdict.specs.verdicts.Numbers.{numberOf}
+use Rattle.verdict.specs.correction_rules.Corrections.{correctionTable, correctionVerdict}
 use Rattle.verdict.specs.Step.{verdictBy, verdictOn, whyBy, standOn, entryAfter}
 use Rattle.model.specs.Rules.{Event}
 use Rattle.rules.specs.Rules.{recordOf}

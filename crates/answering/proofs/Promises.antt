@@ -22,7 +22,7 @@ use Rattle.entries.specs.declared.entry.Last.the-variants.{Never, On}
 use Rattle.entries.specs.Entry.{firstEntry}
 use Rattle.verdict.specs.declared.step.Why.{Why}
 use Rattle.verdict.specs.declared.step.Standing.{Standing}
-use Rattle.verdict_numbers.specs.Numbers.{numberOf}
+use Rattle.verdict.specs.verdicts.Numbers.{numberOf}
 use Rattle.verdict.specs.Sound.{Explained, Pairing, holderBy, lastBy}
 use Rattle.verdict.specs.Step.{standOn, entryAfter, firstStanding}
 use Rattle.verdict.proofs.StepLaws.{explained-stays}

@@ -24,17 +24,17 @@ use Rattle.entries.specs.Entry.{freePlace, firstEntry}
 use Rattle.entries.specs.Report.{meantBy, publisherOf, sameCode, matches}
 use Rattle.entries.specs.places.Places.{lowestFree, lapsed}
 use Rattle.entries.proofs.SameLaws.{same-code, matches-equal}
-use Rattle.verdict_numbers.specs.declared.Verdict.{Verdict}
-use Rattle.verdict_numbers.specs.declared.Verdict.the-variants.{Kept}
+use Rattle.verdict.specs.declared.verdicts.Verdict.{Verdict}
+use Rattle.verdict.specs.declared.verdicts.Verdict.the-variants.{Kept}
 use Rattle.verdict.specs.declared.step.Says.{Says}
 use Rattle.verdict.specs.declared.step.Record.{Record}
 use Rattle.verdict.specs.declared.step.Why.{Why}
 use Rattle.verdict.specs.declared.step.Standing.{Standing}
-use Rattle.verdict_numbers.specs.Numbers.{numberOf}
-use Rattle.report_rules.specs.Reports.{reportTable, reportVerdict}
-use Rattle.effects.specs.Reports.{kept, confirmed, partnerAt}
-use Rattle.correction_rules.specs.Corrections.{correctionVerdict}
-use Rattle.effects.specs.Corrections.{withoutNamed, namedAt}
+use Rattle.verdict.specs.verdicts.Numbers.{numberOf}
+use Rattle.verdict.specs.report_rules.Reports.{reportTable, reportVerdict}
+use Rattle.verdict.specs.effects.Reports.{kept, confirmed, partnerAt}
+use Rattle.verdict.specs.correction_rules.Corrections.{correctionVerdict}
+use Rattle.verdict.specs.effects.Corrections.{withoutNamed, namedAt}
 use Rattle.verdict.specs.Step.{placedAs, verdictBy, effectBy, whyBy, verdictOn, standOn, firstStanding}
 use Rattle.verdict.specs.Sound.{Explained, Pairing, Paired}
 use Rattle.verdict.proofs.StepLaws.{explained-stays}

@@ -5,7 +5,7 @@ use lib.Dec.{eqb}
 use Rattle.entries.specs.declared.entry.Entry.{Entry}
 use Rattle.entries.specs.declared.entry.Line.{Line}
 use Rattle.entries.specs.declared.entry.Listed.the-variants.{With}
-use Rattle.verdict_numbers.specs.Numbers.{numberOf}
+use Rattle.verdict.specs.verdicts.Numbers.{numberOf}
 use Rattle.verdict.specs.Step.{verdictOn, entryAfter}
 use Rattle.model.specs.Rules.{Event}
 use Rattle.rules.specs.Rules.{recordOf}

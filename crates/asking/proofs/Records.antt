@@ -14,7 +14,7 @@ use lib.Seq.{take-all, drop-append-add}
 use Rattle.laws.specs.Lists.{table, keep, total}
 use Rattle.laws.proofs.Tables.{length-table, getD-table}
 use Rattle.fields.specs.declared.number.Number.{Number}
-use Rattle.verdict_numbers.specs.declared.Verdict.{Verdict}
+use Rattle.verdict.specs.declared.verdicts.Verdict.{Verdict}
 use Rattle.verdict.specs.declared.step.Record.{Record}
 use Rattle.model.specs.Rules.{Event, TableLine}
 use Rattle.model.specs.Model.{Filed, eventAt, events, journal, journalOf, numberOf, lineOf}

@@ -7,8 +7,8 @@ use Prim.Native.Nat.{ℕ, _+_, _≤_, _<_}
 use Rattle.laws.specs.Lists.{table}
 use Rattle.fields.specs.declared.number.Number.{Number}
 use Rattle.entries.specs.declared.entry.Listed.the-variants.{With}
-use Rattle.verdict_numbers.specs.declared.Verdict.{Verdict}
-use Rattle.verdict_numbers.specs.declared.Verdict.the-variants.{UnknownNumber}
+use Rattle.verdict.specs.declared.verdicts.Verdict.{Verdict}
+use Rattle.verdict.specs.declared.verdicts.Verdict.the-variants.{UnknownNumber}
 use Rattle.verdict.specs.declared.step.Record.{Record}
 use Rattle.verdict.specs.Step.{verdictOn}
 use Rattle.model.specs.Rules.{TableLine, Event}

@@ -15,7 +15,7 @@ use numbers::find::FoundLine;
 use numbers::lines;
 use verdict::step;
 use verdict::step::Record;
-use verdict_numbers::Verdict;
+use verdict::verdicts::Verdict;
 use working::before;
 use working::gather;
 ghost use mathlib.Core.Path.{_≡_};

@@ -116,7 +116,7 @@ fn show_record<'a>(
     print::number(x.place as u64);
     print::text(b" gets ");
     let v = x.verdict;
-    print::number(verdict_numbers::number(v) as u64);
+    print::number(verdict::verdicts::number(v) as u64);
     print::text(b": ");
     print::text(record::part(r, c, which, place, a));
     print::text(b"\n");

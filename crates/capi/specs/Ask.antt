@@ -5,7 +5,7 @@ use Prim.Native.Nat.{ℕ}
 use lib.Dec.{eqb}
 use Rattle.journals.specs.declared.records.Journal.{Journal}
 use Rattle.journals.specs.declared.records.Journal.the-variants.{Regular, Correction}
-use Rattle.verdict_numbers.specs.Numbers.{numberOf}
+use Rattle.verdict.specs.verdicts.Numbers.{numberOf}
 use Rattle.asking.specs.declared.record.Asked.{Asked}
 use Rattle.pairs.specs.declared.WhyAnswer.{WhyAnswer}
 use Rattle.asking.specs.Numbers.{whyNumber, askedNumber}

@@ -8,7 +8,7 @@ use journals::records::Journal;
 use journals::records::REPORTS;
 use pairs::WhyAnswer;
 ghost use mathlib.Core.Path.{_≡_};
-ghost use Rattle.verdict_numbers.specs.Numbers.{numberOf};
+ghost use Rattle.verdict.specs.verdicts.Numbers.{numberOf};
 ghost use Rattle.store.specs.Reads.{lent, reads};
 ghost use Rattle.asking.specs.Numbers.{whyNumber, askedNumber};
 ghost use Rattle.asking.specs.Why.{firstPlace, secondPlace};
@@ -104,7 +104,7 @@ fn verdict_in(x: AskedRecord) -> u64
     ensures { λ n. ⌜ n ≡ numberOf (x .verdict) ⌝ }
 {
     let v = x.verdict;
-    verdict_numbers::number(v) as u64
+    verdict::verdicts::number(v) as u64
 }
 
 fn verdict_of(r: Asked) -> u64

@@ -23,14 +23,14 @@ use Rattle.entries.specs.declared.entry.Listed.the-variants.{With}
 use Rattle.entries.specs.Report.{gainingOf, meantBy}
 use Rattle.entries.specs.Entry.{freePlace}
 use Rattle.entries.specs.places.Places.{lowestFree, lapsed}
-use Rattle.verdict_numbers.specs.declared.Verdict.{Verdict}
-use Rattle.correction_rules.specs.declared.Named.{Named}
+use Rattle.verdict.specs.declared.verdicts.Verdict.{Verdict}
+use Rattle.verdict.specs.declared.correction_rules.Named.{Named}
 use Rattle.verdict.specs.declared.step.Says.{Says}
 use Rattle.verdict.specs.declared.step.Says.the-variants.{Reported, Corrected}
 use Rattle.verdict.specs.declared.step.Record.{Record}
-use Rattle.verdict_numbers.specs.Numbers.{numberOf}
-use Rattle.effects.specs.Reports.{kept, confirmed}
-use Rattle.effects.specs.Corrections.{namedAt, withoutNamed}
+use Rattle.verdict.specs.verdicts.Numbers.{numberOf}
+use Rattle.verdict.specs.effects.Reports.{kept, confirmed}
+use Rattle.verdict.specs.effects.Corrections.{namedAt, withoutNamed}
 use Rattle.verdict.specs.Step.{placedAs, verdictOn, effectBy, entryAfter}
 use Rattle.entry_slots.proofs.Back.{FinePlace, FineEntry, first-fine}
 

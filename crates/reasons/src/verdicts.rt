@@ -42,7 +42,7 @@ fn heading(
     p = page::tab(p, room);
     p = page::number(p, room, r.place as u64);
     p = page::tab(p, room);
-    p = page::number(p, room, verdict_numbers::number(verdict) as u64);
+    p = page::number(p, room, verdict::verdicts::number(verdict) as u64);
     page::tab(p, room)
 }
 

@@ -27,8 +27,8 @@ use Rattle.layout.specs.Part.{sixOf, partOf}
 use Rattle.layout.specs.Report.{wholeOf, reportFrom, reportOf}
 use Rattle.layout.specs.Correction.{headOf, reportedOf, isSound, soundOf, threeOf, correctionOf, namedNumber}
 use Rattle.entries.specs.places.Places.{holdsOpen, isFree, lapsed}
-use Rattle.correction_rules.specs.Corrections.{isAmong}
-use Rattle.report_tests.specs.Tests.{returnPeriod, notYet}
+use Rattle.verdict.specs.correction_rules.Corrections.{isAmong}
+use Rattle.verdict.specs.report_tests.Tests.{returnPeriod, notYet}
 use Rattle.verdict.specs.Step.{standOn, entryAfter}
 use Rattle.model.specs.Model.{events, journal, about, named, history, entryOver, before as earlier, verdictOver, started, filed, lineOf, judged, verdictOf}
 use Rattle.rules.specs.Records.{numberIn, classIn, saysIn}

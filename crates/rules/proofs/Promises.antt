@@ -24,7 +24,7 @@ use Rattle.verdict.specs.declared.step.Standing.{Standing}
 use Rattle.entries.specs.declared.entry.Listed.the-variants.{Missing}
 use Rattle.verdict.specs.declared.step.Says.{Says}
 use Rattle.verdict.specs.declared.step.Says.the-variants.{Reported, Corrected}
-use Rattle.verdict_numbers.specs.Numbers.{numberOf}
+use Rattle.verdict.specs.verdicts.Numbers.{numberOf}
 use Rattle.verdict.specs.Step.{verdictBy, verdictOn, entryAfter, firstStanding, standOn}
 use Rattle.model.specs.Rules.{TableLine, Event}
 use Rattle.model.specs.Model.{Filed, Store, Reached, Later, journal, about, notLater, named, history, entryOver, filed, entryOf, lineOf, entriesBefore, countOf, numbersOf}

@@ -29,7 +29,7 @@ use Rattle.entries.specs.declared.entry.Entry.{Entry}
 use Rattle.entries.specs.declared.entry.Last.{Last}
 use Rattle.entries.specs.declared.entry.Last.the-variants.{Never, On}
 use Rattle.entries.specs.Entry.{firstEntry}
-use Rattle.report_tests.specs.Tests.{returnPeriod, notYet}
+use Rattle.verdict.specs.report_tests.Tests.{returnPeriod, notYet}
 use Rattle.verdict.specs.declared.step.Why.{Why}
 use Rattle.verdict.specs.declared.step.Why.the-variants.{Nothing, Pair}
 use Rattle.model.specs.Rules.{TableLine}

@@ -15,9 +15,9 @@ use Rattle.layout.specs.Report.{reportOf, wholeOf}
 use Rattle.layout.specs.Correction.{correctionOf, namedNumber}
 use Rattle.entries.specs.declared.report.Published.{Published}
 use Rattle.entries.specs.Report.{byKind}
-use Rattle.correction_rules.specs.declared.Named.{Named}
-use Rattle.correction_rules.specs.declared.Named.the-variants.{Whole, Less}
-use Rattle.correction_rules.specs.declared.Correction.{Correction}
+use Rattle.verdict.specs.declared.correction_rules.Named.{Named}
+use Rattle.verdict.specs.declared.correction_rules.Named.the-variants.{Whole, Less}
+use Rattle.verdict.specs.declared.correction_rules.Correction.{Correction}
 use Rattle.verdict.specs.declared.step.Says.{Says}
 use Rattle.verdict.specs.declared.step.Says.the-variants.{Reported, Corrected}
 

@@ -6,10 +6,10 @@ use Rattle.entries.specs.declared.entry.Line.{Line}
 use Rattle.entries.specs.declared.entry.Entry.{Entry}
 use Rattle.entries.specs.declared.entry.Listed.the-variants.{With}
 use Rattle.entries.specs.Entry.{firstEntry}
-use Rattle.verdict_numbers.specs.declared.Verdict.the-variants.{UnknownNumber}
+use Rattle.verdict.specs.declared.verdicts.Verdict.the-variants.{UnknownNumber}
 use Rattle.verdict.specs.declared.step.Record.{Record}
 use Rattle.verdict.specs.declared.step.Standing.{Standing}
-use Rattle.verdict_numbers.specs.Numbers.{numberOf}
+use Rattle.verdict.specs.verdicts.Numbers.{numberOf}
 use Rattle.verdict.specs.Step.{verdictOn, entryAfter, firstStanding, standOn}
 use Rattle.model.specs.Rules.{TableLine, Event, Rules}
 use Rattle.rules.specs.Records.{numberIn, classIn, saysIn}

@@ -1,6 +1,6 @@
 // What the bytes of a record say, by the kind of its file: 0 default, 1 correction.
-use correction_rules::Correction;
-use correction_rules::Named;
+use verdict::correction_rules::Correction;
+use verdict::correction_rules::Named;
 use entries::report::Published;
 use fields::kind::Kind;
 use fields::number::Digits;

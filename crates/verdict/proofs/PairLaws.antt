@@ -13,8 +13,8 @@ use Rattle.entries.specs.Report.{byKind, matches}
 use Rattle.entries.specs.Entry.{placeCount, freePlace}
 use Rattle.entries.specs.places.Places.{isOpen, placeOf}
 use Rattle.entries.proofs.places.PlaceLaws.{found}
-use Rattle.report_tests.specs.Tests.{partnerOpen, zedOpen}
-use Rattle.effects.specs.Reports.{partnerAt}
+use Rattle.verdict.specs.report_tests.Tests.{partnerOpen, zedOpen}
+use Rattle.verdict.specs.effects.Reports.{partnerAt}
 use Rattle.verdict.specs.Sound.{pairs}
 
 pub partner-pairs : (r : Report) (ps : List Place) → (partnerOpen r ps || zedOpen r ps) ≡ true → (pairs (getD ps (partnerAt r ps) freePlace .report .kind) (r .kind) ≡ true) × (matches (getD ps (partnerAt r ps) freePlace .report) r ≡ true)

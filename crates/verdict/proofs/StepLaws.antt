@@ -15,8 +15,8 @@ use Rattle.laws.specs.Lists.{any}
 use Rattle.laws.proofs.Lines.{line-passed, line-applied}
 use Rattle.calendar.specs.declared.dates.CalendarDays.{CalendarDays}
 use Rattle.fields.specs.declared.code.Code.{Code}
-use Rattle.verdict_numbers.specs.declared.Verdict.{Verdict}
-use Rattle.verdict_numbers.specs.declared.Verdict.the-variants.{Kept}
+use Rattle.verdict.specs.declared.verdicts.Verdict.{Verdict}
+use Rattle.verdict.specs.declared.verdicts.Verdict.the-variants.{Kept}
 use Rattle.entries.specs.declared.report.Report.{Report}
 use Rattle.entries.specs.declared.entry.Place.{Place}
 use Rattle.entries.specs.declared.entry.Entry.{Entry}
@@ -25,20 +25,20 @@ use Rattle.entries.specs.declared.entry.Last.the-variants.{Never, On}
 use Rattle.entries.specs.declared.entry.Line.{Line}
 use Rattle.entries.specs.declared.entry.Listed.{Listed}
 use Rattle.entries.specs.declared.entry.Listed.the-variants.{With}
-use Rattle.correction_rules.specs.declared.Named.{Named}
+use Rattle.verdict.specs.declared.correction_rules.Named.{Named}
 use Rattle.verdict.specs.declared.step.Says.{Says}
 use Rattle.verdict.specs.declared.step.Says.the-variants.{Reported, Corrected}
 use Rattle.verdict.specs.declared.step.Record.{Record}
 use Rattle.verdict.specs.declared.step.Why.the-variants.{Pair}
 use Rattle.verdict.specs.declared.step.Standing.{Standing}
-use Rattle.verdict_numbers.specs.Numbers.{numberOf}
+use Rattle.verdict.specs.verdicts.Numbers.{numberOf}
 use Rattle.entries.specs.Report.{meantBy}
 use Rattle.entries.specs.Entry.{freePlace}
 use Rattle.entries.specs.places.Places.{isOpen, lowestFree, lapsed}
-use Rattle.report_tests.specs.Tests.{beforeLast, partnerOpen, zedOpen}
-use Rattle.report_rules.specs.Reports.{reportTable, reportVerdict}
-use Rattle.effects.specs.Reports.{kept, confirmed, partnerAt}
-use Rattle.effects.specs.Corrections.{namedAt, withoutNamed}
+use Rattle.verdict.specs.report_tests.Tests.{beforeLast, partnerOpen, zedOpen}
+use Rattle.verdict.specs.report_rules.Reports.{reportTable, reportVerdict}
+use Rattle.verdict.specs.effects.Reports.{kept, confirmed, partnerAt}
+use Rattle.verdict.specs.effects.Corrections.{namedAt, withoutNamed}
 use Rattle.verdict.specs.Step.{placedAs, verdictBy, effectBy, whyBy, verdictOn, entryAfter, standOn}
 use Rattle.verdict.specs.Sound.{isDiscarded, NotAfter, Tidy, Explained}
 use Rattle.entries.proofs.places.PlaceLaws.{thinned-set, thinned-map, apart-thinned, apart-kept}

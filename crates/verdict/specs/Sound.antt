@@ -6,7 +6,7 @@ use lib.Dec.{eqb}
 use lib.ListN.{length}
 use Rattle.fields.specs.declared.code.Code.{Code}
 use Rattle.fields.specs.declared.kind.Kind.{Kind}
-use Rattle.verdict_numbers.specs.declared.Verdict.{Verdict}
+use Rattle.verdict.specs.declared.verdicts.Verdict.{Verdict}
 use Rattle.entries.specs.declared.entry.Place.{Place}
 use Rattle.entries.specs.declared.entry.Entry.{Entry}
 use Rattle.entries.specs.declared.entry.Last.{Last}
@@ -15,7 +15,7 @@ use Rattle.entries.specs.declared.entry.Line.{Line}
 use Rattle.verdict.specs.declared.step.Why.{Why}
 use Rattle.verdict.specs.declared.step.Why.the-variants.{Nothing, Pair}
 use Rattle.verdict.specs.declared.step.Standing.{Standing}
-use Rattle.verdict_numbers.specs.Numbers.{numberOf}
+use Rattle.verdict.specs.verdicts.Numbers.{numberOf}
 use Rattle.entries.specs.Report.{byKind, matches}
 use Rattle.entries.specs.Entry.{placeCount}
 use Rattle.entries.specs.places.Places.{noTwoEqual}

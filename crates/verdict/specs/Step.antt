@@ -6,7 +6,7 @@ use lib.ListN.{getD}
 use Rattle.laws.specs.Lists.{firstLine}
 use Rattle.calendar.specs.declared.dates.CalendarDays.{CalendarDays}
 use Rattle.fields.specs.declared.code.Code.{Code}
-use Rattle.verdict_numbers.specs.declared.Verdict.{Verdict}
+use Rattle.verdict.specs.declared.verdicts.Verdict.{Verdict}
 use Rattle.entries.specs.declared.report.Report.{Report}
 use Rattle.entries.specs.declared.entry.Place.{Place}
 use Rattle.entries.specs.declared.entry.Entry.{Entry}
@@ -20,13 +20,13 @@ use Rattle.verdict.specs.declared.step.Outcome.{Outcome}
 use Rattle.verdict.specs.declared.step.Why.{Why}
 use Rattle.verdict.specs.declared.step.Why.the-variants.{Nothing, Pair}
 use Rattle.verdict.specs.declared.step.Standing.{Standing}
-use Rattle.verdict_numbers.specs.Numbers.{numberOf}
+use Rattle.verdict.specs.verdicts.Numbers.{numberOf}
 use Rattle.entries.specs.Report.{meantBy}
 use Rattle.entries.specs.Entry.{freePlace, firstEntry, lineIn}
-use Rattle.report_rules.specs.Reports.{reportVerdict}
-use Rattle.effects.specs.Reports.{reportEffect, partnerAt}
-use Rattle.correction_rules.specs.Corrections.{correctionVerdict}
-use Rattle.effects.specs.Corrections.{correctionEffect}
+use Rattle.verdict.specs.report_rules.Reports.{reportVerdict}
+use Rattle.verdict.specs.effects.Reports.{reportEffect, partnerAt}
+use Rattle.verdict.specs.correction_rules.Corrections.{correctionVerdict}
+use Rattle.verdict.specs.effects.Corrections.{correctionEffect}
 
 -- a report with the publication day and the place of its record
 abbrev pub placedAs : Record → Report → Place

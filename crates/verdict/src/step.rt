@@ -1,6 +1,6 @@
 // One record of a number's history: its verdict, the entry after it, and the pair that confirmed last.
 use calendar::dates::CalendarDays;
-use correction_rules::Correction;
+use crate::correction_rules::Correction;
 use entries::entry;
 use entries::entry::Entry;
 use entries::entry::Line;
@@ -11,7 +11,7 @@ use entries::report;
 use entries::report::Published;
 use entries::report::Report;
 use fields::code::Code;
-use verdict_numbers::Verdict;
+use crate::verdicts::Verdict;
 ghost use mathlib.Core.Path.{_≡_};
 ghost use Rattle.verdict.specs.Step.{placedAs, verdictOn, effectOn, stepOn, pairedIn, whyBy, standOn, firstStanding};
 
@@ -69,9 +69,9 @@ pub fn verdict(n: Listed, e: Entry, rec: Record) -> Verdict
         Says::Reported(p) => {
             let line = entry::line_in(n);
             let r = report::meant(line.owner, p);
-            report_rules::verdict(n, e, rec.publisher, rec.day, r)
+            crate::report_rules::verdict(n, e, rec.publisher, rec.day, r)
         }
-        Says::Corrected(c) => correction_rules::verdict(n, e, rec.publisher, c),
+        Says::Corrected(c) => crate::correction_rules::verdict(n, e, rec.publisher, c),
     }
 }
 
@@ -83,11 +83,11 @@ pub fn effect(v: Verdict, line: Line, e: Entry, rec: Record) -> Entry
     match says {
         Says::Reported(p) => {
             let r = report::meant(line.owner, p);
-            effects::reports::effect(v, e, placed(rec, r))
+            crate::effects::reports::effect(v, e, placed(rec, r))
         }
         Says::Corrected(c) => {
             let named = c.named;
-            effects::corrections::effect(v, e, line.owner, named)
+            crate::effects::corrections::effect(v, e, line.owner, named)
         }
     }
 }
@@ -108,7 +108,7 @@ pub fn step(line: Line, e: Entry, rec: Record) -> Outcome
 fn paired(places: [Place; PLACES], second: Place) -> Why
     ensures { λ w. ⌜ w ≡ pairedIn places second ⌝ }
 {
-    let first = entries::places::place_at(places, effects::reports::partner_at(places, second.report));
+    let first = entries::places::place_at(places, crate::effects::reports::partner_at(places, second.report));
     Why::Pair(first, second)
 }
 
@@ -119,7 +119,7 @@ pub fn why_after(v: Verdict, owner: Code, places: [Place; PLACES], before: Why, 
     let says = rec.says;
     match says {
         Says::Reported(p) => {
-            if verdict_numbers::number(v) == 11 {
+            if crate::verdicts::number(v) == 11 {
                 return paired(places, placed(rec, report::meant(owner, p)));
             }
             before

@@ -1,8 +1,8 @@
 // One example: the number's line of the table or none, its entry, and whether all has come as it should.
 use crate::line;
 use calendar::dates::CalendarDays;
-use correction_rules::Correction;
-use correction_rules::Named;
+use verdict::correction_rules::Correction;
+use verdict::correction_rules::Named;
 use entries::entry;
 use entries::entry::Entry;
 use entries::entry::Line;
@@ -116,11 +116,11 @@ fn processed(c: Case, s: &[u8]) -> Case {
             entry: next,
             good: c.good,
         };
-        return judged(d, verdict_numbers::number(v), line::two(s, 44));
+        return judged(d, verdict::verdicts::number(v), line::two(s, 44));
     }
     judged(
         c,
-        verdict_numbers::number(step::verdict(Listed::Missing, e, rec)),
+        verdict::verdicts::number(step::verdict(Listed::Missing, e, rec)),
         line::two(s, 44),
     )
 }
