@@ -21,17 +21,17 @@ constant() {
 number() { # FILE NAME
     sed -n "s/^pub const $2: [a-z0-9]* = \([0-9]*\);.*/\1/p" "crates/$1"
 }
-numbers=$(number numbers/src/lines.rt NUMBERS)
-files=$(number journals/src/files.rt FILES)
-reports=$(number journals/src/records.rt REPORTS)
-corrections=$(number journals/src/records.rt CORRECTIONS)
-report_slot=$((1 + $(number journals/src/records.rt LONGEST_REPORT)))
-correction_slot=$((1 + $(number journals/src/records.rt LONGEST_CORRECTION)))
-line=$(number numbers/src/lines.rt LINE)
-line_head=$(number numbers/src/lines.rt HEAD)
-file=$(number journals/src/files.rt SLOT)
-file_head=$(number journals/src/files.rt HEAD)
-entry=$(($(number entry_slots/src/entry.rt HEAD) + $(number entries/src/entry.rt PLACES) * $(number entry_slots/src/place.rt WIDTH)))
+numbers=$(number store/src/numbers/lines.rt NUMBERS)
+files=$(number store/src/journals/files.rt FILES)
+reports=$(number store/src/journals/records.rt REPORTS)
+corrections=$(number store/src/journals/records.rt CORRECTIONS)
+report_slot=$((1 + $(number store/src/journals/records.rt LONGEST_REPORT)))
+correction_slot=$((1 + $(number store/src/journals/records.rt LONGEST_CORRECTION)))
+line=$(number store/src/numbers/lines.rt LINE)
+line_head=$(number store/src/numbers/lines.rt HEAD)
+file=$(number store/src/journals/files.rt SLOT)
+file_head=$(number store/src/journals/files.rt HEAD)
+entry=$(($(number store/src/entry_slots/entry.rt HEAD) + $(number entries/src/entry.rt PLACES) * $(number store/src/entry_slots/place.rt WIDTH)))
 constant NUMBERS "$numbers"
 constant FILES "$files"
 constant REPORTS "$reports"

@@ -25,10 +25,10 @@ use Rattle.model.specs.Model.{Filed, Store, Reached, entryOver}
 use Rattle.verdict.specs.declared.step.Standing.{Standing}
 use Rattle.rules.specs.Rules.{rules, standings}
 use Rattle.rules.proofs.Promises.{entries-worked-afresh, standing-entry}
-use Rattle.journals.specs.Files.{fileCount}
-use Rattle.journals.specs.Reads.{readFiles}
-use Rattle.numbers.specs.Lines.{lineCount, lineAt, linesOf}
-use Rattle.entry_slots.specs.Entries.{entryAt}
+use Rattle.store.specs.journals.Files.{fileCount}
+use Rattle.store.specs.journals.Reads.{readFiles}
+use Rattle.store.specs.numbers.Lines.{lineCount, lineAt, linesOf}
+use Rattle.store.specs.entry_slots.Entries.{entryAt}
 use Rattle.store.specs.Reads.{Buffers, Held, tableLine, lent, held, isReadable, reads}
 use Rattle.store.proofs.Checks.{reads-some, reads-none}
 use Rattle.asking.specs.Showable.{isShowable}

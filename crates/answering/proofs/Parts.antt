@@ -12,13 +12,13 @@ use Rattle.laws.specs.Lists.{table}
 use Rattle.laws.proofs.Tests.{le-or-lt}
 use Rattle.model.specs.Rules.{Event}
 use Rattle.model.specs.Model.{journalOf}
-use Rattle.journals.specs.Files.{fileAt, fileCount, filesOf, recordsIn, recordsOf}
-use Rattle.journals.specs.Reads.{recordsAt, readFiles}
-use Rattle.journals.specs.Records.{recordAt, shownIn}
-use Rattle.journals.specs.declared.files.File.{File}
-use Rattle.journals.specs.declared.records.Journal.{Journal}
-use Rattle.journals.specs.declared.records.Journal.the-variants.{Regular, Correction}
-use Rattle.journals.proofs.Places.{within}
+use Rattle.store.specs.journals.Files.{fileAt, fileCount, filesOf, recordsIn, recordsOf}
+use Rattle.store.specs.journals.Reads.{recordsAt, readFiles}
+use Rattle.store.specs.journals.Records.{recordAt, shownIn}
+use Rattle.store.specs.declared.journals.files.File.{File}
+use Rattle.store.specs.declared.journals.records.Journal.{Journal}
+use Rattle.store.specs.declared.journals.records.Journal.the-variants.{Regular, Correction}
+use Rattle.store.proofs.journals.Places.{within}
 use Rattle.working.specs.Working.{recordIn}
 use Rattle.working.proofs.SlipLaws.{records-more}
 use Rattle.asking.specs.Items.{itemAt}

@@ -8,11 +8,11 @@ use borrow.Author.Tests.{le-leb}
 use Rattle.laws.specs.Lists.{table}
 use Rattle.fields.specs.declared.number.Number.{Number}
 use Rattle.fields.specs.declared.number.NumberRead.{NumberRead}
-use Rattle.journals.specs.Files.{filesOf}
-use Rattle.journals.specs.Reads.{readFiles}
-use Rattle.journals.specs.declared.records.Journal.{Journal}
-use Rattle.numbers.specs.Lines.{lineCount}
-use Rattle.entry_slots.specs.Entries.{entryAt}
+use Rattle.store.specs.journals.Files.{filesOf}
+use Rattle.store.specs.journals.Reads.{readFiles}
+use Rattle.store.specs.declared.journals.records.Journal.{Journal}
+use Rattle.store.specs.numbers.Lines.{lineCount}
+use Rattle.store.specs.entry_slots.Entries.{entryAt}
 use Rattle.store.specs.Reads.{Buffers, Held, lent, held, isReadable, reads}
 use Rattle.store.proofs.Checks.{Long, long, few-lines, few-files, few-reports, few-corrections, reads-some, reads-none}
 use Rattle.store.proofs.Whole.{whole-long, whole-table, whole-files, files-good}

@@ -12,9 +12,9 @@ use Rattle.entries.specs.comparing.Same.{sameEntry}
 use Rattle.model.specs.Rules.{TableLine}
 use Rattle.model.specs.Model.{Filed, entryOver}
 use Rattle.rules.specs.Rules.{rules}
-use Rattle.journals.specs.Reads.{readFiles}
-use Rattle.numbers.specs.Lines.{lineCount, lineAt}
-use Rattle.entry_slots.specs.Entries.{entryAt}
+use Rattle.store.specs.journals.Reads.{readFiles}
+use Rattle.store.specs.numbers.Lines.{lineCount, lineAt}
+use Rattle.store.specs.entry_slots.Entries.{entryAt}
 use Rattle.store.specs.Reads.{Buffers, Held, tableLine}
 use Rattle.answering.specs.declared.figure.FigureAnswer.{FigureAnswer}
 use Rattle.asking.specs.Showable.{isShowable}

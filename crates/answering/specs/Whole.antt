@@ -5,7 +5,7 @@ use Prim.Native.Nat.{ℕ}
 use Rattle.fields.specs.Number.{digitsFieldOf, numberOf}
 use Rattle.fields.specs.declared.number.DigitsRead.{DigitsRead}
 use Rattle.fields.specs.declared.number.NumberRead.{NumberRead}
-use Rattle.journals.specs.declared.records.Journal.{Journal}
+use Rattle.store.specs.declared.journals.records.Journal.{Journal}
 use Rattle.store.specs.Reads.{Held}
 use Rattle.asking.specs.declared.answer.Answer.{Answer}
 use Rattle.asking.specs.declared.entry.EntryAnswer.{EntryAnswer}

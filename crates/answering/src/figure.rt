@@ -3,17 +3,17 @@ use asking::entry;
 use asking::showable;
 use asking::stand;
 use indexing::index;
-use journals::files;
-use numbers::lines;
+use store::journals::files;
+use store::numbers::lines;
 use store::readable;
 use verdict::step::Standing;
 ghost use mathlib.Core.Path.{_≡_};
 ghost use Prim.Native.Nat.{_+_, _*_, _≤_, _<_};
 ghost use lib.ListN.{length, take};
 ghost use mathlib.Core.Bool.{cond, not};
-ghost use Rattle.journals.specs.Reads.{readFiles};
-ghost use Rattle.numbers.specs.Lines.{lineAt};
-ghost use Rattle.entry_slots.specs.Entries.{entryAt};
+ghost use Rattle.store.specs.journals.Reads.{readFiles};
+ghost use Rattle.store.specs.numbers.Lines.{lineAt};
+ghost use Rattle.store.specs.entry_slots.Entries.{entryAt};
 ghost use Rattle.store.specs.Reads.{tableLine, lent, reads};
 ghost use Rattle.working.specs.Working.{Sound};
 ghost use Rattle.entries.specs.comparing.Same.{sameEntry};
@@ -32,7 +32,7 @@ fn is_other(entries: &[u8], i: usize, s: Standing) -> bool
     ensures { λ r. ⌜ r ≡ not (sameEntry (entryAt (now (entries .entry)) i) (s .entry)) ⌝ }
 {
     let worked = s.entry;
-    let stored = entry_slots::entry::entry_at(entries, i);
+    let stored = store::entry_slots::entry::entry_at(entries, i);
     !entries::comparing::same_entry(stored, worked)
 }
 

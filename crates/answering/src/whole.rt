@@ -9,7 +9,7 @@ use fields::number::Digits;
 use fields::number::DigitsRead;
 use fields::number::Number;
 use fields::number::NumberRead;
-use journals::records::Journal;
+use store::journals::records::Journal;
 use pairs::WhyAnswer;
 use store::readable;
 ghost use mathlib.Core.Path.{_≡_};

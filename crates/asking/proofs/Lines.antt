@@ -17,11 +17,11 @@ use Rattle.entries.specs.declared.entry.Entry.{Entry}
 use Rattle.model.specs.Rules.{TableLine}
 use Rattle.model.specs.Model.{lineOf, entryOf}
 use Rattle.rules.specs.Rules.{rules}
-use Rattle.numbers.specs.Lines.{lineAt, lineCount, linesOf}
-use Rattle.numbers.specs.Find.{isOf, foundLine}
-use Rattle.numbers.specs.declared.lines.Line.{Line}
-use Rattle.numbers.specs.declared.find.FoundLine.{FoundLine}
-use Rattle.numbers.specs.declared.find.FoundLine.the-variants.{At, Unknown}
+use Rattle.store.specs.numbers.Lines.{lineAt, lineCount, linesOf}
+use Rattle.store.specs.numbers.Find.{isOf, foundLine}
+use Rattle.store.specs.declared.numbers.lines.Line.{Line}
+use Rattle.store.specs.declared.numbers.find.FoundLine.{FoundLine}
+use Rattle.store.specs.declared.numbers.find.FoundLine.the-variants.{At, Unknown}
 use Rattle.store.specs.Reads.{tableLine}
 use Rattle.asking.specs.Items.{itemAt}
 use Rattle.asking.specs.Standing.{linesIn}

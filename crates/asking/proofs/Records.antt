@@ -19,15 +19,15 @@ use Rattle.verdict.specs.declared.step.Record.{Record}
 use Rattle.model.specs.Rules.{Event, TableLine}
 use Rattle.model.specs.Model.{Filed, eventAt, events, journal, journalOf, numberOf, lineOf}
 use Rattle.model.proofs.Files.{journal-own, journal-other}
-use Rattle.journals.specs.Files.{fileAt, fileCount, recordsIn, recordsOf}
-use Rattle.journals.specs.Reads.{filedAfter, filedIn, firstFiles, readFiles, recordsAt}
-use Rattle.journals.specs.declared.files.File.{File}
-use Rattle.journals.specs.declared.records.Journal.{Journal}
-use Rattle.journals.proofs.FirstFiles.{filed-end}
+use Rattle.store.specs.journals.Files.{fileAt, fileCount, recordsIn, recordsOf}
+use Rattle.store.specs.journals.Reads.{filedAfter, filedIn, firstFiles, readFiles, recordsAt}
+use Rattle.store.specs.declared.journals.files.File.{File}
+use Rattle.store.specs.declared.journals.records.Journal.{Journal}
+use Rattle.store.proofs.journals.FirstFiles.{filed-end}
 use Rattle.rules.specs.Rules.{rules, recordOf}
-use Rattle.numbers.specs.Lines.{lineCount, lineAt}
-use Rattle.numbers.specs.Find.{foundLine}
-use Rattle.numbers.specs.declared.find.FoundLine.the-variants.{At, Unknown}
+use Rattle.store.specs.numbers.Lines.{lineCount, lineAt}
+use Rattle.store.specs.numbers.Find.{foundLine}
+use Rattle.store.specs.declared.numbers.find.FoundLine.the-variants.{At, Unknown}
 use Rattle.store.specs.Reads.{tableLine}
 use Rattle.working.specs.Working.{recordIn}
 use Rattle.working.proofs.SlipLaws.{records-more, own-records, records-grow}

@@ -11,8 +11,8 @@ use Rattle.laws.specs.Lists.{table, all, noneTwice}
 use Rattle.laws.proofs.Lists.{total-end}
 use Rattle.laws.proofs.Tests.{and-left, and-right, and-true}
 use Rattle.laws.proofs.Tables.{all-at, all-each, length-table, getD-table}
-use Rattle.journals.specs.Files.{fileCount, fileAt, filesOf, goodFile, sameFile, recordsOf}
-use Rattle.numbers.specs.Lines.{lineCount}
+use Rattle.store.specs.journals.Files.{fileCount, fileAt, filesOf, goodFile, sameFile, recordsOf}
+use Rattle.store.specs.numbers.Lines.{lineCount}
 use Rattle.store.specs.Reads.{Buffers, lent, isReadable, longEnough, goodTable, goodFiles, goodRecords}
 use Rattle.store.proofs.Checks.{Long, long, few-lines, few-files, few-reports, few-corrections}
 use Rattle.working.specs.Working.{Sound}

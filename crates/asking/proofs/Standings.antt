@@ -16,14 +16,14 @@ use Rattle.fields.specs.declared.number.Number.{Number}
 use Rattle.entries.specs.declared.entry.Entry.{Entry}
 use Rattle.verdict.specs.declared.step.Standing.{Standing}
 use Rattle.model.specs.Model.{Filed, entryOver, lineOf, entryOf}
-use Rattle.journals.specs.Files.{fileAt, fileCount}
-use Rattle.journals.specs.Reads.{filedAfter, filedIn, firstFiles, readFiles, recordsAt}
-use Rattle.journals.specs.declared.files.File.{File}
+use Rattle.store.specs.journals.Files.{fileAt, fileCount}
+use Rattle.store.specs.journals.Reads.{filedAfter, filedIn, firstFiles, readFiles, recordsAt}
+use Rattle.store.specs.declared.journals.files.File.{File}
 use Rattle.rules.specs.Rules.{rules, standings}
 use Rattle.rules.proofs.Promises.{standing-entry}
-use Rattle.numbers.specs.Lines.{lineAt, lineCount, linesOf}
-use Rattle.numbers.specs.Find.{foundLine}
-use Rattle.numbers.specs.declared.find.FoundLine.the-variants.{At, Unknown}
+use Rattle.store.specs.numbers.Lines.{lineAt, lineCount, linesOf}
+use Rattle.store.specs.numbers.Find.{foundLine}
+use Rattle.store.specs.declared.numbers.find.FoundLine.the-variants.{At, Unknown}
 use Rattle.store.specs.Reads.{tableLine}
 use Rattle.asking.specs.declared.answer.Answer.the-variants.{Shown, UnknownNumber, Unreadable}
 use Rattle.asking.specs.declared.stand.Stood.{Stood}

@@ -8,9 +8,9 @@ use Rattle.laws.proofs.Tables.{length-table}
 use Rattle.entries.specs.declared.entry.Place.{Place}
 use Rattle.entries.specs.Report.{publisherOf}
 use Rattle.verdict.specs.declared.step.Why.{Why}
-use Rattle.journals.specs.Files.{fileAt, recordsIn, recordsOf}
-use Rattle.journals.specs.Reads.{filedAfter, filedIn, firstFiles, recordsAt}
-use Rattle.journals.specs.declared.files.File.{File}
+use Rattle.store.specs.journals.Files.{fileAt, recordsIn, recordsOf}
+use Rattle.store.specs.journals.Reads.{filedAfter, filedIn, firstFiles, recordsAt}
+use Rattle.store.specs.declared.journals.files.File.{File}
 use Rattle.pairs.specs.declared.WhyAnswer.{WhyAnswer}
 use Rattle.pairs.specs.Pairs.{isListedOf, startBy, listedAs, listedPair}
 use Rattle.asking.specs.Why.{isFileOf, reportsIn, startIn, storedAs, pairOf}

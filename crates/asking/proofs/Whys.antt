@@ -10,12 +10,12 @@ use Rattle.laws.specs.Lists.{table}
 use Rattle.fields.specs.declared.number.Number.{Number}
 use Rattle.verdict.specs.declared.step.Standing.{Standing}
 use Rattle.model.specs.Model.{Filed, entryOver, lineOf}
-use Rattle.journals.specs.Files.{fileAt, fileCount}
-use Rattle.journals.specs.Reads.{readFiles}
+use Rattle.store.specs.journals.Files.{fileAt, fileCount}
+use Rattle.store.specs.journals.Reads.{readFiles}
 use Rattle.rules.specs.Rules.{rules, standings}
-use Rattle.numbers.specs.Lines.{lineAt, lineCount}
-use Rattle.numbers.specs.Find.{foundLine}
-use Rattle.numbers.specs.declared.find.FoundLine.the-variants.{At, Unknown}
+use Rattle.store.specs.numbers.Lines.{lineAt, lineCount}
+use Rattle.store.specs.numbers.Find.{foundLine}
+use Rattle.store.specs.declared.numbers.find.FoundLine.the-variants.{At, Unknown}
 use Rattle.store.specs.Reads.{tableLine}
 use Rattle.pairs.specs.declared.WhyAnswer.{WhyAnswer}
 use Rattle.pairs.specs.declared.WhyAnswer.the-variants.{UnknownNumber, Unreadable}

@@ -13,11 +13,11 @@ use Rattle.verdict.specs.declared.step.Record.{Record}
 use Rattle.verdict.specs.Step.{verdictOn}
 use Rattle.model.specs.Rules.{TableLine, Event}
 use Rattle.model.specs.Model.{Filed, journalOf, numberOf, history, worked, before, lineOf}
-use Rattle.journals.specs.Files.{recordsOf}
-use Rattle.journals.specs.Reads.{readFiles}
-use Rattle.journals.specs.declared.files.File.{File}
-use Rattle.journals.specs.declared.records.Journal.{Journal}
-use Rattle.journals.specs.declared.records.Journal.the-variants.{Regular, Correction}
+use Rattle.store.specs.journals.Files.{recordsOf}
+use Rattle.store.specs.journals.Reads.{readFiles}
+use Rattle.store.specs.declared.journals.files.File.{File}
+use Rattle.store.specs.declared.journals.records.Journal.{Journal}
+use Rattle.store.specs.declared.journals.records.Journal.the-variants.{Regular, Correction}
 use Rattle.rules.specs.Rules.{rules, recordOf, lineBy}
 use Rattle.asking.specs.declared.record.Asked.{Asked}
 use Rattle.asking.specs.declared.record.AskedRecord.{AskedRecord}

@@ -5,8 +5,8 @@ use Prim.Native.Nat.{ℕ}
 use lib.Dec.{leb}
 use lib.ListN.{length}
 use Rattle.laws.specs.Lists.{all}
-use Rattle.journals.specs.Files.{fileCount, filesOf, goodFile, recordsOf}
-use Rattle.numbers.specs.Lines.{lineCount}
+use Rattle.store.specs.journals.Files.{fileCount, filesOf, goodFile, recordsOf}
+use Rattle.store.specs.numbers.Lines.{lineCount}
 
 -- at most 1,024 files, each in range, with at most 8,192 reports and 2,048 corrections
 unfoldable pub filesInRange : List ℕ → Bool

@@ -15,7 +15,7 @@ use Rattle.verdict.specs.Step.{firstStanding}
 use Rattle.model.specs.Rules.{TableLine}
 use Rattle.model.specs.Model.{Filed, entryOver, lineOf, entryOf}
 use Rattle.rules.specs.Rules.{rules, standings}
-use Rattle.numbers.specs.Lines.{lineCount, linesOf}
+use Rattle.store.specs.numbers.Lines.{lineCount, linesOf}
 use Rattle.store.specs.Reads.{tableLine}
 use Rattle.asking.specs.declared.answer.Answer.{Answer}
 use Rattle.asking.specs.declared.answer.Answer.the-variants.{Shown, UnknownNumber}

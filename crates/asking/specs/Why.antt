@@ -11,8 +11,8 @@ use Rattle.entries.specs.Report.{publisherOf}
 use Rattle.verdict.specs.declared.step.Why.{Why}
 use Rattle.model.specs.Rules.{TableLine}
 use Rattle.model.specs.Model.{Filed, entryOver, lineOf}
-use Rattle.journals.specs.Reads.{readFiles}
-use Rattle.journals.specs.Records.{recordIn}
+use Rattle.store.specs.journals.Reads.{readFiles}
+use Rattle.store.specs.journals.Records.{recordIn}
 use Rattle.rules.specs.Rules.{rules, standings}
 use Rattle.pairs.specs.declared.Stored.{Stored}
 use Rattle.pairs.specs.declared.WhyAnswer.{WhyAnswer}

@@ -6,16 +6,16 @@ use entries::entry;
 use entries::entry::Entry;
 use entries::entry::Listed;
 use fields::number::Number;
-use numbers::find;
-use numbers::find::FoundLine;
-use numbers::lines;
+use store::numbers::find;
+use store::numbers::find::FoundLine;
+use store::numbers::lines;
 use store::readable::ENTRIES_LENGTH;
 ghost use mathlib.Core.Path.{_≡_};
 ghost use mathlib.Core.Bool.{cond};
 ghost use Rattle.laws.specs.Lists.{table as tabled};
-ghost use Rattle.journals.specs.Reads.{readFiles};
-ghost use Rattle.numbers.specs.Lines.{lineCount};
-ghost use Rattle.entry_slots.specs.Entries.{entryAt};
+ghost use Rattle.store.specs.journals.Reads.{readFiles};
+ghost use Rattle.store.specs.numbers.Lines.{lineCount};
+ghost use Rattle.store.specs.entry_slots.Entries.{entryAt};
 ghost use Rattle.asking.specs.declared.answer.Answer.the-variants.{Unreadable};
 ghost use Rattle.asking.specs.Showable.{isShowable};
 ghost use Rattle.asking.specs.Standing.{linesIn, notHeld, entryIn, entryBefore, hasEntries};
@@ -61,7 +61,7 @@ pub fn held(table: &[u8], entries: &[u8], number: Number) -> EntryAnswer
     let found = find::find_line(table, number);
     match found {
         FoundLine::At(i) => {
-            let e = entry_slots::entry::entry_at(entries, i);
+            let e = store::entry_slots::entry::entry_at(entries, i);
             EntryAnswer {
                 answer: Answer::Shown,
                 entry: e,

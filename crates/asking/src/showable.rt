@@ -1,13 +1,13 @@
 // What has to hold of the lent buffers before anything in them is shown: they are long enough, and the list of files is in range. It
 // is a look at the files alone, so that it can be taken for each question; whether the store reads is judged once
 // (`store::readable`).
-use journals::files;
-use journals::records::CORRECTIONS;
-use journals::records::CORRECTIONS_LENGTH;
-use journals::records::REGULAR_LENGTH;
-use journals::records::REPORTS;
-use journals::sums;
-use numbers::lines;
+use store::journals::files;
+use store::journals::records::CORRECTIONS;
+use store::journals::records::CORRECTIONS_LENGTH;
+use store::journals::records::REGULAR_LENGTH;
+use store::journals::records::REPORTS;
+use store::journals::sums;
+use store::numbers::lines;
 ghost use mathlib.Core.Path.{_≡_};
 ghost use Prim.Native.Nat.{_≤_};
 ghost use lib.ListN.{length};

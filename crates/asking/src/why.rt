@@ -2,12 +2,12 @@
 use crate::showable;
 use crate::stand;
 use fields::number::Number;
-use journals::files;
-use journals::records;
-use journals::records::Journal;
-use journals::records::REPORTS;
-use numbers::find;
-use numbers::find::FoundLine;
+use store::journals::files;
+use store::journals::records;
+use store::journals::records::Journal;
+use store::journals::records::REPORTS;
+use store::numbers::find;
+use store::numbers::find::FoundLine;
 use pairs::WhyAnswer;
 ghost use mathlib.Core.Path.{_≡_};
 ghost use Rattle.asking.specs.Why.{whyShown, firstPlace, secondPlace, partAt};

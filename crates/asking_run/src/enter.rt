@@ -1,8 +1,8 @@
 // One file more, its records behind the stored ones: the entries stay as they are.
-use journals::files;
-use journals::files::File;
-use journals::records;
-use journals::sums;
+use store::journals::files;
+use store::journals::files::File;
+use store::journals::records;
+use store::journals::sums;
 use text::Spelt;
 ghost use Prim.Native.Nat.{_≤_};
 

@@ -8,8 +8,8 @@ use asking::stand;
 use asking::why;
 use entries::entry::Last;
 use fields::number::Number;
-use journals::records::Journal;
-use numbers::lines;
+use store::journals::records::Journal;
+use store::numbers::lines;
 use pairs::Stored;
 use pairs::WhyAnswer;
 

@@ -3,8 +3,8 @@ use mathlib.Core.Path.{_≡_}
 use mathlib.Core.Bool.{cond}
 use Prim.Native.Nat.{ℕ}
 use lib.Dec.{eqb}
-use Rattle.journals.specs.declared.records.Journal.{Journal}
-use Rattle.journals.specs.declared.records.Journal.the-variants.{Regular, Correction}
+use Rattle.store.specs.declared.journals.records.Journal.{Journal}
+use Rattle.store.specs.declared.journals.records.Journal.the-variants.{Regular, Correction}
 use Rattle.verdict.specs.verdicts.Numbers.{numberOf}
 use Rattle.asking.specs.declared.record.Asked.{Asked}
 use Rattle.pairs.specs.declared.WhyAnswer.{WhyAnswer}

@@ -1,5 +1,5 @@
 // Working out all entries of a store again, as when the holiday list has changed.
-use journals::files::FILES;
+use store::journals::files::FILES;
 use reworking::rework;
 use reworking::rework::Reworked;
 ghost use mathlib.Core.Path.{_≡_};

@@ -2,7 +2,7 @@
 use answering::whole;
 use asking::answer::Answer;
 use asking::entry::EntryAnswer;
-use entry_slots::entry;
+use store::entry_slots::entry;
 ghost use mathlib.Core.Path.{_≡_};
 ghost use Rattle.store.specs.Reads.{lent, reads};
 ghost use Rattle.asking.specs.Numbers.{numberOf};

@@ -14,7 +14,7 @@ use Rattle.laws.proofs.Tests.{le-or-lt}
 use Rattle.calendar.specs.Dates.{inCalendar}
 use Rattle.fields.specs.declared.code.Code.{Code}
 use Rattle.files.specs.declared.judge.Judged.{Judged}
-use Rattle.journals.specs.Files.{fileAt, fileCount, filesOf, sameFile, recordsOf}
+use Rattle.store.specs.journals.Files.{fileAt, fileCount, filesOf, sameFile, recordsOf}
 use Rattle.store.specs.Reads.{goodFiles}
 use Rattle.store.proofs.Checks.{few-reports, few-corrections, counted}
 use Rattle.entering.specs.declared.kind.Filable.{Filable}

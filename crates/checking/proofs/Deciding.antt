@@ -20,8 +20,8 @@ use Rattle.fields.proofs.CodeLaws.{code-back}
 use Rattle.files.specs.Judged.{judgedFile}
 use Rattle.files.specs.declared.judge.Judged.{Judged}
 use Rattle.model.specs.Model.{Filed, alike}
-use Rattle.journals.specs.Files.{fileCount, filesOf, sameFile, recordsOf}
-use Rattle.journals.specs.declared.files.File.{File}
+use Rattle.store.specs.journals.Files.{fileCount, filesOf, sameFile, recordsOf}
+use Rattle.store.specs.declared.journals.files.File.{File}
 use Rattle.store.specs.Reads.{Buffers, held, isReadable}
 use Rattle.entering.specs.declared.kind.Filable.{Filable}
 use Rattle.entering.specs.Entering.{kindNumber, fileKind, most, filedAs, fileIn, Enterable}

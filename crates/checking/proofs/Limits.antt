@@ -19,9 +19,9 @@ use Rattle.files.specs.Judged.{judgedFile}
 use Rattle.files.specs.Judged.{recordsOf as textsOf}
 use Rattle.files.specs.declared.judge.Judged.the-variants.{Records}
 use Rattle.model.specs.Model.{Filed}
-use Rattle.journals.specs.Files.{fileCount, filesOf, recordsOf}
-use Rattle.journals.specs.Records.{recordAt}
-use Rattle.journals.specs.Reads.{recordsAt, readFiles}
+use Rattle.store.specs.journals.Files.{fileCount, filesOf, recordsOf}
+use Rattle.store.specs.journals.Records.{recordAt}
+use Rattle.store.specs.journals.Reads.{recordsAt, readFiles}
 use Rattle.store.specs.Reads.{Buffers, held, isReadable, goodFiles}
 use Rattle.store.proofs.Checks.{few-reports, few-corrections}
 use Rattle.store.proofs.Limits.{bytes-below}

@@ -15,11 +15,11 @@ use Rattle.laws.specs.Lists.{table, any, keep, noneTwice, total}
 use Rattle.laws.proofs.Lists.{keep-append, flat-append}
 use Rattle.laws.proofs.Tables.{length-table}
 use Rattle.model.specs.Model.{Filed, alike, noFileTwice}
-use Rattle.journals.specs.Files.{fileAt, fileCount, filesOf, sameFile, recordsIn, recordsOf}
-use Rattle.journals.specs.Reads.{recordsAt, filedAfter, filedIn, firstFiles, readFiles}
-use Rattle.journals.specs.declared.files.File.{File}
-use Rattle.journals.proofs.Counting.{records-end}
-use Rattle.journals.proofs.FirstFiles.{filed-end}
+use Rattle.store.specs.journals.Files.{fileAt, fileCount, filesOf, sameFile, recordsIn, recordsOf}
+use Rattle.store.specs.journals.Reads.{recordsAt, filedAfter, filedIn, firstFiles, readFiles}
+use Rattle.store.specs.declared.journals.files.File.{File}
+use Rattle.store.proofs.journals.Counting.{records-end}
+use Rattle.store.proofs.journals.FirstFiles.{filed-end}
 use Rattle.entering.specs.Entering.{fileIn}
 use Rattle.checking.specs.Filing.{stored}
 

@@ -9,8 +9,8 @@ use Rattle.calendar.specs.Dates.{inCalendar}
 use Rattle.fields.specs.declared.code.Code.{Code}
 use Rattle.fields.specs.declared.code.CodeRead.{CodeRead}
 use Rattle.files.specs.declared.judge.Judged.{Judged}
-use Rattle.journals.specs.Files.{fileCount, filesOf, sameFile, recordsOf}
-use Rattle.journals.specs.declared.files.File.{File}
+use Rattle.store.specs.journals.Files.{fileCount, filesOf, sameFile, recordsOf}
+use Rattle.store.specs.declared.journals.files.File.{File}
 use Rattle.entering.specs.declared.kind.Filable.{Filable}
 use Rattle.entering.specs.Entering.{kindNumber, most}
 use Rattle.checking.specs.declared.answer.Answer.{Answer}

@@ -10,7 +10,7 @@ use disk::FILES;
 use disk::REGULAR;
 use disk::TABLE;
 use fields::code::Code;
-use journals::files::File;
+use store::journals::files::File;
 use libc::STDOUT_FILENO;
 use page::Page;
 use page::ROOM;
@@ -24,7 +24,7 @@ pub fn count(files: &[u8]) -> usize
     if files.len() < 2 {
         return 0;
     }
-    let n = journals::files::file_count(files);
+    let n = store::journals::files::file_count(files);
     if n < 1024 { n } else { 1024 }
 }
 
@@ -38,7 +38,7 @@ pub fn file_at(files: &[u8], i: usize) -> File {
             count: 0,
         };
     }
-    if files.len() < journals::files::FILES_LENGTH {
+    if files.len() < store::journals::files::FILES_LENGTH {
         return File {
             kind: 0,
             publisher: 0,
@@ -46,7 +46,7 @@ pub fn file_at(files: &[u8], i: usize) -> File {
             count: 0,
         };
     }
-    journals::files::file_at(files, i)
+    store::journals::files::file_at(files, i)
 }
 
 fn kind(p: Page, room: &mut [u8; ROOM], k: u8) -> Page {

@@ -8,12 +8,12 @@ pub mod saved;
 pub mod sum;
 
 // How long the five buffers are.
-pub const TABLE: usize = numbers::lines::TABLE_LENGTH;
+pub const TABLE: usize = store::numbers::lines::TABLE_LENGTH;
 
-pub const FILES: usize = journals::files::FILES_LENGTH;
+pub const FILES: usize = store::journals::files::FILES_LENGTH;
 
-pub const REGULAR: usize = journals::records::REGULAR_LENGTH;
+pub const REGULAR: usize = store::journals::records::REGULAR_LENGTH;
 
-pub const CORRECTIONS: usize = journals::records::CORRECTIONS_LENGTH;
+pub const CORRECTIONS: usize = store::journals::records::CORRECTIONS_LENGTH;
 
 pub const ENTRIES: usize = store::readable::ENTRIES_LENGTH;

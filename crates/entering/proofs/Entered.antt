@@ -20,11 +20,11 @@ use Rattle.laws.proofs.Tests.{and-left, and-right}
 use Rattle.records.specs.declared.names.kind.FileKind.{FileKind}
 use Rattle.records.specs.Record.{isRecord}
 use Rattle.files.specs.Judged.{recordsOf as textsOf}
-use Rattle.journals.specs.Files.{filesOf, goodFile, recordsIn, recordsOf}
-use Rattle.journals.specs.Reads.{recordsAt, filedIn, firstFiles, readFiles}
-use Rattle.journals.proofs.Reading.{Roomy}
-use Rattle.numbers.specs.Lines.{lineCount}
-use Rattle.entry_slots.specs.Entries.{goodEntry}
+use Rattle.store.specs.journals.Files.{filesOf, goodFile, recordsIn, recordsOf}
+use Rattle.store.specs.journals.Reads.{recordsAt, filedIn, firstFiles, readFiles}
+use Rattle.store.proofs.journals.Reading.{Roomy}
+use Rattle.store.specs.numbers.Lines.{lineCount}
+use Rattle.store.specs.entry_slots.Entries.{goodEntry}
 use Rattle.model.specs.Model.{Filed}
 use Rattle.store.specs.Records.{goodReport, goodCorrection}
 use Rattle.store.specs.Reads.{Buffers, longEnough, goodTable, goodFiles, goodRecords, isReadable}

@@ -10,8 +10,8 @@ use Rattle.laws.specs.Words.{lowFirst}
 use Rattle.model.specs.Model.{Filed}
 use Rattle.files.specs.Judged.{judgedFile, recordsOf as textsOf}
 use Rattle.files.specs.declared.judge.Judged.the-variants.{Records}
-use Rattle.journals.specs.Files.{fileCount, fileAt, filesOf, fileSlot, recordsOf}
-use Rattle.journals.specs.declared.files.File.{File}
+use Rattle.store.specs.journals.Files.{fileCount, fileAt, filesOf, fileSlot, recordsOf}
+use Rattle.store.specs.declared.journals.files.File.{File}
 use Rattle.store.specs.Reads.{Buffers, lent}
 use Rattle.entering.specs.declared.kind.Filable.{Filable}
 use Rattle.entering.specs.declared.kind.Filable.the-variants.{Default, Correction}

@@ -22,7 +22,7 @@ use Rattle.laws.proofs.Tests.{and-left, and-right, le-or-lt}
 use Rattle.laws.proofs.Overlay.{length-overlay, overlay-none, overlay-append}
 use Rattle.laws.proofs.Slots.{slot-same, slot-lower, length-slot, held-slot}
 use Rattle.laws.proofs.Tables.{length-table, getD-table, all-at, all-each}
-use Rattle.journals.specs.Records.{recordAt}
+use Rattle.store.specs.journals.Records.{recordAt}
 use Rattle.entering.specs.Entering.{journalWith, shorter}
 
 pub is-shorter : (width : ℕ) (l : List ℕ) → shorter width l ≡ true → length l < width

@@ -19,12 +19,12 @@ use Rattle.laws.proofs.Tables.{table-more, table-cong, table-self, any-more, al
 use Rattle.laws.proofs.Tests.{and-left, and-right, and-true, or-left, or-right, eqb-comm, eqb-refl}
 use Rattle.laws.proofs.Words.{word-same, word-before}
 use Rattle.model.specs.Model.{Filed}
-use Rattle.journals.specs.Files.{fileCount, fileAt, filesOf, fileSlot, goodFile, sameFile, recordsIn, recordsOf}
-use Rattle.journals.specs.Reads.{filedAfter, filedIn}
-use Rattle.journals.specs.declared.files.File.{File}
-use Rattle.journals.proofs.Counting.{records-end}
-use Rattle.journals.proofs.FirstFiles.{filed-end}
-use Rattle.journals.proofs.Reading.{Roomy, file-same, file-other, file-counted}
+use Rattle.store.specs.journals.Files.{fileCount, fileAt, filesOf, fileSlot, goodFile, sameFile, recordsIn, recordsOf}
+use Rattle.store.specs.journals.Reads.{filedAfter, filedIn}
+use Rattle.store.specs.declared.journals.files.File.{File}
+use Rattle.store.proofs.journals.Counting.{records-end}
+use Rattle.store.proofs.journals.FirstFiles.{filed-end}
+use Rattle.store.proofs.journals.Reading.{Roomy, file-same, file-other, file-counted}
 use Rattle.store.specs.Reads.{goodFiles}
 use Rattle.store.proofs.Checks.{few-files, few-reports, few-corrections}
 use Rattle.entering.specs.Entering.{filesWith}

@@ -15,8 +15,8 @@ use Rattle.model.specs.Model.{Filed}
 use Rattle.records.specs.declared.names.kind.FileKind.{FileKind}
 use Rattle.files.specs.Judged.{judgedFile, recordsOf as textsOf}
 use Rattle.files.specs.declared.judge.Judged.the-variants.{Records}
-use Rattle.journals.specs.Files.{fileCount, filesOf, fileSlot, sameFile, recordsOf}
-use Rattle.journals.specs.declared.files.File.{File}
+use Rattle.store.specs.journals.Files.{fileCount, filesOf, fileSlot, sameFile, recordsOf}
+use Rattle.store.specs.declared.journals.files.File.{File}
 use Rattle.store.specs.Reads.{Buffers, lent, isReadable}
 use Rattle.entering.specs.declared.kind.Filable.{Filable}
 use Rattle.entering.specs.declared.kind.Filable.the-variants.{Default, Correction}

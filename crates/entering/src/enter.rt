@@ -3,17 +3,17 @@ use crate::kind::Filable;
 use calendar::dates::CalendarDays;
 use fields::code::Code;
 use files::read;
-use journals::files::File;
-use journals::records::CORRECTION_SLOT;
-use journals::records::REPORT_SLOT;
-use journals::sums;
-use slots::record;
+use store::journals::files::File;
+use store::journals::records::CORRECTION_SLOT;
+use store::journals::records::REPORT_SLOT;
+use store::journals::sums;
+use store::slots::record;
 ghost use mathlib.Core.Path.{_≡_};
 ghost use Prim.Native.Nat.{_+_, _*_, _≤_, _<_};
 ghost use lib.ListN.{length};
 ghost use Rattle.files.specs.Judged.{judgedFile, recordsOf};
 ghost use Rattle.files.specs.declared.judge.Judged.the-variants.{Records};
-ghost use Rattle.journals.specs.Files.{fileCount};
+ghost use Rattle.store.specs.journals.Files.{fileCount};
 ghost use Rattle.entering.specs.Entering.{fileKind, most, filedAs, filesWith, journalWith, regularWith, correctionsWith, firstLines, Lines, Ready, Joined};
 
 // Writes the first m lines of a text into a journal, from the slot `from` on.
@@ -54,8 +54,8 @@ fn add_file(files: &mut [u8], n: usize, f: File)
     requires { ⌜ (n ≡ fileCount (now files)) × ((n < 1024) × (8194 ≤ length (now files))) ⌝ }
     ensures { λ _. ⌜ now (files .exit) ≡ filesWith (now (files .entry)) f ⌝ }
 {
-    journals::files::put_count(files, (n + 1) as u16);
-    journals::files::put_file(files, n, f);
+    store::journals::files::put_count(files, (n + 1) as u16);
+    store::journals::files::put_file(files, n, f);
 }
 
 // Enters a file of m records: the buffers are then as `entered` says, whatever table and entries stand beside them.
@@ -72,7 +72,7 @@ pub fn enter(
     requires { ⌜ Ready (now files) (now regular) (now corrections) kind (now text) m ⌝ }
     ensures { λ _. ⌜ Joined (filedAs kind (publisher .0) (day .0) (now (text .entry))) (now (files .entry)) (now (regular .entry)) (now (corrections .entry)) (now (files .exit)) (now (regular .exit)) (now (corrections .exit)) ⌝ }
 {
-    let n = journals::files::file_count(files);
+    let n = store::journals::files::file_count(files);
     let number = kind.number();
     let from = sums::records_of(files, n, number);
     put_records(regular, corrections, kind, from, text, m);

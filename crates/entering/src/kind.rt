@@ -34,8 +34,8 @@ impl Filable {
         ensures { λ r. ⌜ r ≡ most self ⌝ }
     {
         match self {
-            Filable::Default => journals::records::REPORTS,
-            Filable::Correction => journals::records::CORRECTIONS,
+            Filable::Default => store::journals::records::REPORTS,
+            Filable::Correction => store::journals::records::CORRECTIONS,
         }
     }
 }

@@ -8,9 +8,9 @@ use lib.ListN.{length, length-append}
 use Rattle.fields.specs.Code.{codeOf}
 use Rattle.fields.specs.declared.code.Code.{Code}
 use Rattle.files.specs.Judged.{judgedFile}
-use Rattle.journals.specs.Files.{fileCount}
-use Rattle.journals.specs.Reads.{readFiles}
-use Rattle.numbers.specs.Lines.{linesOf}
+use Rattle.store.specs.journals.Files.{fileCount}
+use Rattle.store.specs.journals.Reads.{readFiles}
+use Rattle.store.specs.numbers.Lines.{linesOf}
 use Rattle.model.specs.Model.{Filed, countOf}
 use Rattle.rules.specs.Rules.{rules}
 use Rattle.store.specs.Reads.{Buffers, tableLine, held, isReadable, lent}

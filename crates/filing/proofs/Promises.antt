@@ -28,9 +28,9 @@ use Rattle.entering.proofs.Entered.{entered-readable, entered-files}
 use Rattle.fitting.specs.Renewing.{renewedSlot}
 use Rattle.fitting.proofs.Renewed.{renewed-reads}
 use Rattle.renewing.proofs.Renewed.{renewed-slot}
-use Rattle.journals.specs.Reads.{readFiles}
-use Rattle.numbers.specs.Lines.{lineCount, lineAt}
-use Rattle.numbers.specs.declared.lines.Line.{Line}
+use Rattle.store.specs.journals.Reads.{readFiles}
+use Rattle.store.specs.numbers.Lines.{lineCount, lineAt}
+use Rattle.store.specs.declared.numbers.lines.Line.{Line}
 use Rattle.starting.specs.Start.{firstOf, startedWith, Starts}
 use Rattle.starting.proofs.Readable.{started-reads}
 use Rattle.checking.specs.declared.answer.Answer.{Answer}

@@ -6,7 +6,7 @@ use entries::entry::Last;
 use entries::entry::PLACES;
 use entries::entry::Place;
 use entries::report::Report;
-use entry_slots::entry;
+use store::entry_slots::entry;
 use fields::code::Code;
 use fields::kind::Kind;
 

@@ -32,7 +32,7 @@ use Rattle.verdict.specs.verdicts.Numbers.{numberOf}
 use Rattle.verdict.specs.effects.Reports.{kept, confirmed}
 use Rattle.verdict.specs.effects.Corrections.{namedAt, withoutNamed}
 use Rattle.verdict.specs.Step.{placedAs, verdictOn, effectBy, entryAfter}
-use Rattle.entry_slots.proofs.Back.{FinePlace, FineEntry, first-fine}
+use Rattle.store.proofs.entry_slots.Back.{FinePlace, FineEntry, first-fine}
 
 -- ---- a record in range: its day in the calendar, its place in three bytes, and what it reports in range
 abbrev pub FineGaining : Gaining → Type 0

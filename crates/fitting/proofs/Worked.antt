@@ -24,13 +24,13 @@ use Rattle.model.specs.Rules.{TableLine, Event}
 use Rattle.model.specs.Model.{Filed, eventAt, events, journal, about, notLater, history, entryOver}
 use Rattle.model.proofs.Files.{journal-file}
 use Rattle.rules.specs.Rules.{rules, recordOf, lineBy}
-use Rattle.journals.specs.Files.{fileCount, fileAt, filesOf, goodFile, recordsIn, recordsOf}
-use Rattle.journals.specs.Reads.{recordsAt, filedAfter, filedIn, firstFiles, readFiles}
-use Rattle.journals.specs.declared.files.File.{File}
-use Rattle.journals.proofs.Keys.{good-day}
-use Rattle.numbers.specs.Lines.{lineCount, lineAt, linesOf, goodLine}
-use Rattle.numbers.proofs.Fitting.{good-owner}
-use Rattle.entry_slots.proofs.Back.{FineEntry, first-fine}
+use Rattle.store.specs.journals.Files.{fileCount, fileAt, filesOf, goodFile, recordsIn, recordsOf}
+use Rattle.store.specs.journals.Reads.{recordsAt, filedAfter, filedIn, firstFiles, readFiles}
+use Rattle.store.specs.declared.journals.files.File.{File}
+use Rattle.store.proofs.journals.Keys.{good-day}
+use Rattle.store.specs.numbers.Lines.{lineCount, lineAt, linesOf, goodLine}
+use Rattle.store.proofs.numbers.Fitting.{good-owner}
+use Rattle.store.proofs.entry_slots.Back.{FineEntry, first-fine}
 use Rattle.store.specs.Reads.{Buffers, tableLine, goodTable, goodFiles, isReadable}
 use Rattle.store.proofs.Checks.{few-reports, few-corrections}
 use Rattle.store.proofs.Whole.{whole-table, whole-files, lines-good, files-good}

@@ -10,7 +10,7 @@ use Rattle.fields.specs.declared.number.Number.{Number}
 use Rattle.model.specs.Rules.{TableLine}
 use Rattle.model.specs.Model.{Filed, named, entryOver}
 use Rattle.rules.specs.Rules.{rules}
-use Rattle.entry_slots.specs.Entries.{entrySlot}
+use Rattle.store.specs.entry_slots.Entries.{entrySlot}
 
 -- a line's slot after one more file: the entry worked out afresh where the file names its number, else as it was
 unfoldable pub renewedSlot : List Filed → Filed → TableLine Number → List ℕ → List ℕ

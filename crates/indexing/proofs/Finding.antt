@@ -19,8 +19,8 @@ use Rattle.fields.specs.declared.number.Number.{Number}
 use Rattle.fields.specs.Number.{sameNumber}
 use Rattle.fields.proofs.NumberLaws.{same-number}
 use Rattle.model.specs.Rules.{Event}
-use Rattle.journals.specs.Files.{fileAt}
-use Rattle.journals.specs.Reads.{recordsAt}
+use Rattle.store.specs.journals.Files.{fileAt}
+use Rattle.store.specs.journals.Reads.{recordsAt}
 use Rattle.rules.specs.Records.{numberIn, firstIn}
 use Rattle.working.specs.Slips.{Slip, slips, aboutSlip, keyOf, keysOf, eventBehind}
 use Rattle.working.specs.Working.{Sound, Behind, Gathered}

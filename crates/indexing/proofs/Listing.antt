@@ -9,9 +9,9 @@ use lib.ListN.{length, set, length-append, length-map, length-take}
 use Rattle.laws.specs.Lists.{table, keep}
 use Rattle.laws.proofs.Lists.{keep-append, keep-end-yes, keep-end-no, keep-at-most}
 use Rattle.laws.proofs.Tables.{table-more}
-use Rattle.journals.specs.Files.{fileAt, recordsOf}
-use Rattle.journals.specs.declared.files.File.{File}
-use Rattle.journals.specs.Reads.{recordsAt}
+use Rattle.store.specs.journals.Files.{fileAt, recordsOf}
+use Rattle.store.specs.declared.journals.files.File.{File}
+use Rattle.store.specs.journals.Reads.{recordsAt}
 use Rattle.working.specs.Slips.{Slip, slipAt, slipsOf, slips, keyOf}
 use Rattle.working.specs.Working.{Sound, Behind}
 use Rattle.working.proofs.GatherLaws.{ranged}

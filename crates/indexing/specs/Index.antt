@@ -11,10 +11,10 @@ use Rattle.laws.specs.Order.{sorted}
 use Rattle.order.specs.groups.Groups.{below, tag, tags}
 use Rattle.fields.specs.declared.number.Number.{Number}
 use Rattle.fields.specs.Number.{sameNumber}
-use Rattle.journals.specs.Files.{fileAt}
-use Rattle.journals.specs.Reads.{recordsAt}
-use Rattle.journals.specs.Records.{shownIn}
-use Rattle.journals.specs.declared.files.File.{File}
+use Rattle.store.specs.journals.Files.{fileAt}
+use Rattle.store.specs.journals.Reads.{recordsAt}
+use Rattle.store.specs.journals.Records.{shownIn}
+use Rattle.store.specs.declared.journals.files.File.{File}
 use Rattle.rules.specs.Records.{numberIn, firstIn}
 use Rattle.working.specs.Slips.{Slip, slipsOf, slips, keyOf, kindBehind, journalBehind}
 

@@ -1,10 +1,10 @@
 // The index: the keys of the records that may name a wanted number, and their places grouped by the first field of the number.
 use fields::number::Number;
-use journals::files;
-use journals::files::File;
-use journals::records;
-use journals::records::Journal;
-use journals::sums;
+use store::journals::files;
+use store::journals::files::File;
+use store::journals::records;
+use store::journals::records::Journal;
+use store::journals::sums;
 use working::gather;
 ghost use mathlib.Core.Path.{_≡_};
 ghost use mathlib.Core.Bool.{cond, _&&_};
@@ -14,9 +14,9 @@ ghost use lib.ListN.{length, take, getD};
 ghost use Rattle.laws.specs.Lists.{table};
 ghost use Rattle.order.specs.groups.Groups.{tag, tags};
 ghost use Rattle.rules.specs.Records.{numberIn};
-ghost use Rattle.journals.specs.Records.{shownIn};
-ghost use Rattle.journals.specs.Reads.{recordsAt};
-ghost use Rattle.journals.specs.declared.records.Journal.the-variants.{Regular, Correction};
+ghost use Rattle.store.specs.journals.Records.{shownIn};
+ghost use Rattle.store.specs.journals.Reads.{recordsAt};
+ghost use Rattle.store.specs.declared.journals.records.Journal.the-variants.{Regular, Correction};
 ghost use Rattle.working.specs.Working.{Sound, Stored, InFile, Behind};
 ghost use Rattle.indexing.specs.Index.{isWanted, Wanted, Marked, Sought, mayName, candidate, listedIn, numberBehind, frontBehind, Listed, Indexed};
 

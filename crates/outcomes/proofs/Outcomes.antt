@@ -20,7 +20,7 @@ use Rattle.checking.specs.declared.answer.Answer.{Answer}
 use Rattle.filing.specs.Effect.{Files}
 use Rattle.model.specs.Model.{Filed}
 use Rattle.verdict.specs.declared.step.Standing.{Standing}
-use Rattle.numbers.specs.Lines.{lineCount}
+use Rattle.store.specs.numbers.Lines.{lineCount}
 use Rattle.working.specs.Working.{WorkedAfresh}
 use Rattle.renewing.specs.Turns.{countTo, RecordRenewed}
 use Rattle.entering.specs.Entering.{Joined}

@@ -4,7 +4,7 @@ use Prim.Native.Nat.{ℕ}
 use lib.ListN.{take, drop}
 use Rattle.laws.specs.Order.{sorted}
 use Rattle.order.specs.groups.Groups.{tag}
-use Rattle.numbers.specs.Lines.{lineAt}
+use Rattle.store.specs.numbers.Lines.{lineAt}
 use Rattle.indexing.specs.Index.{front}
 
 -- the place of a line with the first field of its number in front

@@ -7,8 +7,8 @@ use native.Mathlib.Omega.{arith}
 use lib.ListN.{drop}
 use Rattle.laws.specs.Lists.{table, total}
 use Rattle.laws.proofs.Tables.{drop-table, drop-none}
-use Rattle.journals.specs.Files.{recordsIn, recordsOf}
-use Rattle.journals.specs.declared.files.File.{File}
+use Rattle.store.specs.journals.Files.{recordsIn, recordsOf}
+use Rattle.store.specs.declared.journals.files.File.{File}
 use Rattle.pairs.specs.Pairs.{isListedOf, startBy}
 
 -- ---- a turn of the search for the file

@@ -6,8 +6,8 @@ use lib.Dec.{eqb}
 use Rattle.entries.specs.declared.entry.Place.{Place}
 use Rattle.entries.specs.Report.{publisherOf}
 use Rattle.verdict.specs.declared.step.Why.{Why}
-use Rattle.journals.specs.Files.{recordsIn}
-use Rattle.journals.specs.declared.files.File.{File}
+use Rattle.store.specs.journals.Files.{recordsIn}
+use Rattle.store.specs.declared.journals.files.File.{File}
 use Rattle.pairs.specs.declared.Stored.{Stored}
 use Rattle.pairs.specs.declared.WhyAnswer.{WhyAnswer}
 

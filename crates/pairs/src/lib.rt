@@ -3,15 +3,15 @@ use calendar::dates::CalendarDays;
 use entries::entry::Place;
 use entries::report;
 use fields::code::Code;
-use journals::files;
-use journals::files::File;
-use journals::sums;
+use store::journals::files;
+use store::journals::files::File;
+use store::journals::sums;
 use verdict::step::Why;
 ghost use mathlib.Core.Path.{_≡_};
 ghost use Prim.Native.Nat.{_+_, _*_, _≤_, _<_};
 ghost use lib.ListN.{length};
 ghost use Rattle.laws.specs.Lists.{table as tabled};
-ghost use Rattle.journals.specs.Files.{fileAt, recordsOf};
+ghost use Rattle.store.specs.journals.Files.{fileAt, recordsOf};
 ghost use Rattle.pairs.specs.Pairs.{isListedOf, startBy, listedAs, listedPair};
 
 // A stored report: its place in the regular journal, its publisher and its publication day.

@@ -13,7 +13,7 @@ use disk::REGULAR;
 use disk::TABLE;
 use libc::STDERR_FILENO;
 use libc::STDOUT_FILENO;
-use numbers::lines::NUMBERS;
+use store::numbers::lines::NUMBERS;
 use page::Page;
 use page::ROOM;
 ghost use Prim.Native.Nat.{_≤_};

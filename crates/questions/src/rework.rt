@@ -16,7 +16,7 @@ use disk::lock;
 use disk::saved;
 use disk::saved::Loaded;
 use libc::STDOUT_FILENO;
-use numbers::lines::NUMBERS;
+use store::numbers::lines::NUMBERS;
 use page::Page;
 use page::ROOM;
 use reworking::rework::Reworked;
@@ -150,7 +150,7 @@ fn rework_loaded<'a>(
     let mut before = [0u8; ENTRIES];
     let mut list = [0u16; NUMBERS];
     copy_in(&mut before, 0, entries);
-    let all = journals::files::FILES;
+    let all = store::journals::files::FILES;
     match reworking::rework::rework(lines, files, regular, corrections, entries, all, &mut list) {
         Reworked::Unreadable => Ended::Damaged,
         Reworked::Changed(n) => settle(

@@ -14,7 +14,7 @@ use disk::REGULAR;
 use disk::TABLE;
 use entries::entry::Entry;
 use libc::STDOUT_FILENO;
-use numbers::find::FoundLine;
+use store::numbers::find::FoundLine;
 use page::Page;
 use page::ROOM;
 use text::Spelt;

@@ -3,7 +3,7 @@ use entries::entry::Entry;
 use entries::entry::Listed;
 use fields::number::Digits;
 use fields::number::Number;
-use numbers::lines;
+use store::numbers::lines;
 ghost use Prim.Native.Nat.{_≤_};
 
 // How many lines there are, and at most as many as the table takes.
@@ -47,5 +47,5 @@ pub fn entry_at(entries: &[u8], i: usize) -> Entry {
     if entries.len() < store::readable::ENTRIES_LENGTH {
         return no_entry();
     }
-    entry_slots::entry::entry_at(entries, i)
+    store::entry_slots::entry::entry_at(entries, i)
 }

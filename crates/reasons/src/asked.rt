@@ -1,8 +1,8 @@
 // What is asked of the library.
 use fields::number::NumberRead;
-use journals::records::Journal;
-use journals::records::REPORTS;
-use journals::records::record_bytes;
+use store::journals::records::Journal;
+use store::journals::records::REPORTS;
+use store::journals::records::record_bytes;
 use pairs::WhyAnswer;
 
 // Why the number that a word names stands where it does.

@@ -11,7 +11,7 @@ use disk::ENTRIES;
 use disk::FILES;
 use disk::REGULAR;
 use disk::TABLE;
-use journals::records::Journal;
+use store::journals::records::Journal;
 use libc::STDOUT_FILENO;
 use page::Page;
 use page::ROOM;
@@ -138,7 +138,7 @@ fn print<'a>(
         regular,
         corrections,
         Journal::Regular,
-        journals::records::REPORTS,
+        store::journals::records::REPORTS,
     );
     let q = print_journal(
         p,
@@ -148,7 +148,7 @@ fn print<'a>(
         regular,
         corrections,
         Journal::Correction,
-        journals::records::CORRECTIONS,
+        store::journals::records::CORRECTIONS,
     );
     end::done(q, &room, 0)
 }

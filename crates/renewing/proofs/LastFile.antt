@@ -7,10 +7,10 @@ use lib.ListN.{length, take, length-append}
 use lib.Seq.{getD-at}
 use Rattle.laws.specs.Lists.{table}
 use Rattle.model.specs.Model.{Filed}
-use Rattle.journals.specs.Files.{fileAt, fileCount, recordsOf}
-use Rattle.journals.specs.declared.files.File.{File}
-use Rattle.journals.specs.Reads.{recordsAt, filedAfter, filedIn, firstFiles, readFiles}
-use Rattle.journals.proofs.FirstFiles.{filed-end, first-of-all}
+use Rattle.store.specs.journals.Files.{fileAt, fileCount, recordsOf}
+use Rattle.store.specs.declared.journals.files.File.{File}
+use Rattle.store.specs.journals.Reads.{recordsAt, filedAfter, filedIn, firstFiles, readFiles}
+use Rattle.store.proofs.journals.FirstFiles.{filed-end, first-of-all}
 use Rattle.fitting.specs.Renewing.{lastFiled}
 use Rattle.renewing.specs.Turns.{filedFrom}
 

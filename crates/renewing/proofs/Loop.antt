@@ -8,10 +8,10 @@ use lib.ListN.{length}
 use Rattle.laws.specs.Lists.{table}
 use Rattle.fields.specs.declared.number.Number.{Number}
 use Rattle.model.specs.Model.{Filed, named, countOf}
-use Rattle.journals.specs.Files.{fileAt, fileCount, recordsOf}
-use Rattle.journals.specs.Reads.{recordsAt, readFiles}
-use Rattle.journals.specs.declared.files.File.{File}
-use Rattle.numbers.specs.Lines.{lineCount, linesOf, numberAt}
+use Rattle.store.specs.journals.Files.{fileAt, fileCount, recordsOf}
+use Rattle.store.specs.journals.Reads.{recordsAt, readFiles}
+use Rattle.store.specs.declared.journals.files.File.{File}
+use Rattle.store.specs.numbers.Lines.{lineCount, linesOf, numberAt}
 use Rattle.rules.specs.Rules.{rules}
 use Rattle.store.specs.Reads.{lent, isReadable, tableLine}
 use Rattle.store.proofs.Checks.{few-lines, long}

@@ -14,8 +14,8 @@ use Rattle.laws.proofs.Tables.{length-table, getD-table, map-table}
 use Rattle.fields.specs.declared.number.Number.{Number}
 use Rattle.model.specs.Rules.{TableLine}
 use Rattle.model.specs.Model.{Filed, named, entryOver}
-use Rattle.numbers.specs.Lines.{lineCount, lineAt, linesOf, numberAt}
-use Rattle.entry_slots.specs.Entries.{entrySlot}
+use Rattle.store.specs.numbers.Lines.{lineCount, lineAt, linesOf, numberAt}
+use Rattle.store.specs.entry_slots.Entries.{entrySlot}
 use Rattle.rules.specs.Rules.{rules}
 use Rattle.store.specs.Reads.{tableLine}
 use Rattle.fitting.specs.Renewing.{renewedSlot, renewedEntries}

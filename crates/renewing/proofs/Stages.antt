@@ -15,7 +15,7 @@ use Rattle.fields.specs.Number.{sameNumber}
 use Rattle.fields.proofs.NumberLaws.{same-number}
 use Rattle.model.specs.Rules.{Event}
 use Rattle.model.specs.Model.{Filed, eventAt, events, numberOf, about, named, notLater, journal, history, countOf}
-use Rattle.journals.specs.declared.files.File.{File}
+use Rattle.store.specs.declared.journals.files.File.{File}
 use Rattle.rules.specs.Records.{numberIn}
 use Rattle.rules.specs.Rules.{rules}
 use Rattle.renewing.specs.Turns.{filedFrom, numberFrom, namedTo, newAt, countTo}

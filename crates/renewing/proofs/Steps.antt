@@ -12,11 +12,11 @@ use Rattle.fields.specs.Number.{sameNumber}
 use Rattle.entries.specs.declared.entry.Entry.{Entry}
 use Rattle.verdict.specs.declared.step.Standing.{Standing}
 use Rattle.model.specs.Model.{Filed, history, entryOver}
-use Rattle.journals.specs.Files.{fileCount}
-use Rattle.journals.specs.Reads.{readFiles}
-use Rattle.numbers.specs.Lines.{lineCount, lineAt, numberAt}
-use Rattle.numbers.specs.declared.lines.Line.{Line}
-use Rattle.entry_slots.specs.Entries.{entrySlot}
+use Rattle.store.specs.journals.Files.{fileCount}
+use Rattle.store.specs.journals.Reads.{readFiles}
+use Rattle.store.specs.numbers.Lines.{lineCount, lineAt, numberAt}
+use Rattle.store.specs.declared.numbers.lines.Line.{Line}
+use Rattle.store.specs.entry_slots.Entries.{entrySlot}
 use Rattle.rules.specs.Rules.{rules}
 use Rattle.store.specs.Reads.{tableLine}
 use Rattle.working.specs.Working.{WorkedAfresh}

@@ -21,10 +21,10 @@ use Rattle.verdict.specs.Step.{entryAfter}
 use Rattle.verdict.proofs.Laws.{tidy}
 use Rattle.model.specs.Rules.{TableLine}
 use Rattle.model.specs.Model.{Filed, history, entryOver}
-use Rattle.numbers.specs.Lines.{lineCount, lineAt, numberAt}
-use Rattle.numbers.proofs.Finding.{found-none, found-here, found-other}
-use Rattle.entry_slots.specs.Entries.{entrySlot}
-use Rattle.entry_slots.proofs.Back.{slot-length}
+use Rattle.store.specs.numbers.Lines.{lineCount, lineAt, numberAt}
+use Rattle.store.proofs.numbers.Finding.{found-none, found-here, found-other}
+use Rattle.store.specs.entry_slots.Entries.{entrySlot}
+use Rattle.store.proofs.entry_slots.Back.{slot-length}
 use Rattle.rules.specs.Rules.{rules, recordOf, lineBy}
 use Rattle.store.specs.Reads.{tableLine}
 use Rattle.renewing.specs.Turns.{slotAfresh, Redone, LineRenewed, NumberRenewed}

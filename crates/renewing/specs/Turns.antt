@@ -13,10 +13,10 @@ use Rattle.fields.specs.declared.number.Number.{Number}
 use Rattle.fields.specs.Number.{sameNumber}
 use Rattle.model.specs.Rules.{Event}
 use Rattle.model.specs.Model.{Filed, eventAt, numberOf, about, journal, history, entryOver}
-use Rattle.journals.specs.Files.{fileCount}
-use Rattle.journals.specs.declared.files.File.{File}
-use Rattle.numbers.specs.Lines.{lineCount, lineAt, numberAt}
-use Rattle.entry_slots.specs.Entries.{entrySlot}
+use Rattle.store.specs.journals.Files.{fileCount}
+use Rattle.store.specs.declared.journals.files.File.{File}
+use Rattle.store.specs.numbers.Lines.{lineCount, lineAt, numberAt}
+use Rattle.store.specs.entry_slots.Entries.{entrySlot}
 use Rattle.store.specs.Reads.{tableLine}
 use Rattle.rules.specs.Rules.{rules}
 use Rattle.working.specs.Working.{Sound}

@@ -3,14 +3,14 @@
 use fields::number::Number;
 use indexing::index::FRONTS;
 use indexing::index::PLACES;
-use journals::files::File;
+use store::journals::files::File;
 use working::gather;
 ghost use mathlib.Core.Path.{_≡_};
 ghost use Prim.Native.Nat.{_+_, _%_, _≤_, _<_};
 ghost use lib.ListN.{length, take, drop};
 ghost use Rattle.laws.specs.Lists.{table, any};
 ghost use Rattle.order.specs.groups.Groups.{tag};
-ghost use Rattle.journals.specs.Reads.{recordsAt};
+ghost use Rattle.store.specs.journals.Reads.{recordsAt};
 ghost use Rattle.working.specs.Working.{InFile};
 ghost use Rattle.renewing.specs.Turns.{filedFrom, numberFrom, namedTo, earlier, frontFrom, Tagged};
 

@@ -1,17 +1,17 @@
 // One record of a file: its number worked out afresh, where no earlier record of the file names it.
 use crate::named;
 use entries::entry::Line;
-use entry_slots::entry;
+use store::entry_slots::entry;
 use fields::number::Number;
 use indexing::find;
-use journals::files::File;
-use numbers::lines;
+use store::journals::files::File;
+use store::numbers::lines;
 ghost use mathlib.Core.Path.{_≡_};
 ghost use Prim.Native.Nat.{_<_};
 ghost use lib.ListN.{length, take};
 ghost use Rattle.model.specs.Model.{history};
-ghost use Rattle.journals.specs.Reads.{recordsAt, readFiles};
-ghost use Rattle.numbers.specs.Lines.{lineCount};
+ghost use Rattle.store.specs.journals.Reads.{recordsAt, readFiles};
+ghost use Rattle.store.specs.numbers.Lines.{lineCount};
 ghost use Rattle.rules.specs.Rules.{rules};
 ghost use Rattle.working.specs.Working.{Sound, InFile};
 ghost use Rattle.renewing.specs.Turns.{filedFrom, Tagged, Workable, Ready, LineRenewed, NumberRenewed, RecordRenewed};
@@ -116,7 +116,7 @@ fn renew_number<'a>(
     ensures { λ r. ⌜ NumberRenewed (readFiles (now (files .entry)) (now (regular .entry)) (now (corrections .entry))) number (now (lines .entry)) (now (entries .entry)) (now (entries .exit)) r ⌝ }
 {
     let count = lines::line_count(lines);
-    let k = numbers::find::line_of(lines, count, number);
+    let k = store::numbers::find::line_of(lines, count, number);
     if k < count {
         return renew_line(
             lines,

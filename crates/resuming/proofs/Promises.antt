@@ -16,8 +16,8 @@ use Rattle.model.specs.Model.{Filed, Reached, entryOver, noFileTwice}
 use Rattle.model.proofs.Stores.{reached-worked}
 use Rattle.rules.specs.Rules.{rules}
 use Rattle.rules.proofs.Promises.{entries-worked-afresh}
-use Rattle.journals.specs.Reads.{readFiles}
-use Rattle.numbers.specs.Lines.{linesOf}
+use Rattle.store.specs.journals.Reads.{readFiles}
+use Rattle.store.specs.numbers.Lines.{linesOf}
 use Rattle.store.specs.Reads.{Buffers, Held, lent, tableLine, held, isReadable, reads}
 use Rattle.store.proofs.Checks.{reads-some}
 use Rattle.store.proofs.Whole.{whole-files, files-once}

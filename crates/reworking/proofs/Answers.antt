@@ -16,13 +16,13 @@ use Rattle.fields.specs.declared.number.Number.{Number}
 use Rattle.entries.specs.declared.entry.Entry.{Entry}
 use Rattle.model.specs.Rules.{TableLine}
 use Rattle.model.specs.Model.{Filed}
-use Rattle.journals.specs.Files.{fileCount}
-use Rattle.journals.specs.Reads.{readFiles}
-use Rattle.numbers.specs.Lines.{lineCount, lineAt, linesOf}
-use Rattle.entry_slots.specs.Entries.{entryAt}
+use Rattle.store.specs.journals.Files.{fileCount}
+use Rattle.store.specs.journals.Reads.{readFiles}
+use Rattle.store.specs.numbers.Lines.{lineCount, lineAt, linesOf}
+use Rattle.store.specs.entry_slots.Entries.{entryAt}
 use Rattle.store.specs.Reads.{Buffers, Held, tableLine, held, isReadable, reads}
 use Rattle.store.proofs.Checks.{reads-some, reads-none}
-use Rattle.entry_slots.proofs.Back.{length-entry}
+use Rattle.store.proofs.entry_slots.Back.{length-entry}
 use Rattle.fitting.proofs.Worked.{worked-fits}
 use Rattle.asking.proofs.Standings.{among-files}
 use Rattle.answering.specs.Figure.{differs}

@@ -25,7 +25,7 @@ use Rattle.model.specs.Rules.{TableLine}
 use Rattle.model.specs.Model.{Filed, entryOver}
 use Rattle.rules.specs.Rules.{rules, standings}
 use Rattle.rules.proofs.Promises.{standing-entry}
-use Rattle.entry_slots.specs.Entries.{entrySlot, entryOf, entryAt}
+use Rattle.store.specs.entry_slots.Entries.{entrySlot, entryOf, entryAt}
 use Rattle.answering.specs.Figure.{differs}
 use Rattle.answering.proofs.Figures.{differs-found}
 use Rattle.reworking.specs.Reworking.{workedSlot, lineOf, changes, changesTo, Fitting, LineReworked, Noted, LinesReworked}

@@ -13,8 +13,8 @@ use Rattle.entries.specs.declared.entry.Entry.{Entry}
 use Rattle.model.specs.Rules.{TableLine}
 use Rattle.model.specs.Model.{Filed, entryOver}
 use Rattle.rules.specs.Rules.{rules}
-use Rattle.numbers.specs.Lines.{lineAt}
-use Rattle.entry_slots.specs.Entries.{entrySlot, entryAt}
+use Rattle.store.specs.numbers.Lines.{lineAt}
+use Rattle.store.specs.entry_slots.Entries.{entrySlot, entryAt}
 use Rattle.store.specs.Reads.{Buffers, Held, tableLine, reads}
 use Rattle.answering.specs.Figure.{differs}
 use Rattle.reworking.specs.declared.rework.Reworked.{Reworked}

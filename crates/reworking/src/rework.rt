@@ -1,13 +1,13 @@
 // Every line's entry worked out afresh and written, and the places of those lines whose stored entry was another.
 use asking::stand;
-use entry_slots::entry;
+use store::entry_slots::entry;
 use indexing::index;
-use numbers::lines;
+use store::numbers::lines;
 use store::readable;
 ghost use mathlib.Core.Path.{_≡_};
 ghost use Prim.Native.Nat.{_+_, _*_, _≤_, _<_};
 ghost use lib.ListN.{length, take};
-ghost use Rattle.journals.specs.Reads.{readFiles};
+ghost use Rattle.store.specs.journals.Reads.{readFiles};
 ghost use Rattle.store.specs.Reads.{lent};
 ghost use Rattle.working.specs.Working.{Sound};
 ghost use Rattle.indexing.specs.Index.{Wanted, Indexed};

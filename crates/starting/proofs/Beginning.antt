@@ -15,12 +15,12 @@ use Rattle.laws.proofs.Overlay.{overlay-append, overlay-none}
 use Rattle.laws.proofs.Slots.{length-flat}
 use Rattle.laws.proofs.Tables.{table-more, length-table}
 use Rattle.laws.proofs.Words.{length-lowFirst}
-use Rattle.entry_slots.specs.Entries.{entrySlot}
-use Rattle.entry_slots.specs.Places.{placeSlot}
+use Rattle.store.specs.entry_slots.Entries.{entrySlot}
+use Rattle.store.specs.entry_slots.Places.{placeSlot}
 use Rattle.store.specs.Reads.{Buffers, lent, longEnough}
 use Rattle.entries.specs.declared.entry.Entry.{Entry}
-use Rattle.numbers.specs.Lines.{lineSlot, lineAt}
-use Rattle.numbers.specs.declared.lines.Line.{Line}
+use Rattle.store.specs.numbers.Lines.{lineSlot, lineAt}
+use Rattle.store.specs.declared.numbers.lines.Line.{Line}
 use Rattle.tables.specs.Given.{tableOf, Spread}
 use Rattle.starting.specs.Start.{firstOf, firstSlot, answerOf, startAnswer, startBuffers, Starts, tableAfter, filesAfter, entriesAfter, tableWith, entriesWith, Entered, Begun}
 use Rattle.starting.specs.declared.start.Started.{Started}

@@ -20,14 +20,14 @@ use Rattle.laws.proofs.Tables.{all-at, all-each, table-cong, table-self, map-ta
 use Rattle.laws.proofs.Tests.{and-left, and-right}
 use Rattle.laws.proofs.Words.{word-first, word-same, length-lowFirst}
 use Rattle.fields.specs.Number.{sameNumber}
-use Rattle.journals.specs.Files.{fileCount, fileAt, filesOf, recordsOf}
-use Rattle.numbers.specs.Lines.{lineSlot, lineOf, lineAt, lineCount, linesOf, numberAt, goodLine}
-use Rattle.numbers.specs.declared.lines.Line.{Line}
-use Rattle.numbers.proofs.Fitting.{good-roomy, good-owner}
-use Rattle.numbers.proofs.Reading.{length-line, line-back}
-use Rattle.entry_slots.specs.Entries.{entryOf, entryAt, goodEntry}
-use Rattle.entry_slots.proofs.Back.{first-fine, entry-back, entry-fine}
-use Rattle.journals.specs.Reads.{recordsAt, filedIn, firstFiles, readFiles}
+use Rattle.store.specs.journals.Files.{fileCount, fileAt, filesOf, recordsOf}
+use Rattle.store.specs.numbers.Lines.{lineSlot, lineOf, lineAt, lineCount, linesOf, numberAt, goodLine}
+use Rattle.store.specs.declared.numbers.lines.Line.{Line}
+use Rattle.store.proofs.numbers.Fitting.{good-roomy, good-owner}
+use Rattle.store.proofs.numbers.Reading.{length-line, line-back}
+use Rattle.store.specs.entry_slots.Entries.{entryOf, entryAt, goodEntry}
+use Rattle.store.proofs.entry_slots.Back.{first-fine, entry-back, entry-fine}
+use Rattle.store.specs.journals.Reads.{recordsAt, filedIn, firstFiles, readFiles}
 use Rattle.store.specs.Reads.{Buffers, tableLine, held, longEnough, goodTable, goodFiles, goodRecords, isReadable, reads}
 use Rattle.store.proofs.Checks.{Long, long, reads-some}
 use Rattle.tables.specs.declared.given.LineRead.{LineRead}

@@ -8,9 +8,9 @@ use lib.ListN.{length}
 use Rattle.laws.specs.Lists.{table}
 use Rattle.laws.specs.Overlay.{overlay, part}
 use Rattle.laws.specs.Words.{lowFirst}
-use Rattle.entry_slots.specs.Entries.{entrySlot}
-use Rattle.numbers.specs.Lines.{lineSlot, lineAt}
-use Rattle.numbers.specs.declared.lines.Line.{Line}
+use Rattle.store.specs.entry_slots.Entries.{entrySlot}
+use Rattle.store.specs.numbers.Lines.{lineSlot, lineAt}
+use Rattle.store.specs.declared.numbers.lines.Line.{Line}
 use Rattle.store.specs.Reads.{Buffers, Held, tableLine, longEnough}
 use Rattle.entries.specs.Entry.{firstEntry}
 use Rattle.entries.specs.declared.entry.Entry.{Entry}

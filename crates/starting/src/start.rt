@@ -1,11 +1,11 @@
 // Starting: the number table into an empty store, or a refusal that writes nothing.
 use entries::entry::Entry;
 use entries::entry::Line;
-use entry_slots::entry;
-use journals::files;
-use numbers::lines;
-use numbers::lines::TABLE_LENGTH;
-use slots::run;
+use store::entry_slots::entry;
+use store::journals::files;
+use store::numbers::lines;
+use store::numbers::lines::TABLE_LENGTH;
+use store::slots::run;
 use store::readable;
 use tables::scratch;
 use tables::scratch::Counted;

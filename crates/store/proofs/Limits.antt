@@ -11,8 +11,8 @@ use Rattle.laws.specs.Lists.{table, total}
 use Rattle.laws.specs.Overlay.{part}
 use Rattle.laws.specs.Slots.{slotAt, heldIn}
 use Rattle.laws.proofs.Lists.{total-end}
-use Rattle.journals.specs.Files.{filesOf, recordsOf}
-use Rattle.journals.specs.Records.{recordAt}
+use Rattle.store.specs.journals.Files.{filesOf, recordsOf}
+use Rattle.store.specs.journals.Records.{recordAt}
 use Rattle.store.specs.Reads.{goodFiles}
 use Rattle.store.proofs.Checks.{few-reports, few-corrections}
 

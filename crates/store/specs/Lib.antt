@@ -1,2 +1,5 @@
 pub mod Records
 pub mod Reads
+pub mod entry_slots
+pub mod journals
+pub mod numbers

@@ -12,11 +12,11 @@ use Rattle.model.specs.Rules.{TableLine}
 use Rattle.fields.specs.Number.{sameNumber}
 use Rattle.fields.specs.declared.number.Number.{Number}
 use Rattle.entries.specs.declared.entry.Entry.{Entry}
-use Rattle.journals.specs.Files.{fileCount, filesOf, goodFile, sameFile, recordsOf}
-use Rattle.journals.specs.Reads.{readFiles}
-use Rattle.numbers.specs.Lines.{lineCount, linesOf, numberAt, goodLine}
-use Rattle.numbers.specs.declared.lines.Line.{Line}
-use Rattle.entry_slots.specs.Entries.{entryAt, goodEntry}
+use Rattle.store.specs.journals.Files.{fileCount, filesOf, goodFile, sameFile, recordsOf}
+use Rattle.store.specs.journals.Reads.{readFiles}
+use Rattle.store.specs.numbers.Lines.{lineCount, linesOf, numberAt, goodLine}
+use Rattle.store.specs.declared.numbers.lines.Line.{Line}
+use Rattle.store.specs.entry_slots.Entries.{entryAt, goodEntry}
 use Rattle.store.specs.Records.{goodReport, goodCorrection}
 
 -- the five buffers

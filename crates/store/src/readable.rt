@@ -1,13 +1,13 @@
 // Whether the five lent buffers read as a store.
 use crate::records;
-use entry_slots::entry;
-use journals::files;
-use journals::records::CORRECTIONS;
-use journals::records::CORRECTIONS_LENGTH;
-use journals::records::REGULAR_LENGTH;
-use journals::records::REPORTS;
-use journals::sums;
-use numbers::lines;
+use crate::entry_slots::entry;
+use crate::journals::files;
+use crate::journals::records::CORRECTIONS;
+use crate::journals::records::CORRECTIONS_LENGTH;
+use crate::journals::records::REGULAR_LENGTH;
+use crate::journals::records::REPORTS;
+use crate::journals::sums;
+use crate::numbers::lines;
 ghost use mathlib.Core.Path.{_≡_};
 ghost use mathlib.Core.Bool.{true};
 ghost use Prim.Native.Nat.{_≤_};
@@ -54,7 +54,7 @@ fn good_table(table: &[u8]) -> bool
     if !lines::good_lines(table, n) {
         return false;
     }
-    numbers::twice::no_number_twice(table, n)
+    crate::numbers::twice::no_number_twice(table, n)
 }
 
 // Whether the list of files is well formed.
@@ -69,7 +69,7 @@ fn good_files(files: &[u8]) -> bool
     if !files::good_files(files, n) {
         return false;
     }
-    if !journals::twice::no_file_twice(files, n) {
+    if !crate::journals::twice::no_file_twice(files, n) {
         return false;
     }
     if REPORTS < sums::records_of(files, n, 0) {

@@ -6,16 +6,16 @@ use entries::entry::PLACES;
 use entries::entry::Place;
 use entries::entry::free_place;
 use entries::report::Report;
-use entry_slots::entry;
+use store::entry_slots::entry;
 use fields::code::Code;
 use fields::kind::Kind;
 use fields::number::Digits;
 use fields::number::Number;
-use journals::files;
-use journals::files::File;
-use journals::records;
-use numbers::lines;
-use numbers::lines::Line;
+use store::journals::files;
+use store::journals::files::File;
+use store::journals::records;
+use store::numbers::lines;
+use store::numbers::lines::Line;
 
 // 1,024 numbers of seven digits.
 fn put_lines(table: &mut [u8]) {

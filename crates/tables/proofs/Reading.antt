@@ -23,8 +23,8 @@ use Rattle.fields.specs.declared.number.NumberRead.{NumberRead}
 use Rattle.fields.proofs.CodeLaws.{code-back}
 use Rattle.fields.proofs.DateLaws.{date-field-back}
 use Rattle.fields.proofs.NumberLaws.{digits-back, number-back}
-use Rattle.numbers.specs.Lines.{goodLine}
-use Rattle.numbers.specs.declared.lines.Line.{Line}
+use Rattle.store.specs.numbers.Lines.{goodLine}
+use Rattle.store.specs.declared.numbers.lines.Line.{Line}
 use Rattle.tables.specs.declared.given.LineRead.{LineRead}
 use Rattle.tables.specs.declared.given.LineRead.the-variants.{Fault}
 use Rattle.tables.specs.Given.{onDigits, onNumber, onCode, onDate, fourOf, lineGiven}

@@ -20,10 +20,10 @@ use Rattle.laws.proofs.Split.{split-some, ends-at, ends-more, ends-last, length
 use Rattle.laws.proofs.Tables.{all-more, all-at, table-cong, table-self, map-table}
 use Rattle.fields.specs.Number.{sameNumber}
 use Rattle.fields.specs.declared.number.Number.{Number}
-use Rattle.numbers.specs.Lines.{lineSlot, lineOf, lineAt, numberAt, goodLine}
-use Rattle.numbers.specs.declared.lines.Line.{Line}
-use Rattle.numbers.proofs.Fitting.{good-roomy}
-use Rattle.numbers.proofs.Reading.{length-line, line-back}
+use Rattle.store.specs.numbers.Lines.{lineSlot, lineOf, lineAt, numberAt, goodLine}
+use Rattle.store.specs.declared.numbers.lines.Line.{Line}
+use Rattle.store.proofs.numbers.Fitting.{good-roomy}
+use Rattle.store.proofs.numbers.Reading.{length-line, line-back}
 use Rattle.tables.specs.declared.given.LineRead.{LineRead}
 use Rattle.tables.specs.declared.given.LineRead.the-variants.{Fault}
 use Rattle.tables.specs.Given.{lineGiven, endGiven, withLine, linesGiven, numberOfLine, checked, tableOf, Spread}

@@ -20,8 +20,8 @@ use Rattle.fields.specs.declared.number.Digits.{Digits}
 use Rattle.fields.specs.declared.number.DigitsRead.{DigitsRead}
 use Rattle.fields.specs.declared.number.Number.{Number}
 use Rattle.fields.specs.declared.number.NumberRead.{NumberRead}
-use Rattle.numbers.specs.Lines.{lineSlot, goodLine}
-use Rattle.numbers.specs.declared.lines.Line.{Line}
+use Rattle.store.specs.numbers.Lines.{lineSlot, goodLine}
+use Rattle.store.specs.declared.numbers.lines.Line.{Line}
 use Rattle.tables.specs.declared.given.LineRead.{LineRead}
 use Rattle.tables.specs.declared.given.LineRead.the-variants.{Fault}
 use Rattle.tables.specs.declared.scratch.Counted.{Counted}

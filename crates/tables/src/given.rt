@@ -7,7 +7,7 @@ use fields::number::Digits;
 use fields::number::DigitsRead;
 use fields::number::Number;
 use fields::number::NumberRead;
-use numbers::lines::Line;
+use store::numbers::lines::Line;
 ghost use mathlib.Core.Path.{_≡_};
 ghost use Rattle.tables.specs.Given.{lineGiven};
 

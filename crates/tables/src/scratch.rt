@@ -2,8 +2,8 @@
 // has been looked at.
 use crate::given;
 use crate::given::LineRead;
-use numbers::lines;
-use numbers::twice;
+use store::numbers::lines;
+use store::numbers::twice;
 ghost use mathlib.Core.Path.{_≡_};
 ghost use Prim.Native.Nat.{_≤_};
 ghost use lib.ListN.{length};

@@ -16,11 +16,11 @@ use Rattle.laws.proofs.Tests.{and-left, and-right}
 use Rattle.fields.specs.declared.number.Number.{Number}
 use Rattle.fields.specs.Number.{sameNumber}
 use Rattle.calendar.specs.Dates.{inCalendar}
-use Rattle.journals.specs.Files.{fileAt, goodFile, recordsOf}
-use Rattle.journals.specs.declared.files.File.{File}
+use Rattle.store.specs.journals.Files.{fileAt, goodFile, recordsOf}
+use Rattle.store.specs.declared.journals.files.File.{File}
 use Rattle.rules.specs.Records.{numberIn, firstIn}
 use Rattle.rules.proofs.First.{not-named}
-use Rattle.journals.specs.Reads.{recordsAt}
+use Rattle.store.specs.journals.Reads.{recordsAt}
 use Rattle.working.specs.Slips.{Slip, slipAt, slipsOf, slips, aboutSlip, keyOf, keysIn, keysOf}
 use Rattle.working.specs.Working.{apart, Sound, InFile, Behind, Gathered}
 use Rattle.working.proofs.SlipLaws.{Ranged, records-more, own-records, records-grow, slips-length, slips-more}

@@ -19,14 +19,14 @@ use Rattle.laws.proofs.Keys.{Onward, onward-keep, onward-both, map-onward, map-
 use Rattle.fields.specs.declared.number.Number.{Number}
 use Rattle.model.specs.Rules.{Event}
 use Rattle.model.specs.Model.{journal, about, notLater, history, before}
-use Rattle.journals.specs.Files.{recordsOf}
-use Rattle.journals.specs.Records.{recordAt, recordIn, shownIn}
-use Rattle.journals.specs.declared.files.File.{File}
-use Rattle.journals.specs.declared.records.Journal.the-variants.{Regular, Correction}
+use Rattle.store.specs.journals.Files.{recordsOf}
+use Rattle.store.specs.journals.Records.{recordAt, recordIn, shownIn}
+use Rattle.store.specs.declared.journals.files.File.{File}
+use Rattle.store.specs.declared.journals.records.Journal.the-variants.{Regular, Correction}
 use Rattle.rules.specs.Records.{classIn}
 use Rattle.rules.specs.Rules.{rules}
 use Rattle.rules.proofs.Lawful.{lawful, class-of-reports, class-of-corrections}
-use Rattle.journals.specs.Reads.{recordsAt, filedIn}
+use Rattle.store.specs.journals.Reads.{recordsAt, filedIn}
 use Rattle.working.specs.Slips.{Slip, slipAt, slips, aboutSlip, keyBy, keyOf, keysOf, classBehind, kindBehind, journalBehind, eventBehind}
 use Rattle.working.proofs.SlipLaws.{Ranged, Kept, Rise, eventOf, kept, rise, slips-journal}
 

@@ -6,7 +6,7 @@ use Prim.Native.Nat.{ℕ, _≤_}
 use native.Mathlib.Omega.{arith}
 use Rattle.laws.specs.Lists.{table, all}
 use Rattle.laws.proofs.Tables.{length-table, getD-table, all-at, all-each}
-use Rattle.journals.specs.Files.{fileAt, fileCount, filesOf, goodFile}
+use Rattle.store.specs.journals.Files.{fileAt, fileCount, filesOf, goodFile}
 use Rattle.store.specs.Reads.{lent, isReadable}
 use Rattle.store.proofs.Checks.{few-files, few-reports, few-corrections, long}
 use Rattle.store.proofs.Whole.{whole-long, whole-files, files-good}

@@ -13,13 +13,13 @@ use Rattle.laws.proofs.Tables.{length-table, getD-table, table-cong, map-table}
 use Rattle.laws.proofs.Keys.{Onward, onward-end, onward-append}
 use Rattle.model.specs.Rules.{Event}
 use Rattle.model.specs.Model.{eventAt, events, journal}
-use Rattle.journals.specs.Files.{recordsIn, recordsOf}
-use Rattle.journals.specs.declared.files.File.{File}
-use Rattle.journals.proofs.Counting.{records-end}
+use Rattle.store.specs.journals.Files.{recordsIn, recordsOf}
+use Rattle.store.specs.declared.journals.files.File.{File}
+use Rattle.store.proofs.journals.Counting.{records-end}
 use Rattle.rules.specs.Records.{classIn}
-use Rattle.journals.specs.Reads.{filedAfter, filedIn}
+use Rattle.store.specs.journals.Reads.{filedAfter, filedIn}
 use Rattle.working.specs.Slips.{Slip, slipAt, slipsOf, slips}
-use Rattle.journals.proofs.FirstFiles.{filed-end}
+use Rattle.store.proofs.journals.FirstFiles.{filed-end}
 
 -- ---- how many records the files of a kind have
 pub own-records : (f : File) (kind : ℕ) → f .kind ≡ kind → recordsIn kind f ≡ f .count

@@ -15,13 +15,13 @@ use Rattle.verdict.specs.Step.{firstStanding, standOn, entryAfter}
 use Rattle.verdict.proofs.Laws.{entry-stands}
 use Rattle.model.specs.Rules.{Event}
 use Rattle.model.specs.Model.{Filed, Store, Reached, Later, history, before, worked, entryOver, entriesBefore}
-use Rattle.journals.specs.Files.{fileAt, recordsOf}
+use Rattle.store.specs.journals.Files.{fileAt, recordsOf}
 use Rattle.rules.specs.Rules.{rules, standings, recordOf}
 use Rattle.rules.proofs.Promises.{before-a-late-file, same-history, standing-entry}
-use Rattle.journals.specs.Reads.{recordsAt, filedIn, firstFiles, readFiles}
+use Rattle.store.specs.journals.Reads.{recordsAt, filedIn, firstFiles, readFiles}
 use Rattle.working.specs.Slips.{Slip, slipAt, keyOf, keysOf}
 use Rattle.working.specs.Working.{tableLine, Sound, Gathered, standBehind, WorkedAfresh, recordIn, standBefore}
-use Rattle.journals.proofs.FirstFiles.{first-of-all}
+use Rattle.store.proofs.journals.FirstFiles.{first-of-all}
 use Rattle.working.proofs.KeyLaws.{fold-keys, keys-count, bounded-at, fold-before}
 use Rattle.working.proofs.GatherLaws.{ranged, room-all, in-turn}
 

@@ -8,11 +8,11 @@ use Rattle.laws.specs.Lists.{table, keep}
 use Rattle.fields.specs.declared.number.Number.{Number}
 use Rattle.fields.specs.Number.{sameNumber}
 use Rattle.model.specs.Rules.{Event}
-use Rattle.journals.specs.Files.{recordsOf}
-use Rattle.journals.specs.Records.{shownIn}
-use Rattle.journals.specs.declared.files.File.{File}
-use Rattle.journals.specs.declared.records.Journal.{Journal}
-use Rattle.journals.specs.declared.records.Journal.the-variants.{Regular, Correction}
+use Rattle.store.specs.journals.Files.{recordsOf}
+use Rattle.store.specs.journals.Records.{shownIn}
+use Rattle.store.specs.declared.journals.files.File.{File}
+use Rattle.store.specs.declared.journals.records.Journal.{Journal}
+use Rattle.store.specs.declared.journals.records.Journal.the-variants.{Regular, Correction}
 use Rattle.rules.specs.Records.{numberIn, classIn}
 
 pub record Slip : Type 0 where

@@ -12,10 +12,10 @@ use Rattle.verdict.specs.declared.step.Standing.{Standing}
 use Rattle.verdict.specs.Step.{standOn}
 use Rattle.model.specs.Rules.{TableLine, Event}
 use Rattle.model.specs.Model.{entryOver, history}
-use Rattle.journals.specs.Files.{fileAt, fileCount, goodFile, recordsOf}
-use Rattle.journals.specs.declared.files.File.{File}
+use Rattle.store.specs.journals.Files.{fileAt, fileCount, goodFile, recordsOf}
+use Rattle.store.specs.declared.journals.files.File.{File}
 use Rattle.rules.specs.Rules.{rules, standings, recordOf}
-use Rattle.journals.specs.Reads.{recordsAt, readFiles}
+use Rattle.store.specs.journals.Reads.{recordsAt, readFiles}
 use Rattle.working.specs.Slips.{keysOf, eventBehind}
 
 -- a line of the number table in the model's words

@@ -1,11 +1,11 @@
 // The keys of the records that name a number: day, class, publisher, place in the file, place in the journal.
 use fields::number::Number;
-use journals::files;
-use journals::files::File;
-use journals::records::CORRECTION_SLOT;
-use journals::records::REPORT_SLOT;
-use journals::sums;
-use slots::record;
+use store::journals::files;
+use store::journals::files::File;
+use store::journals::records::CORRECTION_SLOT;
+use store::journals::records::REPORT_SLOT;
+use store::journals::sums;
+use store::slots::record;
 ghost use mathlib.Core.Path.{_≡_};
 ghost use mathlib.Core.Bool.{cond};
 ghost use Prim.Native.Nat.{_+_, _*_, _≤_, _<_};
@@ -13,8 +13,8 @@ ghost use lib.Dec.{eqb};
 ghost use lib.ListN.{length, take};
 ghost use Rattle.fields.specs.Number.{sameNumber};
 ghost use Rattle.rules.specs.Records.{numberIn};
-ghost use Rattle.journals.specs.Files.{fileAt};
-ghost use Rattle.journals.specs.Reads.{recordsAt};
+ghost use Rattle.store.specs.journals.Files.{fileAt};
+ghost use Rattle.store.specs.journals.Reads.{recordsAt};
 ghost use Rattle.working.specs.Slips.{slipAt, keyBy, keyOf, keysIn, keysOf};
 ghost use Rattle.working.specs.Working.{apart, Sound, Stored, InFile, Behind, Gathered};
 

@@ -5,7 +5,7 @@ use Prim.Native.Nat.{_+_, _*_, _-_, _≤_}
 use native.Mathlib.Omega.{arith}
 use lib.ListN.{drop}
 use Rattle.laws.specs.Lists.{table}
-use Rattle.journals.specs.Files.{fileAt}
+use Rattle.store.specs.journals.Files.{fileAt}
 use Rattle.pairs.specs.Pairs.{startBy}
 use Rattle.pairs.proofs.Starts.{start-on, start-here, start-end}
 use borrow.Author.Needs.{needs}

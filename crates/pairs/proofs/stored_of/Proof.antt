@@ -3,7 +3,7 @@ use denote.Ref.{now}
 use Prim.Native.Nat.{_≤_}
 use native.Mathlib.Omega.{arith}
 use Rattle.laws.specs.Lists.{table}
-use Rattle.journals.specs.Files.{fileAt}
+use Rattle.store.specs.journals.Files.{fileAt}
 use Rattle.pairs.proofs.Starts.{start-below}
 use borrow.Author.Needs.{needs}
 use Rattle.pairs.proofs.stored_of.Statement.{statement}

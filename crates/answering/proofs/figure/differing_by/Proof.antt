@@ -4,7 +4,7 @@ use mathlib.Core.Path.{_≡_, ap, _∙_}
 use Prim.Native.Nat.{ℕ, _-_, _≤_}
 use native.Mathlib.Omega.{arith}
 use lib.ListN.{take}
-use Rattle.journals.specs.Reads.{readFiles}
+use Rattle.store.specs.journals.Reads.{readFiles}
 use Rattle.answering.specs.Figure.{differing}
 use Rattle.answering.proofs.Figures.{other-differs, differing-none, differing-more}
 use borrow.Author.Needs.{needs}

@@ -5,7 +5,7 @@ use mathlib.Core.Path.{sym, ap, _∙_, refl}
 use native.Mathlib.Omega.{arith}
 use borrow.Author.Tests.{not-true, not-false}
 use Rattle.laws.proofs.Tests.{passes}
-use Rattle.entry_slots.specs.Entries.{entryAt}
+use Rattle.store.specs.entry_slots.Entries.{entryAt}
 use Rattle.asking.proofs.Lines.{found-below}
 use Rattle.asking.proofs.Standings.{shows, has-room, held-unknown, held-here}
 use borrow.Author.Needs.{needs}

@@ -3,7 +3,7 @@ use denote.Ref.{now}
 use mathlib.Core.Path.{sym, _∙_}
 use native.Mathlib.Omega.{arith}
 use lib.ListN.{take}
-use Rattle.journals.specs.Reads.{readFiles}
+use Rattle.store.specs.journals.Reads.{readFiles}
 use Rattle.asking.proofs.Lines.{found-below}
 use Rattle.asking.proofs.Records.{asked-unknown, asked-here}
 use borrow.Author.Needs.{needs}

@@ -4,7 +4,7 @@ use mathlib.Core.Path.{_≡_, ap, _∙_}
 use Prim.Native.Nat.{ℕ, _+_, _-_, _≤_}
 use native.Mathlib.Omega.{arith}
 use Rattle.laws.specs.Lists.{table}
-use Rattle.journals.specs.Files.{fileAt, recordsOf}
+use Rattle.store.specs.journals.Files.{fileAt, recordsOf}
 use Rattle.asking.proofs.Records.{located, located-on, located-start}
 use borrow.Author.Needs.{needs}
 use Rattle.asking.proofs.record.locate.Statement.{statement}

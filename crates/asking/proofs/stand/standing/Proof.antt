@@ -4,11 +4,11 @@ use mathlib.Core.Path.{sym, ap, _∙_}
 use native.Mathlib.Omega.{arith}
 use borrow.Author.Tests.{not-true, not-false}
 use Rattle.laws.proofs.Tests.{passes}
-use Rattle.journals.specs.Reads.{readFiles}
+use Rattle.store.specs.journals.Reads.{readFiles}
 use mathlib.Core.List.{List}
 use Rattle.model.specs.Model.{Filed, entryOver}
-use Rattle.journals.specs.Files.{fileCount}
-use Rattle.numbers.specs.Lines.{lineAt}
+use Rattle.store.specs.journals.Files.{fileCount}
+use Rattle.store.specs.numbers.Lines.{lineAt}
 use Rattle.store.specs.Reads.{tableLine}
 use Rattle.rules.specs.Rules.{standings}
 use Rattle.asking.proofs.Showing.{showable, sound}

@@ -7,7 +7,7 @@ use mathlib.Core.Bool.{false}
 use mathlib.Core.Path.{_≡_, sym, ap, _∙_}
 use Rattle.laws.specs.Lists.{table, any}
 use Rattle.laws.proofs.Tables.{any-none, any-next, any-here}
-use Rattle.journals.specs.Files.{fileAt, filesOf, fileCount, sameFile}
+use Rattle.store.specs.journals.Files.{fileAt, filesOf, fileCount, sameFile}
 use Rattle.store.proofs.Checks.{few-files}
 use Rattle.checking.proofs.check.filed_already.Statement.{statement}
 use Rattle.checking.proofs.check.filed_already.Tie as tie

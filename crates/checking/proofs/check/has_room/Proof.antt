@@ -4,7 +4,7 @@ use native.Mathlib.Omega.{arith}
 use borrow.Author.Needs.{needs}
 use mathlib.Core.Path.{ap, _∙_}
 use Prim.Native.Nat.{ℕ}
-use Rattle.journals.specs.Files.{fileAt, recordsOf}
+use Rattle.store.specs.journals.Files.{fileAt, recordsOf}
 use Rattle.laws.specs.Lists.{table}
 use Rattle.checking.proofs.CheckLaws.{used-fits, room-left, room-none}
 use Rattle.checking.proofs.check.has_room.Statement.{statement}

@@ -2,8 +2,8 @@
 use mathlib.Core.Path.{_≡_, refl}
 use mathlib.Core.Bool.{Bool, true, false, _&&_}
 use lib.Dec.{eqb}
-use Rattle.journals.specs.Files.{sameFile}
-use Rattle.journals.specs.declared.files.File.{File}
+use Rattle.store.specs.journals.Files.{sameFile}
+use Rattle.store.specs.declared.journals.files.File.{File}
 use Rattle.checking.proofs.check.same_file.Statement.{statement}
 use Rattle.checking.proofs.check.same_file.Tie as tie
 

@@ -5,7 +5,7 @@ use mathlib.Core.Logic.{⊎-elim}
 use Prim.Native.Nat.{ℕ, _+_, _-_, _≤_}
 use native.Mathlib.Omega.{arith}
 use lib.ListN.{length, take, length-set}
-use Rattle.journals.specs.Reads.{recordsAt}
+use Rattle.store.specs.journals.Reads.{recordsAt}
 use Rattle.working.specs.Working.{Behind}
 use Rattle.indexing.specs.Index.{candidate, listedIn}
 use Rattle.indexing.proofs.Listing.{file-none, file-yes, file-no, candidate-at}

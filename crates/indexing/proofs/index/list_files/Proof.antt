@@ -4,9 +4,9 @@ use Prim.Native.Nat.{ℕ, _+_, _-_, _≤_, _<_}
 use native.Mathlib.Omega.{arith}
 use lib.ListN.{length, take}
 use Rattle.laws.specs.Lists.{table}
-use Rattle.journals.specs.Files.{fileAt, recordsOf}
-use Rattle.journals.specs.declared.files.File.{File}
-use Rattle.journals.proofs.Counting.{records-none, records-next}
+use Rattle.store.specs.journals.Files.{fileAt, recordsOf}
+use Rattle.store.specs.declared.journals.files.File.{File}
+use Rattle.store.proofs.journals.Counting.{records-none, records-next}
 use Rattle.working.proofs.GatherLaws.{in-turn, begins, reports-few, objections-few}
 use Rattle.indexing.specs.Index.{Listed}
 use Rattle.indexing.proofs.Listing.{files-none, files-more, room}

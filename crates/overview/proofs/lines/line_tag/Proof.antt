@@ -1,7 +1,7 @@
 -- `overview::lines::line_tag` meets its contract. Assumes nothing.
 use mathlib.Core.Path.{ap}
 use Prim.Native.Nat.{_+_, _*_, _%_}
-use Rattle.numbers.specs.declared.lines.Line.{Line}
+use Rattle.store.specs.declared.numbers.lines.Line.{Line}
 use borrow.Author.Needs.{needs}
 use Rattle.overview.specs.Lines.{lineTag}
 use Rattle.overview.proofs.lines.line_tag.Statement.{statement}

@@ -1,6 +1,6 @@
 -- `renewing::named::is_earlier` meets its contract: among the first j, or not. Assumes nothing.
 use Prim.Native.Nat.{_%_}
-use Rattle.journals.specs.Reads.{recordsAt}
+use Rattle.store.specs.journals.Reads.{recordsAt}
 use Rattle.renewing.specs.Turns.{filedFrom}
 use Rattle.renewing.proofs.Repeats.{earlier-yes, earlier-no}
 use borrow.Author.Needs.{needs}

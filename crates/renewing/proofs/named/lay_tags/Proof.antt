@@ -6,7 +6,7 @@ use lib.ListN.{length, take}
 use Rattle.laws.specs.Lists.{table}
 use Rattle.laws.proofs.Tables.{lay-none, lay-next}
 use Rattle.order.specs.groups.Groups.{tag}
-use Rattle.journals.specs.Reads.{recordsAt}
+use Rattle.store.specs.journals.Reads.{recordsAt}
 use Rattle.renewing.specs.Turns.{filedFrom, frontFrom}
 use borrow.Author.Needs.{needs}
 use Rattle.renewing.proofs.named.lay_tags.Statement.{statement}

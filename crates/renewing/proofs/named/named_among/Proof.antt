@@ -5,7 +5,7 @@ use native.Mathlib.Omega.{arith}
 use lib.ListN.{take, drop}
 use Rattle.laws.specs.Lists.{any}
 use Rattle.laws.proofs.Loops.{any-on, any-found, any-passed}
-use Rattle.journals.specs.Reads.{recordsAt}
+use Rattle.store.specs.journals.Reads.{recordsAt}
 use Rattle.renewing.specs.Turns.{filedFrom, earlier}
 use Rattle.renewing.proofs.Repeats.{part-length, part-at}
 use borrow.Author.Needs.{needs}

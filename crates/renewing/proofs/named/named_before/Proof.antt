@@ -5,7 +5,7 @@ use native.Mathlib.Omega.{arith}
 use borrow.Author.Needs.{needs}
 use lib.ListN.{take, length-take}
 use Rattle.laws.specs.Lists.{any}
-use Rattle.journals.specs.Reads.{recordsAt}
+use Rattle.store.specs.journals.Reads.{recordsAt}
 use Rattle.indexing.specs.Index.{front}
 use Rattle.indexing.proofs.Grouping.{group-within, group-at}
 use Rattle.renewing.specs.Turns.{filedFrom, earlier}

@@ -1,5 +1,5 @@
 -- `renewing::named::number_at` meets its contract: the callees' contracts, one put into the other. Assumes nothing.
-use Rattle.journals.specs.Reads.{recordsAt}
+use Rattle.store.specs.journals.Reads.{recordsAt}
 use Rattle.renewing.proofs.Stages.{number-read}
 use borrow.Author.Needs.{needs}
 use Rattle.renewing.proofs.named.number_at.Statement.{statement}

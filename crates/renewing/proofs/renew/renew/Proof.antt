@@ -2,7 +2,7 @@
 use mathlib.Core.Path.{_≡_, refl}
 use Prim.Native.Nat.{_+_, _-_}
 use native.Mathlib.Omega.{arith}
-use Rattle.journals.specs.Files.{fileCount}
+use Rattle.store.specs.journals.Files.{fileCount}
 use Rattle.renewing.proofs.Loop.{workable, in-last, counted-last, renewed-last}
 use borrow.Author.Needs.{needs}
 use Rattle.renewing.proofs.renew.renew.Statement.{statement}

@@ -1,6 +1,6 @@
 -- `renewing::renew::renew_file` meets its contract: the file's records are tagged, the files are indexed for them, and the records are done. Assumes nothing.
 use borrow.Author.Needs.{needs}
-use Rattle.journals.specs.Reads.{recordsAt}
+use Rattle.store.specs.journals.Reads.{recordsAt}
 use Rattle.renewing.specs.Turns.{filedFrom}
 use Rattle.renewing.proofs.Repeats.{tagged-wanted}
 use Rattle.renewing.proofs.renew.renew_file.Statement.{statement}

@@ -3,7 +3,7 @@ use mathlib.Core.Path.{_≡_, subst}
 use Prim.Native.Nat.{ℕ, _-_, _≤_}
 use native.Mathlib.Omega.{arith}
 use lib.ListN.{length}
-use Rattle.journals.specs.Reads.{recordsAt, readFiles}
+use Rattle.store.specs.journals.Reads.{recordsAt, readFiles}
 use Rattle.renewing.specs.Turns.{filedFrom, Staged}
 use Rattle.renewing.proofs.Loop.{staged-none, staged-turn, still-workable}
 use borrow.Author.Needs.{needs}

@@ -1,6 +1,6 @@
 -- `renewing::turn::renew_record` meets its contract: an earlier record names the number, or it is worked out. Assumes nothing.
 use mathlib.Core.Path.{sym, _∙_}
-use Rattle.journals.specs.Reads.{recordsAt}
+use Rattle.store.specs.journals.Reads.{recordsAt}
 use Rattle.renewing.specs.Turns.{filedFrom}
 use Rattle.renewing.proofs.Steps.{seen-before, seen-first}
 use native.Mathlib.Omega.{arith}

@@ -3,7 +3,7 @@ use denote.Ref.{now}
 use mathlib.Core.Path.{sym, _∙_}
 use native.Mathlib.Omega.{arith}
 use borrow.Author.Tests.{not-true, not-false}
-use Rattle.journals.specs.Files.{fileCount}
+use Rattle.store.specs.journals.Files.{fileCount}
 use Rattle.store.specs.Reads.{lent}
 use Rattle.store.proofs.Checks.{long, few-lines}
 use Rattle.store.proofs.Whole.{whole-long, whole-table}

@@ -4,7 +4,7 @@ use mathlib.Core.Path.{_≡_, subst}
 use Prim.Native.Nat.{ℕ, _-_, _≤_}
 use native.Mathlib.Omega.{arith}
 use lib.ListN.{length, take}
-use Rattle.journals.specs.Reads.{readFiles}
+use Rattle.store.specs.journals.Reads.{readFiles}
 use Rattle.reworking.specs.Reworking.{LinesReworked}
 use Rattle.reworking.proofs.Lines.{none-yet, line-more, reworked-long, listed-long, reworked-few}
 use borrow.Author.Needs.{needs}

@@ -3,7 +3,7 @@ use denote.Ref.{now}
 use native.Mathlib.Omega.{arith}
 use mathlib.Core.Path.{refl, sym, _∙_}
 use borrow.Author.Tests.{not-true, not-false}
-use Rattle.journals.specs.Files.{filesOf, recordsOf}
+use Rattle.store.specs.journals.Files.{filesOf, recordsOf}
 use Rattle.store.proofs.Checks.{few-files, few-reports, few-corrections, counted, reports-bad, corrections-rest}
 use borrow.Author.Needs.{needs}
 use Rattle.store.proofs.readable.good_records.Statement.{statement}

@@ -4,9 +4,9 @@ use Prim.Native.Nat.{ℕ, _+_, _-_, _≤_, _<_}
 use native.Mathlib.Omega.{arith}
 use lib.ListN.{length}
 use Rattle.laws.specs.Lists.{table}
-use Rattle.journals.specs.Files.{fileAt, recordsOf}
-use Rattle.journals.proofs.Counting.{records-none, records-next}
-use Rattle.journals.specs.declared.files.File.{File}
+use Rattle.store.specs.journals.Files.{fileAt, recordsOf}
+use Rattle.store.proofs.journals.Counting.{records-none, records-next}
+use Rattle.store.specs.declared.journals.files.File.{File}
 use Rattle.working.specs.Working.{Gathered}
 use Rattle.working.proofs.GatherLaws.{gathered-none, gathered-turn, in-turn, room, begins, reports-few, objections-few}
 use borrow.Author.Needs.{needs}

@@ -4,7 +4,7 @@ use mathlib.Core.Logic.{⊎-elim}
 use Prim.Native.Nat.{ℕ, _+_, _-_, _≤_}
 use native.Mathlib.Omega.{arith}
 use lib.ListN.{length, length-set}
-use Rattle.journals.specs.Reads.{recordsAt}
+use Rattle.store.specs.journals.Reads.{recordsAt}
 use Rattle.working.specs.Slips.{keysIn}
 use Rattle.working.specs.Working.{Behind}
 use Rattle.working.proofs.GatherLaws.{behind-none, behind-yes, behind-no}

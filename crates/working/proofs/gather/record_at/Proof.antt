@@ -1,8 +1,8 @@
 -- `working::gather::record_at` meets its contract: the kind's case, and the callee's contract. Assumes nothing.
 use mathlib.Core.Path.{_≡_}
 use native.Mathlib.Omega.{arith}
-use Rattle.journals.specs.Records.{recordAt}
-use Rattle.journals.specs.Reads.{recordsAt}
+use Rattle.store.specs.journals.Records.{recordAt}
+use Rattle.store.specs.journals.Reads.{recordsAt}
 use borrow.Author.Needs.{needs}
 use Rattle.working.proofs.gather.record_at.Statement.{statement}
 use Rattle.working.proofs.gather.record_at.Tie as tie
