@@ -21,11 +21,11 @@ use Rattle.store.specs.Reads.{Buffers, lent, longEnough}
 use Rattle.entries.specs.declared.entry.Entry.{Entry}
 use Rattle.store.specs.numbers.Lines.{lineSlot, lineAt}
 use Rattle.store.specs.declared.numbers.lines.Line.{Line}
-use Rattle.tables.specs.Given.{tableOf, Spread}
+use Rattle.starting.specs.tables.Given.{tableOf, Spread}
 use Rattle.starting.specs.Start.{firstOf, firstSlot, answerOf, startAnswer, startBuffers, Starts, tableAfter, filesAfter, entriesAfter, tableWith, entriesWith, Entered, Begun}
 use Rattle.starting.specs.declared.start.Started.{Started}
 use Rattle.starting.specs.declared.start.Started.the-variants.{Done, Short, BadTable}
-use Rattle.tables.proofs.Spreading.{spread-part, lines-laid}
+use Rattle.starting.proofs.tables.Spreading.{spread-part, lines-laid}
 
 -- ---- the table
 pub table-written : (room : List ℕ) (n : ℕ) (t t₁ : List ℕ) → t₁ ≡ overlay t 0 (lowFirst 2 n) → overlay t₁ 2 (take (2 + n * 14 - 2) (drop 2 room)) ≡ tableWith room n t

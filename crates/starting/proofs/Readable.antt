@@ -30,15 +30,15 @@ use Rattle.store.proofs.entry_slots.Back.{first-fine, entry-back, entry-fine}
 use Rattle.store.specs.journals.Reads.{recordsAt, filedIn, firstFiles, readFiles}
 use Rattle.store.specs.Reads.{Buffers, tableLine, held, longEnough, goodTable, goodFiles, goodRecords, isReadable, reads}
 use Rattle.store.proofs.Checks.{Long, long, reads-some}
-use Rattle.tables.specs.declared.given.LineRead.{LineRead}
-use Rattle.tables.specs.declared.given.LineRead.the-variants.{Fault}
-use Rattle.tables.specs.Given.{lineGiven, endGiven, withLine, linesGiven, numberOfLine, checked, tableOf}
+use Rattle.starting.specs.declared.tables.given.LineRead.{LineRead}
+use Rattle.starting.specs.declared.tables.given.LineRead.the-variants.{Fault}
+use Rattle.starting.specs.tables.Given.{lineGiven, endGiven, withLine, linesGiven, numberOfLine, checked, tableOf}
 use Rattle.starting.specs.Start.{firstOf, firstSlot, answerOf, startAnswer, withTable, startBuffers, Starts, startedWith}
 use Rattle.starting.specs.declared.start.Started.{Started}
 use Rattle.starting.specs.declared.start.Started.the-variants.{Done, Short}
 use Rattle.starting.proofs.Beginning.{length-first}
-use Rattle.tables.proofs.Reading.{line-good}
-use Rattle.tables.proofs.Spreading.{noLine}
+use Rattle.starting.proofs.tables.Reading.{line-good}
+use Rattle.starting.proofs.tables.Spreading.{noLine}
 
 -- ---- what is known of a table that a text gives
 not-some : (ls : List Line) → none ≡ some ls → ⊥

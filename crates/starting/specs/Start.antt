@@ -14,7 +14,7 @@ use Rattle.store.specs.declared.numbers.lines.Line.{Line}
 use Rattle.store.specs.Reads.{Buffers, Held, tableLine, longEnough}
 use Rattle.entries.specs.Entry.{firstEntry}
 use Rattle.entries.specs.declared.entry.Entry.{Entry}
-use Rattle.tables.specs.Given.{tableOf}
+use Rattle.starting.specs.tables.Given.{tableOf}
 use Rattle.starting.specs.declared.start.Started.{Started}
 use Rattle.starting.specs.declared.start.Started.the-variants.{Done, Short, BadTable}
 

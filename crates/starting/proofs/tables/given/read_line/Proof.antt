@@ -1,12 +1,12 @@
--- `tables::given::read_line` meets its contract. Assumes nothing.
+-- `starting::tables::given::read_line` meets its contract. Assumes nothing.
 use mathlib.Core.Path.{sym, ap, _∙_}
 use Rattle.fields.specs.Code.{codeOf}
 use Rattle.fields.specs.Date.{dateFieldOf}
 use Rattle.fields.specs.Number.{digitsFieldOf, numberOf}
-use Rattle.tables.proofs.Reading.{line-count, line-four, four-1, four-empty, four-2, four-3, four-4, four-5}
+use Rattle.starting.proofs.tables.Reading.{line-count, line-four, four-1, four-empty, four-2, four-3, four-4, four-5}
 use borrow.Author.Needs.{needs}
-use Rattle.tables.proofs.given.read_line.Statement.{statement}
-use Rattle.tables.proofs.given.read_line.Tie as tie
+use Rattle.starting.proofs.tables.given.read_line.Statement.{statement}
+use Rattle.starting.proofs.tables.given.read_line.Tie as tie
 
 cuts-requires : tie.Need-cuts-requires
 cuts-requires c κs = search needs

@@ -1,12 +1,12 @@
--- `tables::scratch::judge` meets its contract. Assumes nothing.
+-- `starting::tables::scratch::judge` meets its contract. Assumes nothing.
 use denote.Ref.{now}
 use native.Mathlib.Omega.{arith}
 use mathlib.Core.Path.{sym, _∙_}
 use borrow.Author.Tests.{not-true, not-false}
-use Rattle.tables.proofs.Spreading.{judged-some, judged-none}
+use Rattle.starting.proofs.tables.Spreading.{judged-some, judged-none}
 use borrow.Author.Needs.{needs}
-use Rattle.tables.proofs.scratch.judge.Statement.{statement}
-use Rattle.tables.proofs.scratch.judge.Tie as tie
+use Rattle.starting.proofs.tables.scratch.judge.Statement.{statement}
+use Rattle.starting.proofs.tables.scratch.judge.Tie as tie
 
 lay-out-requires : tie.Need-lay-out-requires
 lay-out-requires c κs = search needs

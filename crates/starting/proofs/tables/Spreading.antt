@@ -24,10 +24,10 @@ use Rattle.store.specs.numbers.Lines.{lineSlot, lineOf, lineAt, numberAt, goodL
 use Rattle.store.specs.declared.numbers.lines.Line.{Line}
 use Rattle.store.proofs.numbers.Fitting.{good-roomy}
 use Rattle.store.proofs.numbers.Reading.{length-line, line-back}
-use Rattle.tables.specs.declared.given.LineRead.{LineRead}
-use Rattle.tables.specs.declared.given.LineRead.the-variants.{Fault}
-use Rattle.tables.specs.Given.{lineGiven, endGiven, withLine, linesGiven, numberOfLine, checked, tableOf, Spread}
-use Rattle.tables.proofs.Reading.{line-good}
+use Rattle.starting.specs.declared.tables.given.LineRead.{LineRead}
+use Rattle.starting.specs.declared.tables.given.LineRead.the-variants.{Fault}
+use Rattle.starting.specs.tables.Given.{lineGiven, endGiven, withLine, linesGiven, numberOfLine, checked, tableOf, Spread}
+use Rattle.starting.proofs.tables.Reading.{line-good}
 
 -- lines in front of lines, if there are any
 abbrev pub joined : List Line → Option (List Line) → Option (List Line)

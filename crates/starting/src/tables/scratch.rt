@@ -1,13 +1,13 @@
 // The given table is laid out line by line in room of its own and judged there, so that nothing lent is written before all of it
 // has been looked at.
-use crate::given;
-use crate::given::LineRead;
+use crate::tables::given;
+use crate::tables::given::LineRead;
 use store::numbers::lines;
 use store::numbers::twice;
 ghost use mathlib.Core.Path.{_≡_};
 ghost use Prim.Native.Nat.{_≤_};
 ghost use lib.ListN.{length};
-ghost use Rattle.tables.specs.Given.{LaidOut, Judged};
+ghost use Rattle.starting.specs.tables.Given.{LaidOut, Judged};
 
 // How many lines a well formed table has.
 pub enum Counted {

@@ -25,9 +25,9 @@ use Rattle.fields.proofs.DateLaws.{date-field-back}
 use Rattle.fields.proofs.NumberLaws.{digits-back, number-back}
 use Rattle.store.specs.numbers.Lines.{goodLine}
 use Rattle.store.specs.declared.numbers.lines.Line.{Line}
-use Rattle.tables.specs.declared.given.LineRead.{LineRead}
-use Rattle.tables.specs.declared.given.LineRead.the-variants.{Fault}
-use Rattle.tables.specs.Given.{onDigits, onNumber, onCode, onDate, fourOf, lineGiven}
+use Rattle.starting.specs.declared.tables.given.LineRead.{LineRead}
+use Rattle.starting.specs.declared.tables.given.LineRead.the-variants.{Fault}
+use Rattle.starting.specs.tables.Given.{onDigits, onNumber, onCode, onDate, fourOf, lineGiven}
 
 -- ---- how many fields there are
 module _ (l : List ℕ) where

@@ -22,10 +22,10 @@ use Rattle.fields.specs.declared.number.Number.{Number}
 use Rattle.fields.specs.declared.number.NumberRead.{NumberRead}
 use Rattle.store.specs.numbers.Lines.{lineSlot, goodLine}
 use Rattle.store.specs.declared.numbers.lines.Line.{Line}
-use Rattle.tables.specs.declared.given.LineRead.{LineRead}
-use Rattle.tables.specs.declared.given.LineRead.the-variants.{Fault}
-use Rattle.tables.specs.declared.scratch.Counted.{Counted}
-use Rattle.tables.specs.declared.scratch.Counted.the-variants.{Lines, Bad}
+use Rattle.starting.specs.declared.tables.given.LineRead.{LineRead}
+use Rattle.starting.specs.declared.tables.given.LineRead.the-variants.{Fault}
+use Rattle.starting.specs.declared.tables.scratch.Counted.{Counted}
+use Rattle.starting.specs.declared.tables.scratch.Counted.the-variants.{Lines, Bad}
 
 -- ---- what is found goes on to what makes the line of it; a fault is the line's
 abbrev pub onDigits : DigitsRead → (Digits → LineRead) → LineRead

@@ -9,7 +9,7 @@ use fields::number::Number;
 use fields::number::NumberRead;
 use store::numbers::lines::Line;
 ghost use mathlib.Core.Path.{_≡_};
-ghost use Rattle.tables.specs.Given.{lineGiven};
+ghost use Rattle.starting.specs.tables.Given.{lineGiven};
 
 pub enum LineRead {
     Line(Line),

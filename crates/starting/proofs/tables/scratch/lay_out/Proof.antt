@@ -1,13 +1,13 @@
--- `tables::scratch::lay_out` meets its contract. Assumes nothing.
+-- `starting::tables::scratch::lay_out` meets its contract. Assumes nothing.
 use Prim.Native.Nat.{_≤_, _-_}
-use Rattle.tables.proofs.Spreading.{turn-from, Turn, turn-start, turn-open, turn-many, turn-fault, turn-next, turn-end}
+use Rattle.starting.proofs.tables.Spreading.{turn-from, Turn, turn-start, turn-open, turn-many, turn-fault, turn-next, turn-end}
 use denote.Ref.{now}
 use native.Mathlib.Omega.{arith}
 use borrow.Author.Needs.{needs}
 use mathlib.Core.Path.{_≡_, refl, sym, _∙_}
 use lib.ListN.{length}
-use Rattle.tables.proofs.scratch.lay_out.Statement.{statement}
-use Rattle.tables.proofs.scratch.lay_out.Tie as tie
+use Rattle.starting.proofs.tables.scratch.lay_out.Statement.{statement}
+use Rattle.starting.proofs.tables.scratch.lay_out.Tie as tie
 
 abbrev Inv-loop : tie.InvT-loop
 Inv-loop text room₀ at₀ n₀ room at n = (length room ≡ length room₀) × Turn text room₀ at n room
