@@ -2,7 +2,7 @@
 use asking::entry;
 use asking::showable;
 use asking::stand;
-use indexing::index;
+use working::indexing::index;
 use store::journals::files;
 use store::numbers::lines;
 use store::readable;
@@ -17,7 +17,7 @@ ghost use Rattle.store.specs.entry_slots.Entries.{entryAt};
 ghost use Rattle.store.specs.Reads.{tableLine, lent, reads};
 ghost use Rattle.working.specs.Working.{Sound};
 ghost use Rattle.entries.specs.comparing.Same.{sameEntry};
-ghost use Rattle.indexing.specs.Index.{Wanted, Indexed};
+ghost use Rattle.working.specs.indexing.Index.{Wanted, Indexed};
 ghost use Rattle.answering.specs.Figure.{differs, differsShown, differing, figureAsked};
 
 // How many entries differ, or that the buffers do not read.
@@ -88,7 +88,7 @@ fn differing_by<'a>(
     let mut count = 0;
     let mut i = 0;
     while i < m {
-        let s = overview::lines::line_standing(
+        let s = working::overview::lines::line_standing(
             table,
             files,
             n,
@@ -126,7 +126,7 @@ fn differing_among<'a>(
     let mut keys = [0u64; 10240];
     let mut places = [0u64; 10240];
     let mut room = [0u64; 10240];
-    overview::lines::want_lines(table, m, &mut wanted);
+    working::overview::lines::want_lines(table, m, &mut wanted);
     let c = index::index(
         files,
         n,

@@ -21,8 +21,8 @@ use Rattle.fields.specs.Number.{sameNumber}
 use Rattle.fields.proofs.NumberLaws.{same-number}
 use Rattle.model.specs.Model.{Filed, eventAt, about}
 use Rattle.rules.specs.Rules.{rules}
-use Rattle.indexing.specs.Index.{front, Wanted}
-use Rattle.indexing.proofs.Grouping.{sorted-again}
+use Rattle.working.specs.indexing.Index.{front, Wanted}
+use Rattle.working.proofs.indexing.Grouping.{sorted-again}
 use Rattle.renewing.specs.Turns.{numberFrom, namedTo, earlier, frontFrom, Tagged}
 use Rattle.renewing.proofs.Some.{any-map, any-same, any-kept, any-upto}
 

@@ -20,7 +20,7 @@ use Rattle.store.specs.entry_slots.Entries.{entrySlot}
 use Rattle.store.specs.Reads.{tableLine}
 use Rattle.rules.specs.Rules.{rules}
 use Rattle.working.specs.Working.{Sound}
-use Rattle.indexing.specs.Index.{front, Wanted, Indexed}
+use Rattle.working.specs.indexing.Index.{front, Wanted, Indexed}
 
 -- a file whose records begin at `start` in its journal, as the model has it
 unfoldable pub filedFrom : (ℕ → ℕ → List ℕ) → File → ℕ → Filed

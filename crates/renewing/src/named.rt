@@ -1,8 +1,8 @@
 // The numbers that a file's records name: the records' places in order of the numbers' first fields, and whether an earlier record
 // names a number.
 use fields::number::Number;
-use indexing::index::FRONTS;
-use indexing::index::PLACES;
+use working::indexing::index::FRONTS;
+use working::indexing::index::PLACES;
 use store::journals::files::File;
 use working::gather;
 ghost use mathlib.Core.Path.{_≡_};

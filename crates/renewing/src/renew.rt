@@ -1,7 +1,7 @@
 // The entries of the numbers that the last file names.
 use crate::named;
 use crate::turn;
-use indexing::index;
+use working::indexing::index;
 use store::journals::files;
 use store::journals::files::File;
 use store::journals::sums;

@@ -3,7 +3,7 @@ use crate::named;
 use entries::entry::Line;
 use store::entry_slots::entry;
 use fields::number::Number;
-use indexing::find;
+use working::indexing::find;
 use store::journals::files::File;
 use store::numbers::lines;
 ghost use mathlib.Core.Path.{_≡_};

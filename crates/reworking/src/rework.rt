@@ -1,7 +1,7 @@
 // Every line's entry worked out afresh and written, and the places of those lines whose stored entry was another.
 use asking::stand;
 use store::entry_slots::entry;
-use indexing::index;
+use working::indexing::index;
 use store::numbers::lines;
 use store::readable;
 ghost use mathlib.Core.Path.{_≡_};
@@ -10,7 +10,7 @@ ghost use lib.ListN.{length, take};
 ghost use Rattle.store.specs.journals.Reads.{readFiles};
 ghost use Rattle.store.specs.Reads.{lent};
 ghost use Rattle.working.specs.Working.{Sound};
-ghost use Rattle.indexing.specs.Index.{Wanted, Indexed};
+ghost use Rattle.working.specs.indexing.Index.{Wanted, Indexed};
 ghost use Rattle.reworking.specs.Reworking.{Fitting, LineReworked, Noted, LinesReworked, Reworks};
 
 // How many entries changed, or that the buffers do not read or the list has no room.
@@ -41,7 +41,7 @@ fn rework_line<'a>(
     requires { ⌜ (2 + i * 14 + 14 ≤ length (now table)) × (i * 100 + 100 ≤ length (now entries)) ⌝ }
     ensures { λ r. ⌜ LineReworked (take n (readFiles (now (files .entry)) (now (regular .entry)) (now (corrections .entry)))) (now (table .entry)) i (now (entries .entry)) (now (entries .exit)) r ⌝ }
 {
-    let s = overview::lines::line_standing(
+    let s = working::overview::lines::line_standing(
         table,
         files,
         n,
@@ -141,7 +141,7 @@ fn rework_all<'a>(
     let mut keys = [0u64; 10240];
     let mut places = [0u64; 10240];
     let mut room = [0u64; 10240];
-    overview::lines::want_lines(table, m, &mut wanted);
+    working::overview::lines::want_lines(table, m, &mut wanted);
     let c = index::index(
         files,
         n,

@@ -1,2 +1,4 @@
 pub mod Slips
 pub mod Working
+pub mod indexing
+pub mod overview

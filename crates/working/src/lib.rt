@@ -3,3 +3,5 @@
 pub mod before;
 pub mod gather;
 pub mod work;
+pub mod indexing;
+pub mod overview;

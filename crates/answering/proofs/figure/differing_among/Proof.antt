@@ -1,7 +1,7 @@
 -- `answering::figure::differing_among` meets its contract: the lines' tags are in order, so that they may be wanted. Assumes nothing.
 use denote.Ref.{now}
 use native.Mathlib.Omega.{arith}
-use Rattle.overview.proofs.Wanting.{wanted-sorted}
+use Rattle.working.proofs.overview.Wanting.{wanted-sorted}
 use borrow.Author.Needs.{needs}
 use Rattle.answering.proofs.figure.differing_among.Statement.{statement}
 use Rattle.answering.proofs.figure.differing_among.Tie as tie

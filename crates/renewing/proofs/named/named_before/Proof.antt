@@ -6,8 +6,8 @@ use borrow.Author.Needs.{needs}
 use lib.ListN.{take, length-take}
 use Rattle.laws.specs.Lists.{any}
 use Rattle.store.specs.journals.Reads.{recordsAt}
-use Rattle.indexing.specs.Index.{front}
-use Rattle.indexing.proofs.Grouping.{group-within, group-at}
+use Rattle.working.specs.indexing.Index.{front}
+use Rattle.working.proofs.indexing.Grouping.{group-within, group-at}
 use Rattle.renewing.specs.Turns.{filedFrom, earlier}
 use Rattle.renewing.proofs.Repeats.{tagged-ordered, named-group}
 use Rattle.renewing.proofs.Stages.{all-read}

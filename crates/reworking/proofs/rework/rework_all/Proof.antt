@@ -1,6 +1,6 @@
 -- `reworking::rework::rework_all` meets its contract: the lines' tags are in order, so that they may be wanted. Assumes nothing.
 use native.Mathlib.Omega.{arith}
-use Rattle.overview.proofs.Wanting.{wanted-sorted}
+use Rattle.working.proofs.overview.Wanting.{wanted-sorted}
 use borrow.Author.Needs.{needs}
 use Rattle.reworking.proofs.rework.rework_all.Statement.{statement}
 use Rattle.reworking.proofs.rework.rework_all.Tie as tie
