@@ -6,9 +6,9 @@ cd "$(dirname "$0")/.."
 theorems=crates/outcomes/proofs/Outcomes.antt
 
 # rooms of a caller's own, that no user lends: what stands behind the keys and places laid, and what a table that is refused left
-exceptions='working::gather::gather_all working::indexing::index::index working::indexing::find::gather_indexed renewing::named::tag_file starting::tables::scratch::judge'
+exceptions='working::gather::gather_all working::indexing::index::index working::indexing::find::gather_indexed filing::renewing::named::tag_file starting::tables::scratch::judge'
 # rooms of a caller's own too, lent down so that they aren't cleared for each number: only what becomes of `room` is left out, all else is asked
-rooms='working::indexing::find::work_indexed working::overview::lines::line_standing renewing::turn::renew_record'
+rooms='working::indexing::find::work_indexed working::overview::lines::line_standing filing::renewing::turn::renew_record'
 # the program's crates: what they print and keep has no contract, and is tested
 program='desk words disk shown commands offers questions reasons'
 

@@ -5,12 +5,12 @@ use mathlib.Core.List.{List}
 use Prim.Native.Nat.{ℕ}
 use lib.Dec.{eqb, leb}
 use Rattle.store.specs.Reads.{Buffers, held}
-use Rattle.entering.specs.declared.kind.Filable.{Filable}
-use Rattle.entering.specs.declared.kind.Filable.the-variants.{Default, Correction}
-use Rattle.checking.specs.declared.answer.Answer.{Answer}
-use Rattle.checking.specs.declared.answer.Answer.the-variants.{Unreadable, NoCode, NoDay, FiledAlready, Full}
-use Rattle.checking.specs.Answers.{answerNumber}
-use Rattle.checking.specs.Filing.{Decision, decide}
+use Rattle.filing.specs.declared.entering.kind.Filable.{Filable}
+use Rattle.filing.specs.declared.entering.kind.Filable.the-variants.{Default, Correction}
+use Rattle.filing.specs.declared.checking.answer.Answer.{Answer}
+use Rattle.filing.specs.declared.checking.answer.Answer.the-variants.{Unreadable, NoCode, NoDay, FiledAlready, Full}
+use Rattle.filing.specs.checking.Answers.{answerNumber}
+use Rattle.filing.specs.checking.Filing.{Decision, decide}
 use Rattle.filing.specs.Effect.{answerTo, buffersAfter}
 use Rattle.capi.specs.declared.told.Told.{Told}
 use Rattle.capi.specs.declared.told.Told.the-variants.{Count}

@@ -14,19 +14,19 @@ use Rattle.store.specs.numbers.Lines.{linesOf}
 use Rattle.model.specs.Model.{Filed, countOf}
 use Rattle.rules.specs.Rules.{rules}
 use Rattle.store.specs.Reads.{Buffers, tableLine, held, isReadable, lent}
-use Rattle.entering.specs.declared.kind.Filable.{Filable}
-use Rattle.entering.specs.Entering.{fileKind, filedAs, entered, Enterable, Joined}
-use Rattle.entering.proofs.Entered.{entered-readable, entered-files}
-use Rattle.fitting.specs.Renewing.{renewedEntries, lastFiled}
-use Rattle.fitting.proofs.Renewed.{last-filed}
-use Rattle.checking.specs.declared.answer.Answer.{Answer}
-use Rattle.checking.specs.declared.answer.Answer.the-variants.{Unreadable}
-use Rattle.checking.specs.declared.check.Checked.{Checked}
-use Rattle.checking.specs.declared.check.Checked.the-variants.{Refused, Passed}
-use Rattle.checking.specs.Checks.{checked}
-use Rattle.checking.specs.Filing.{Decision, Refuse, Accept, decide, decisionOf}
-use Rattle.checking.proofs.Stored.{held-count}
-use Rattle.checking.proofs.Deciding.{decided, decided-unreadable}
+use Rattle.filing.specs.declared.entering.kind.Filable.{Filable}
+use Rattle.filing.specs.entering.Entering.{fileKind, filedAs, entered, Enterable, Joined}
+use Rattle.filing.proofs.entering.Entered.{entered-readable, entered-files}
+use Rattle.filing.specs.fitting.Renewing.{renewedEntries, lastFiled}
+use Rattle.filing.proofs.fitting.Renewed.{last-filed}
+use Rattle.filing.specs.declared.checking.answer.Answer.{Answer}
+use Rattle.filing.specs.declared.checking.answer.Answer.the-variants.{Unreadable}
+use Rattle.filing.specs.declared.checking.check.Checked.{Checked}
+use Rattle.filing.specs.declared.checking.check.Checked.the-variants.{Refused, Passed}
+use Rattle.filing.specs.checking.Checks.{checked}
+use Rattle.filing.specs.checking.Filing.{Decision, Refuse, Accept, decide, decisionOf}
+use Rattle.filing.proofs.checking.Stored.{held-count}
+use Rattle.filing.proofs.checking.Deciding.{decided, decided-unreadable}
 use Rattle.filing.specs.Effect.{renewedIn, filedInto, answerTo, buffersAfter, Files, Accepted}
 
 -- ---- an accepted file

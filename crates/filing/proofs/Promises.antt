@@ -22,24 +22,24 @@ use Rattle.rules.proofs.Promises.{entries-worked-afresh}
 use Rattle.store.specs.Reads.{Buffers, Held, tableLine, held, isReadable, reads}
 use Rattle.store.proofs.Checks.{long, few-lines, reads-some}
 use Rattle.store.proofs.Whole.{whole-long, whole-table}
-use Rattle.entering.specs.declared.kind.Filable.{Filable}
-use Rattle.entering.specs.Entering.{fileKind, filedAs, entered, Enterable}
-use Rattle.entering.proofs.Entered.{entered-readable, entered-files}
-use Rattle.fitting.specs.Renewing.{renewedSlot}
-use Rattle.fitting.proofs.Renewed.{renewed-reads}
-use Rattle.renewing.proofs.Renewed.{renewed-slot}
+use Rattle.filing.specs.declared.entering.kind.Filable.{Filable}
+use Rattle.filing.specs.entering.Entering.{fileKind, filedAs, entered, Enterable}
+use Rattle.filing.proofs.entering.Entered.{entered-readable, entered-files}
+use Rattle.filing.specs.fitting.Renewing.{renewedSlot}
+use Rattle.filing.proofs.fitting.Renewed.{renewed-reads}
+use Rattle.filing.proofs.renewing.Renewed.{renewed-slot}
 use Rattle.store.specs.journals.Reads.{readFiles}
 use Rattle.store.specs.numbers.Lines.{lineCount, lineAt}
 use Rattle.store.specs.declared.numbers.lines.Line.{Line}
 use Rattle.starting.specs.Start.{firstOf, startedWith, Starts}
 use Rattle.starting.proofs.Readable.{started-reads}
-use Rattle.checking.specs.declared.answer.Answer.{Answer}
-use Rattle.checking.specs.declared.check.Checked.{Checked}
-use Rattle.checking.specs.declared.check.Checked.the-variants.{Refused, Passed}
-use Rattle.checking.specs.Checks.{checked}
-use Rattle.checking.specs.Filing.{Decision, Refuse, Accept, decide, decisionOf}
-use Rattle.checking.proofs.Deciding.{decided, decided-unreadable, passed-enterable}
-use Rattle.checking.proofs.Stored.{already-alike}
+use Rattle.filing.specs.declared.checking.answer.Answer.{Answer}
+use Rattle.filing.specs.declared.checking.check.Checked.{Checked}
+use Rattle.filing.specs.declared.checking.check.Checked.the-variants.{Refused, Passed}
+use Rattle.filing.specs.checking.Checks.{checked}
+use Rattle.filing.specs.checking.Filing.{Decision, Refuse, Accept, decide, decisionOf}
+use Rattle.filing.proofs.checking.Deciding.{decided, decided-unreadable, passed-enterable}
+use Rattle.filing.proofs.checking.Stored.{already-alike}
 use Rattle.filing.specs.Effect.{renewedIn, filedInto, answerTo, buffersAfter, Files, storeOf, Came, start, file}
 
 -- a file that may be entered

@@ -5,13 +5,13 @@ use Prim.Native.Nat.{ℕ}
 use Rattle.model.specs.Model.{Filed, Store, countOf}
 use Rattle.rules.specs.Rules.{rules}
 use Rattle.store.specs.Reads.{Buffers, Held, held}
-use Rattle.entering.specs.declared.kind.Filable.{Filable}
-use Rattle.entering.specs.Entering.{entered}
-use Rattle.fitting.specs.Renewing.{renewedEntries}
+use Rattle.filing.specs.declared.entering.kind.Filable.{Filable}
+use Rattle.filing.specs.entering.Entering.{entered}
+use Rattle.filing.specs.fitting.Renewing.{renewedEntries}
 use Rattle.starting.specs.declared.start.Started.the-variants.{Done}
 use Rattle.starting.specs.Start.{Starts}
-use Rattle.checking.specs.declared.answer.Answer.{Answer}
-use Rattle.checking.specs.Filing.{Decision, Refuse, Accept, decide}
+use Rattle.filing.specs.declared.checking.answer.Answer.{Answer}
+use Rattle.filing.specs.checking.Filing.{Decision, Refuse, Accept, decide}
 
 -- ---- the buffers
 -- the entries of the numbers that the file names, worked out afresh from all files held; every other byte stays

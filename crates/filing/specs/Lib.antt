@@ -1,1 +1,5 @@
 pub mod Effect
+pub mod checking
+pub mod entering
+pub mod fitting
+pub mod renewing

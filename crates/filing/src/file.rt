@@ -1,15 +1,15 @@
 // Filing a file, or refusing it.
 use calendar::dates::CalendarDays;
-use checking::answer::Answer;
-use checking::check;
-use checking::check::Checked;
-use entering::enter;
-use entering::kind::Filable;
+use crate::checking::answer::Answer;
+use crate::checking::check;
+use crate::checking::check::Checked;
+use crate::entering::enter;
+use crate::entering::kind::Filable;
 use fields::code::Code;
-use renewing::renew;
+use crate::renewing::renew;
 use store::readable;
 ghost use mathlib.Core.Path.{_≡_};
-ghost use Rattle.entering.specs.Entering.{filedAs, Enterable};
+ghost use Rattle.filing.specs.entering.Entering.{filedAs, Enterable};
 ghost use Rattle.store.specs.Reads.{lent};
 ghost use Rattle.filing.specs.Effect.{Files, Accepted};
 

@@ -3,7 +3,7 @@ use calendar::dates;
 use calendar::dates::CalendarDays;
 use calendar::dates::Date;
 use calendar::dates::Found;
-use entering::kind::Filable;
+use filing::entering::kind::Filable;
 use text::Spelt;
 
 pub fn piece(line: &[u8], k: usize) -> &[u8] {

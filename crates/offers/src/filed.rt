@@ -1,20 +1,20 @@
 // What is asked of the library: one file, filed. Why a file is refused with 4 is said at once, since its text is at hand.
 use crate::kept::Told;
 use calendar::dates::CalendarDays;
-use checking::answer::Answer;
+use filing::checking::answer::Answer;
 use disk::CORRECTIONS;
 use disk::ENTRIES;
 use disk::FILES;
 use disk::REGULAR;
 use disk::TABLE;
-use entering::kind::Filable;
+use filing::entering::kind::Filable;
 use faults::cause::Cause;
 use faults::cause::FaultPlace;
 
 // An answer that is its number, and the count of a 0.
 fn plain(a: Answer, value: usize) -> Told {
     Told {
-        number: checking::answer::number(a),
+        number: filing::checking::answer::number(a),
         value,
         field: 0,
         cause: 0,

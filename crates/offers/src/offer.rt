@@ -11,7 +11,7 @@ use disk::ENTRIES;
 use disk::FILES;
 use disk::REGULAR;
 use disk::TABLE;
-use entering::kind::Filable;
+use filing::entering::kind::Filable;
 use fields::code::Code;
 use fields::code::CodeRead;
 use records::names::kind::FileKind;

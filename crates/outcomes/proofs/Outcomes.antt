@@ -15,16 +15,16 @@ use Rattle.records.specs.names.Written.{Wrote}
 use Rattle.store.specs.Reads.{Buffers}
 use Rattle.starting.specs.declared.start.Started.{Started}
 use Rattle.starting.specs.Start.{Starts}
-use Rattle.entering.specs.declared.kind.Filable.{Filable}
-use Rattle.checking.specs.declared.answer.Answer.{Answer}
+use Rattle.filing.specs.declared.entering.kind.Filable.{Filable}
+use Rattle.filing.specs.declared.checking.answer.Answer.{Answer}
 use Rattle.filing.specs.Effect.{Files}
 use Rattle.model.specs.Model.{Filed}
 use Rattle.verdict.specs.declared.step.Standing.{Standing}
 use Rattle.store.specs.numbers.Lines.{lineCount}
 use Rattle.working.specs.Working.{WorkedAfresh}
-use Rattle.renewing.specs.Turns.{countTo, RecordRenewed}
-use Rattle.entering.specs.Entering.{Joined}
-use Rattle.entering.proofs.Joining.{joined-one}
+use Rattle.filing.specs.renewing.Turns.{countTo, RecordRenewed}
+use Rattle.filing.specs.entering.Entering.{Joined}
+use Rattle.filing.proofs.entering.Joining.{joined-one}
 use Rattle.files.specs.declared.judge.Judged.{Judged}
 use Rattle.asking.specs.declared.entry.EntryAnswer.{EntryAnswer}
 use Rattle.pairs.specs.declared.WhyAnswer.{WhyAnswer}

@@ -2,10 +2,10 @@
 use mathlib.Core.Bool.{cond}
 use Prim.Native.Nat.{ℕ}
 use lib.Dec.{eqb}
-use Rattle.entering.specs.declared.kind.Filable.{Filable}
-use Rattle.entering.specs.declared.kind.Filable.the-variants.{Default, Correction}
-use Rattle.checking.specs.declared.check.Checked.{Checked}
-use Rattle.checking.specs.declared.check.Checked.the-variants.{Refused, Passed}
+use Rattle.filing.specs.declared.entering.kind.Filable.{Filable}
+use Rattle.filing.specs.declared.entering.kind.Filable.the-variants.{Default, Correction}
+use Rattle.filing.specs.declared.checking.check.Checked.{Checked}
+use Rattle.filing.specs.declared.checking.check.Checked.the-variants.{Refused, Passed}
 
 -- 0 default, any other correction
 unfoldable pub filableBy : ℕ → Filable

@@ -1,12 +1,12 @@
 // The parts of filing by themselves, so that bench/ can time each. They are no interface: each asks for what the parts before it have found, and
 // whoever files a file calls `dagskimra_file` of crate `capi`.
 use calendar::dates::CalendarDays;
-use checking::check;
-use checking::check::Checked;
-use entering::enter;
-use entering::kind::Filable;
+use filing::checking::check;
+use filing::checking::check::Checked;
+use filing::entering::enter;
+use filing::entering::kind::Filable;
 use fields::code::Code;
-use renewing::renew;
+use filing::renewing::renew;
 ghost use mathlib.Core.Path.{_≡_};
 ghost use mathlib.Core.Bool.{true};
 ghost use mathlib.Core.List.{map};
@@ -20,9 +20,9 @@ ghost use Rattle.store.specs.journals.Reads.{readFiles};
 ghost use Rattle.store.specs.numbers.Lines.{linesOf};
 ghost use Rattle.store.specs.Reads.{lent, isReadable, goodFiles, tableLine};
 ghost use Rattle.rules.specs.Rules.{rules};
-ghost use Rattle.entering.specs.Entering.{fileKind, filedAs, Ready, Joined};
-ghost use Rattle.fitting.specs.Renewing.{lastFiled, renewedEntries};
-ghost use Rattle.checking.specs.Checks.{checked};
+ghost use Rattle.filing.specs.entering.Entering.{fileKind, filedAs, Ready, Joined};
+ghost use Rattle.filing.specs.fitting.Renewing.{lastFiled, renewedEntries};
+ghost use Rattle.filing.specs.checking.Checks.{checked};
 ghost use Rattle.phases.specs.Phases.{filableBy, passed};
 
 // The kind that is filed: 0 default, any other number correction.

@@ -21,7 +21,7 @@ use Rattle.store.specs.numbers.Lines.{linesOf}
 use Rattle.store.specs.Reads.{Buffers, Held, lent, tableLine, held, isReadable, reads}
 use Rattle.store.proofs.Checks.{reads-some}
 use Rattle.store.proofs.Whole.{whole-files, files-once}
-use Rattle.checking.proofs.Stored.{held-once}
+use Rattle.filing.proofs.checking.Stored.{held-once}
 use Rattle.filing.specs.Effect.{storeOf}
 use Rattle.filing.proofs.Promises.{read-so, filed-on}
 use Rattle.reworking.specs.declared.rework.Reworked.{Reworked}

@@ -3,8 +3,8 @@ use mathlib.Core.List.{List}
 use Prim.Native.Nat.{ℕ, _≤_}
 use lib.ListN.{length}
 use Rattle.store.specs.Reads.{Buffers, lent, held}
-use Rattle.entering.specs.declared.kind.Filable.{Filable}
-use Rattle.checking.specs.declared.answer.Answer.{Answer}
+use Rattle.filing.specs.declared.entering.kind.Filable.{Filable}
+use Rattle.filing.specs.declared.checking.answer.Answer.{Answer}
 use Rattle.filing.specs.Effect.{Files}
 use Rattle.reworking.specs.declared.rework.Reworked.the-variants.{Changed}
 use Rattle.reworking.specs.Reworking.{Reworks}

@@ -23,7 +23,7 @@ use Rattle.store.specs.entry_slots.Entries.{entryAt}
 use Rattle.store.specs.Reads.{Buffers, Held, tableLine, held, isReadable, reads}
 use Rattle.store.proofs.Checks.{reads-some, reads-none}
 use Rattle.store.proofs.entry_slots.Back.{length-entry}
-use Rattle.fitting.proofs.Worked.{worked-fits}
+use Rattle.filing.proofs.fitting.Worked.{worked-fits}
 use Rattle.asking.proofs.Standings.{among-files}
 use Rattle.answering.specs.Figure.{differs}
 use Rattle.answering.proofs.Figures.{zip-table}

@@ -33,7 +33,7 @@ use Rattle.store.proofs.entry_slots.Back.{length-entry, entry-back, entry-fine}
 use Rattle.store.specs.Reads.{Buffers, lent, tableLine, held, longEnough, isReadable, reads}
 use Rattle.store.proofs.Checks.{long, few-lines, read-entries, reads-some}
 use Rattle.store.proofs.Whole.{whole-long, whole-table, whole-files, whole-records}
-use Rattle.fitting.proofs.Worked.{worked-fits}
+use Rattle.filing.proofs.fitting.Worked.{worked-fits}
 use Rattle.answering.specs.Figure.{differs}
 use Rattle.reworking.specs.Reworking.{workedSlot, reworkedEntries, places, changedLines, reworkAnswer, withRoom, lineOf}
 use Rattle.reworking.specs.declared.rework.Reworked.{Reworked}

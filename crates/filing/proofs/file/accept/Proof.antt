@@ -1,5 +1,5 @@
 -- `filing::file::accept` meets its contract. Assumes nothing.
-use Rattle.entering.proofs.Entered.{enterable-ready}
+use Rattle.filing.proofs.entering.Entered.{enterable-ready}
 use Rattle.filing.proofs.Accepting.{joined-readable, joined-some, accepted}
 use borrow.Author.Needs.{needs}
 use Rattle.filing.proofs.file.accept.Statement.{statement}

@@ -5,7 +5,7 @@ use borrow.Author.Tests.{not-true, not-false}
 use Rattle.store.specs.Reads.{lent}
 use Rattle.store.proofs.Checks.{long}
 use Rattle.store.proofs.Whole.{whole-long, whole-files}
-use Rattle.checking.proofs.Deciding.{passed-enterable}
+use Rattle.filing.proofs.checking.Deciding.{passed-enterable}
 use Rattle.filing.proofs.Accepting.{files-unreadable, files-refused, files-accepted}
 use borrow.Author.Needs.{needs}
 use Rattle.filing.proofs.file.file.Statement.{statement}
