@@ -11,8 +11,8 @@ use Rattle.verdict.specs.declared.step.Why.{Why}
 use Rattle.store.specs.journals.Files.{fileAt, recordsIn, recordsOf}
 use Rattle.store.specs.journals.Reads.{filedAfter, filedIn, firstFiles, recordsAt}
 use Rattle.store.specs.declared.journals.files.File.{File}
-use Rattle.pairs.specs.declared.WhyAnswer.{WhyAnswer}
-use Rattle.pairs.specs.Pairs.{isListedOf, startBy, listedAs, listedPair}
+use Rattle.asking.specs.declared.pairs.WhyAnswer.{WhyAnswer}
+use Rattle.asking.specs.pairs.Pairs.{isListedOf, startBy, listedAs, listedPair}
 use Rattle.asking.specs.Why.{isFileOf, reportsIn, startIn, storedAs, pairOf}
 
 -- ---- the list of files and the model's files

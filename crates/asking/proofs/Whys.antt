@@ -17,11 +17,11 @@ use Rattle.store.specs.numbers.Lines.{lineAt, lineCount}
 use Rattle.store.specs.numbers.Find.{foundLine}
 use Rattle.store.specs.declared.numbers.find.FoundLine.the-variants.{At, Unknown}
 use Rattle.store.specs.Reads.{tableLine}
-use Rattle.pairs.specs.declared.WhyAnswer.{WhyAnswer}
-use Rattle.pairs.specs.declared.WhyAnswer.the-variants.{UnknownNumber, Unreadable}
+use Rattle.asking.specs.declared.pairs.WhyAnswer.{WhyAnswer}
+use Rattle.asking.specs.declared.pairs.WhyAnswer.the-variants.{UnknownNumber, Unreadable}
 use Rattle.asking.specs.Showable.{isShowable}
 use Rattle.asking.specs.Standing.{linesIn}
-use Rattle.pairs.specs.Pairs.{listedPair}
+use Rattle.asking.specs.pairs.Pairs.{listedPair}
 use Rattle.asking.specs.Why.{pairOf, whyOn, whyIn, whyShown}
 use Rattle.asking.proofs.Lines.{found-line, no-line}
 use Rattle.asking.proofs.Showing.{showable}

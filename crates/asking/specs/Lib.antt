@@ -4,3 +4,5 @@ pub mod Items
 pub mod Standing
 pub mod Why
 pub mod Record
+pub mod answering
+pub mod pairs

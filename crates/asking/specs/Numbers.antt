@@ -1,7 +1,7 @@
 -- The number of each answer in paper 01, and what it says. Assumes nothing: these are definitions.
 use Prim.Native.Nat.{ℕ}
 use Rattle.asking.specs.declared.answer.Answer.{Answer}
-use Rattle.pairs.specs.declared.WhyAnswer.{WhyAnswer}
+use Rattle.asking.specs.declared.pairs.WhyAnswer.{WhyAnswer}
 use Rattle.asking.specs.declared.record.Asked.{Asked}
 
 -- where a number stands, and its entry

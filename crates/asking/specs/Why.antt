@@ -14,9 +14,9 @@ use Rattle.model.specs.Model.{Filed, entryOver, lineOf}
 use Rattle.store.specs.journals.Reads.{readFiles}
 use Rattle.store.specs.journals.Records.{recordIn}
 use Rattle.rules.specs.Rules.{rules, standings}
-use Rattle.pairs.specs.declared.Stored.{Stored}
-use Rattle.pairs.specs.declared.WhyAnswer.{WhyAnswer}
-use Rattle.pairs.specs.declared.WhyAnswer.the-variants.{UnknownNumber, Unreadable}
+use Rattle.asking.specs.declared.pairs.Stored.{Stored}
+use Rattle.asking.specs.declared.pairs.WhyAnswer.{WhyAnswer}
+use Rattle.asking.specs.declared.pairs.WhyAnswer.the-variants.{UnknownNumber, Unreadable}
 use Rattle.asking.specs.Showable.{isShowable}
 use Rattle.asking.specs.Standing.{linesIn}
 

@@ -5,3 +5,5 @@ pub mod record;
 pub mod showable;
 pub mod stand;
 pub mod why;
+pub mod answering;
+pub mod pairs;

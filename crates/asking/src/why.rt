@@ -8,7 +8,7 @@ use store::journals::records::Journal;
 use store::journals::records::REPORTS;
 use store::numbers::find;
 use store::numbers::find::FoundLine;
-use pairs::WhyAnswer;
+use crate::pairs::WhyAnswer;
 ghost use mathlib.Core.Path.{_≡_};
 ghost use Rattle.asking.specs.Why.{whyShown, firstPlace, secondPlace, partAt};
 
@@ -31,7 +31,7 @@ pub fn why<'a>(
             let n = files::file_count(files);
             let s = stand::standing_at(table, files, n, regular, corrections, i);
             let w = s.why;
-            pairs::pair_in(files, n, w)
+            crate::pairs::pair_in(files, n, w)
         }
         FoundLine::Unknown => WhyAnswer::UnknownNumber,
     }

@@ -1,7 +1,7 @@
 // What the store answers: where each number stands and why, each record with its verdict, the figure.
 use crate::print;
-use answering::figure;
-use answering::figure::FigureAnswer;
+use asking::answering::figure;
+use asking::answering::figure::FigureAnswer;
 use asking::record;
 use asking::record::Asked;
 use asking::stand;
@@ -10,8 +10,8 @@ use entries::entry::Last;
 use fields::number::Number;
 use store::journals::records::Journal;
 use store::numbers::lines;
-use pairs::Stored;
-use pairs::WhyAnswer;
+use asking::pairs::Stored;
+use asking::pairs::WhyAnswer;
 
 fn show_stored(s: Stored) {
     print::text(b" at ");

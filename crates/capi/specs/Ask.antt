@@ -7,10 +7,10 @@ use Rattle.store.specs.declared.journals.records.Journal.{Journal}
 use Rattle.store.specs.declared.journals.records.Journal.the-variants.{Regular, Correction}
 use Rattle.verdict.specs.verdicts.Numbers.{numberOf}
 use Rattle.asking.specs.declared.record.Asked.{Asked}
-use Rattle.pairs.specs.declared.WhyAnswer.{WhyAnswer}
+use Rattle.asking.specs.declared.pairs.WhyAnswer.{WhyAnswer}
 use Rattle.asking.specs.Numbers.{whyNumber, askedNumber}
 use Rattle.asking.specs.Why.{firstPlace, secondPlace}
-use Rattle.answering.specs.declared.figure.FigureAnswer.{FigureAnswer}
+use Rattle.asking.specs.declared.answering.figure.FigureAnswer.{FigureAnswer}
 
 -- the journals by number: 0 the regular one, any other the correction journal
 unfoldable pub journalBy : ℕ → Journal

@@ -1,19 +1,19 @@
 // Asking a whole store: 44 before all else.
-use answering::figure;
-use answering::figure::FigureAnswer;
-use answering::whole;
+use asking::answering::figure;
+use asking::answering::figure::FigureAnswer;
+use asking::answering::whole;
 use asking::record::Asked;
 use asking::record::AskedRecord;
 use store::journals::records::Journal;
 use store::journals::records::REPORTS;
-use pairs::WhyAnswer;
+use asking::pairs::WhyAnswer;
 ghost use mathlib.Core.Path.{_≡_};
 ghost use Rattle.verdict.specs.verdicts.Numbers.{numberOf};
 ghost use Rattle.store.specs.Reads.{lent, reads};
 ghost use Rattle.asking.specs.Numbers.{whyNumber, askedNumber};
 ghost use Rattle.asking.specs.Why.{firstPlace, secondPlace};
-ghost use Rattle.answering.specs.Whole.{numberGiven, whyAsked, recordAsked};
-ghost use Rattle.answering.specs.Figure.{figureAsked};
+ghost use Rattle.asking.specs.answering.Whole.{numberGiven, whyAsked, recordAsked};
+ghost use Rattle.asking.specs.answering.Figure.{figureAsked};
 ghost use Rattle.capi.specs.Ask.{journalBy, publisherTold, dayTold, placeTold, verdictTold, figureNumber, figureMore, TellsWhy, TellsRecord, TellsFigure};
 
 // ---- answers as numbers

@@ -1,12 +1,12 @@
 // The entry of a number in 100 bytes: holder and last confirmed date, then eight places.
-use answering::whole;
+use asking::answering::whole;
 use asking::answer::Answer;
 use asking::entry::EntryAnswer;
 use store::entry_slots::entry;
 ghost use mathlib.Core.Path.{_≡_};
 ghost use Rattle.store.specs.Reads.{lent, reads};
 ghost use Rattle.asking.specs.Numbers.{numberOf};
-ghost use Rattle.answering.specs.Whole.{numberGiven, entryAsked, beforeAsked};
+ghost use Rattle.asking.specs.answering.Whole.{numberGiven, entryAsked, beforeAsked};
 ghost use Rattle.capi.specs.Show.{ShowsEntry};
 
 fn number(a: Answer) -> u8

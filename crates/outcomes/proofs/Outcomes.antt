@@ -27,9 +27,9 @@ use Rattle.filing.specs.entering.Entering.{Joined}
 use Rattle.filing.proofs.entering.Joining.{joined-one}
 use Rattle.files.specs.declared.judge.Judged.{Judged}
 use Rattle.asking.specs.declared.entry.EntryAnswer.{EntryAnswer}
-use Rattle.pairs.specs.declared.WhyAnswer.{WhyAnswer}
+use Rattle.asking.specs.declared.pairs.WhyAnswer.{WhyAnswer}
 use Rattle.asking.specs.declared.record.Asked.{Asked}
-use Rattle.answering.specs.declared.figure.FigureAnswer.{FigureAnswer}
+use Rattle.asking.specs.declared.answering.figure.FigureAnswer.{FigureAnswer}
 use Rattle.reworking.specs.declared.rework.Reworked.{Reworked}
 use Rattle.reworking.specs.Reworking.{Reworks}
 use Rattle.capi.specs.Again.{ReworksAs}

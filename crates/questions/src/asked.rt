@@ -1,6 +1,6 @@
 // What is asked of the library. The store has been judged when it was opened, so that nothing is refused here with 44; where there is
 // nothing to show, nothing is printed.
-use answering::figure;
+use asking::answering::figure;
 use asking::stand;
 use entries::entry::Entry;
 

@@ -3,7 +3,7 @@ use fields::number::NumberRead;
 use store::journals::records::Journal;
 use store::journals::records::REPORTS;
 use store::journals::records::record_bytes;
-use pairs::WhyAnswer;
+use asking::pairs::WhyAnswer;
 
 // Why the number that a word names stands where it does.
 pub fn why<'a>(

@@ -13,8 +13,8 @@ use store::journals::records::Journal;
 use libc::STDOUT_FILENO;
 use page::Page;
 use page::ROOM;
-use pairs::Stored;
-use pairs::WhyAnswer;
+use asking::pairs::Stored;
+use asking::pairs::WhyAnswer;
 use shown::piece;
 
 // A tab, RECORD, a tab, PUBLISHED

@@ -25,8 +25,8 @@ use Rattle.store.proofs.Checks.{reads-some, reads-none}
 use Rattle.store.proofs.entry_slots.Back.{length-entry}
 use Rattle.filing.proofs.fitting.Worked.{worked-fits}
 use Rattle.asking.proofs.Standings.{among-files}
-use Rattle.answering.specs.Figure.{differs}
-use Rattle.answering.proofs.Figures.{zip-table}
+use Rattle.asking.specs.answering.Figure.{differs}
+use Rattle.asking.proofs.answering.Figures.{zip-table}
 use Rattle.reworking.specs.declared.rework.Reworked.{Reworked}
 use Rattle.reworking.specs.Reworking.{workedSlot, reworkedEntries, places, changedLines, reworkAnswer, entriesAfter, listAfter, withRoom, Reworks, lineOf, changes, changesTo, Fitting, LinesReworked}
 

@@ -26,8 +26,8 @@ use Rattle.model.specs.Model.{Filed, entryOver}
 use Rattle.rules.specs.Rules.{rules, standings}
 use Rattle.rules.proofs.Promises.{standing-entry}
 use Rattle.store.specs.entry_slots.Entries.{entrySlot, entryOf, entryAt}
-use Rattle.answering.specs.Figure.{differs}
-use Rattle.answering.proofs.Figures.{differs-found}
+use Rattle.asking.specs.answering.Figure.{differs}
+use Rattle.asking.proofs.answering.Figures.{differs-found}
 use Rattle.reworking.specs.Reworking.{workedSlot, lineOf, changes, changesTo, Fitting, LineReworked, Noted, LinesReworked}
 
 -- ---- one line

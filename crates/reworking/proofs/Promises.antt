@@ -34,7 +34,7 @@ use Rattle.store.specs.Reads.{Buffers, lent, tableLine, held, longEnough, isRea
 use Rattle.store.proofs.Checks.{long, few-lines, read-entries, reads-some}
 use Rattle.store.proofs.Whole.{whole-long, whole-table, whole-files, whole-records}
 use Rattle.filing.proofs.fitting.Worked.{worked-fits}
-use Rattle.answering.specs.Figure.{differs}
+use Rattle.asking.specs.answering.Figure.{differs}
 use Rattle.reworking.specs.Reworking.{workedSlot, reworkedEntries, places, changedLines, reworkAnswer, withRoom, lineOf}
 use Rattle.reworking.specs.declared.rework.Reworked.{Reworked}
 use Rattle.reworking.proofs.Answers.{with-room}

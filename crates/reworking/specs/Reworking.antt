@@ -16,7 +16,7 @@ use Rattle.rules.specs.Rules.{rules}
 use Rattle.store.specs.numbers.Lines.{lineAt}
 use Rattle.store.specs.entry_slots.Entries.{entrySlot, entryAt}
 use Rattle.store.specs.Reads.{Buffers, Held, tableLine, reads}
-use Rattle.answering.specs.Figure.{differs}
+use Rattle.asking.specs.answering.Figure.{differs}
 use Rattle.reworking.specs.declared.rework.Reworked.{Reworked}
 
 -- the slot of a line: the entry worked out afresh over these files
