@@ -1,1 +1,2 @@
 pub mod Reworking
+pub mod resuming

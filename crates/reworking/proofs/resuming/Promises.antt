@@ -24,10 +24,10 @@ use Rattle.store.proofs.Whole.{whole-files, files-once}
 use Rattle.filing.proofs.checking.Stored.{held-once}
 use Rattle.filing.specs.Effect.{storeOf}
 use Rattle.filing.proofs.Promises.{read-so, filed-on}
 use Rattle.reworking.specs.declared.rework.Reworked.{Reworked}
 use Rattle.reworking.specs.Reworking.{reworkedEntries, reworkAnswer, entriesAfter, withRoom, Reworks}
 use Rattle.reworking.proofs.Promises.{reworked-reads}
-use Rattle.resuming.specs.Resumed.{Resumed, rework, file}
+use Rattle.reworking.specs.resuming.Resumed.{Resumed, rework, file}
 
 -- what is not 44 was asked of a store, with room for the list
 accepted : (b : Buffers) (n count : ℕ) (list : List ℕ) → Reworked.Changed count ≡ reworkAnswer n (withRoom list b) → (isReadable b ≡ true) × (withRoom list b ≡ some (held b))
