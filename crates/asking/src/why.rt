@@ -1,4 +1,5 @@
 // Why a number stands where it does: the two stored reports of its last confirmed pair.
+use crate::pairs::WhyAnswer;
 use crate::showable;
 use crate::stand;
 use fields::number::Number;
@@ -8,7 +9,6 @@ use store::journals::records::Journal;
 use store::journals::records::REPORTS;
 use store::numbers::find;
 use store::numbers::find::FoundLine;
-use crate::pairs::WhyAnswer;
 ghost use mathlib.Core.Path.{_≡_};
 ghost use Rattle.asking.specs.Why.{whyShown, firstPlace, secondPlace, partAt};
 

@@ -2,6 +2,8 @@
 use crate::print;
 use asking::answering::figure;
 use asking::answering::figure::FigureAnswer;
+use asking::pairs::Stored;
+use asking::pairs::WhyAnswer;
 use asking::record;
 use asking::record::Asked;
 use asking::stand;
@@ -10,8 +12,6 @@ use entries::entry::Last;
 use fields::number::Number;
 use store::journals::records::Journal;
 use store::numbers::lines;
-use asking::pairs::Stored;
-use asking::pairs::WhyAnswer;
 
 fn show_stored(s: Stored) {
     print::text(b" at ");

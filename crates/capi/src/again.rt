@@ -1,7 +1,7 @@
 // Working out all entries of a store again, as when the holiday list has changed.
-use store::journals::files::FILES;
 use reworking::rework;
 use reworking::rework::Reworked;
+use store::journals::files::FILES;
 ghost use mathlib.Core.Path.{_≡_};
 ghost use Rattle.store.specs.Reads.{lent};
 ghost use Rattle.capi.specs.Again.{reworkNumber, reworkMore, ReworksAs};

@@ -2,11 +2,11 @@
 use asking::answering::figure;
 use asking::answering::figure::FigureAnswer;
 use asking::answering::whole;
+use asking::pairs::WhyAnswer;
 use asking::record::Asked;
 use asking::record::AskedRecord;
 use store::journals::records::Journal;
 use store::journals::records::REPORTS;
-use asking::pairs::WhyAnswer;
 ghost use mathlib.Core.Path.{_≡_};
 ghost use Rattle.verdict.specs.verdicts.Numbers.{numberOf};
 ghost use Rattle.store.specs.Reads.{lent, reads};

@@ -1,6 +1,6 @@
 // The entry of a number in 100 bytes: holder and last confirmed date, then eight places.
-use asking::answering::whole;
 use asking::answer::Answer;
+use asking::answering::whole;
 use asking::entry::EntryAnswer;
 use store::entry_slots::entry;
 ghost use mathlib.Core.Path.{_≡_};

@@ -10,11 +10,11 @@ use disk::FILES;
 use disk::REGULAR;
 use disk::TABLE;
 use fields::code::Code;
-use store::journals::files::File;
 use libc::STDOUT_FILENO;
 use page::Page;
 use page::ROOM;
 use shown::piece;
+use store::journals::files::File;
 ghost use Prim.Native.Nat.{_≤_};
 
 // How many files there are, and at most as many as the list takes.

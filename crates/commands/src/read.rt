@@ -10,10 +10,10 @@ use faults::cause::Cause;
 use faults::cause::FaultPlace;
 use files::judge::Judged;
 use libc::STDOUT_FILENO;
-use records::names::kind::FileKind;
-use records::names::name::NameRead;
 use page::Page;
 use page::ROOM;
+use records::names::kind::FileKind;
+use records::names::name::NameRead;
 
 // `record` PLACE RECORD
 fn record(first: Page, room: &mut [u8; ROOM], i: usize, bytes: &[u8]) -> Page {

@@ -1,10 +1,10 @@
 // The places for open reports: searched, filled and freed.
-use calendar::dates::CalendarDays;
 use crate::entry;
 use crate::entry::PLACES;
 use crate::entry::Place;
 use crate::report;
 use crate::report::Report;
+use calendar::dates::CalendarDays;
 use fields::kind::Kind;
 ghost use mathlib.Core.Path.{_≡_};
 ghost use mathlib.Core.List.{map};

@@ -1,12 +1,12 @@
 // Filing a file, or refusing it.
-use calendar::dates::CalendarDays;
 use crate::checking::answer::Answer;
 use crate::checking::check;
 use crate::checking::check::Checked;
 use crate::entering::enter;
 use crate::entering::kind::Filable;
-use fields::code::Code;
 use crate::renewing::renew;
+use calendar::dates::CalendarDays;
+use fields::code::Code;
 use store::readable;
 ghost use mathlib.Core.Path.{_≡_};
 ghost use Rattle.filing.specs.entering.Entering.{filedAs, Enterable};

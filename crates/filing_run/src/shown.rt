@@ -6,9 +6,9 @@ use entries::entry::Last;
 use entries::entry::PLACES;
 use entries::entry::Place;
 use entries::report::Report;
-use store::entry_slots::entry;
 use fields::code::Code;
 use fields::kind::Kind;
+use store::entry_slots::entry;
 
 fn kind(k: Kind) {
     match k {

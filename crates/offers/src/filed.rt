@@ -1,15 +1,15 @@
 // What is asked of the library: one file, filed. Why a file is refused with 4 is said at once, since its text is at hand.
 use crate::kept::Told;
 use calendar::dates::CalendarDays;
-use filing::checking::answer::Answer;
 use disk::CORRECTIONS;
 use disk::ENTRIES;
 use disk::FILES;
 use disk::REGULAR;
 use disk::TABLE;
-use filing::entering::kind::Filable;
 use faults::cause::Cause;
 use faults::cause::FaultPlace;
+use filing::checking::answer::Answer;
+use filing::entering::kind::Filable;
 
 // An answer that is its number, and the count of a 0.
 fn plain(a: Answer, value: usize) -> Told {

@@ -11,9 +11,9 @@ use disk::ENTRIES;
 use disk::FILES;
 use disk::REGULAR;
 use disk::TABLE;
-use filing::entering::kind::Filable;
 use fields::code::Code;
 use fields::code::CodeRead;
+use filing::entering::kind::Filable;
 use records::names::kind::FileKind;
 use records::names::name::NameRead;
 

@@ -1,11 +1,11 @@
 // The parts of filing by themselves, so that bench/ can time each. They are no interface: each asks for what the parts before it have found, and
 // whoever files a file calls `dagskimra_file` of crate `capi`.
 use calendar::dates::CalendarDays;
+use fields::code::Code;
 use filing::checking::check;
 use filing::checking::check::Checked;
 use filing::entering::enter;
 use filing::entering::kind::Filable;
-use fields::code::Code;
 use filing::renewing::renew;
 ghost use mathlib.Core.Path.{_≡_};
 ghost use mathlib.Core.Bool.{true};

@@ -13,9 +13,9 @@ use disk::REGULAR;
 use disk::TABLE;
 use libc::STDERR_FILENO;
 use libc::STDOUT_FILENO;
-use store::numbers::lines::NUMBERS;
 use page::Page;
 use page::ROOM;
+use store::numbers::lines::NUMBERS;
 ghost use Prim.Native.Nat.{_≤_};
 
 fn one_if(b: bool) -> usize

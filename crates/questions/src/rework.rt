@@ -16,10 +16,10 @@ use disk::lock;
 use disk::saved;
 use disk::saved::Loaded;
 use libc::STDOUT_FILENO;
-use store::numbers::lines::NUMBERS;
 use page::Page;
 use page::ROOM;
 use reworking::rework::Reworked;
+use store::numbers::lines::NUMBERS;
 
 // How it ended.
 pub enum Ended {

@@ -14,9 +14,9 @@ use disk::REGULAR;
 use disk::TABLE;
 use entries::entry::Entry;
 use libc::STDOUT_FILENO;
-use store::numbers::find::FoundLine;
 use page::Page;
 use page::ROOM;
+use store::numbers::find::FoundLine;
 use text::Spelt;
 
 // What is asked for: the stored entries, or those that the first files lead to.

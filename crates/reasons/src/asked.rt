@@ -1,9 +1,9 @@
 // What is asked of the library.
+use asking::pairs::WhyAnswer;
 use fields::number::NumberRead;
 use store::journals::records::Journal;
 use store::journals::records::REPORTS;
 use store::journals::records::record_bytes;
-use asking::pairs::WhyAnswer;
 
 // Why the number that a word names stands where it does.
 pub fn why<'a>(

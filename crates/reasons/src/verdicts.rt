@@ -11,11 +11,11 @@ use disk::ENTRIES;
 use disk::FILES;
 use disk::REGULAR;
 use disk::TABLE;
-use store::journals::records::Journal;
 use libc::STDOUT_FILENO;
 use page::Page;
 use page::ROOM;
 use shown::piece;
+use store::journals::records::Journal;
 
 fn letter(p: Page, room: &mut [u8; ROOM], which: Journal) -> Page {
     match which {

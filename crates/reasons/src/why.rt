@@ -1,5 +1,7 @@
 // why STORE NUMBER...: the two reports under which a number moved last.
 use crate::asked;
+use asking::pairs::Stored;
+use asking::pairs::WhyAnswer;
 use commands::end;
 use commands::opened;
 use desk::args;
@@ -9,13 +11,11 @@ use disk::ENTRIES;
 use disk::FILES;
 use disk::REGULAR;
 use disk::TABLE;
-use store::journals::records::Journal;
 use libc::STDOUT_FILENO;
 use page::Page;
 use page::ROOM;
-use asking::pairs::Stored;
-use asking::pairs::WhyAnswer;
 use shown::piece;
+use store::journals::records::Journal;
 
 // A tab, RECORD, a tab, PUBLISHED
 fn report<'a>(

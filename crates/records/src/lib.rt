@@ -1,6 +1,6 @@
 // The records of files, by the kind of file: reports in default and response files, corrections, requests. A record is read from a line
 // and written from plain words.
-pub mod line;
-pub mod words;
 pub mod closing;
+pub mod line;
 pub mod names;
+pub mod words;

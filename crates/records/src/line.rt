@@ -4,13 +4,13 @@ ghost use Rattle.layout.specs.Report.{reportOf};
 ghost use Rattle.layout.specs.Correction.{correctionOf, isReport};
 ghost use Rattle.layout.specs.Request.{requestOf};
 ghost use Rattle.records.specs.Record.{isCorrection, isRequest, isRecord};
+use crate::names::kind::FileKind;
 use layout::correction::Correction;
 use layout::correction::CorrectionRead;
 use layout::report::Report;
 use layout::report::ReportRead;
 use layout::request::Request;
 use layout::request::RequestRead;
-use crate::names::kind::FileKind;
 
 fn is_report(line: &[u8]) -> bool
     ensures { λ r. ⌜ r ≡ isReport (reportOf (now (line .entry))) ⌝ }

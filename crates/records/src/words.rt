@@ -7,13 +7,13 @@ ghost use Rattle.layout.specs.Report.{reportOfWords};
 ghost use Rattle.layout.specs.Correction.{correctionOfWords, isReport};
 ghost use Rattle.layout.specs.Request.{requestOfWords};
 ghost use Rattle.records.specs.Record.{isCorrection, isRequest, reportSpelt, correctionSpelt, requestSpelt, widthOf, fits, textOf};
+use crate::names::kind::FileKind;
 use layout::correction::Correction;
 use layout::correction::CorrectionRead;
 use layout::report::Report;
 use layout::report::ReportRead;
 use layout::request::Request;
 use layout::request::RequestRead;
-use crate::names::kind::FileKind;
 
 // How many words a record of this kind is given by.
 pub fn width(kind: FileKind) -> usize

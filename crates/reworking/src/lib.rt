@@ -1,3 +1,3 @@
 // All numbers worked out afresh from the journals, over all files or the first ones, with the list of those whose entry changes.
-pub mod rework;
 pub mod resuming;
+pub mod rework;

@@ -1,9 +1,9 @@
 // Every line's entry worked out afresh and written, and the places of those lines whose stored entry was another.
 use asking::stand;
 use store::entry_slots::entry;
-use working::indexing::index;
 use store::numbers::lines;
 use store::readable;
+use working::indexing::index;
 ghost use mathlib.Core.Path.{_≡_};
 ghost use Prim.Native.Nat.{_+_, _*_, _≤_, _<_};
 ghost use lib.ListN.{length, take};

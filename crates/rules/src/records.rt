@@ -1,6 +1,4 @@
 // What the bytes of a record say, by the kind of its file: 0 default, 1 correction.
-use verdict::correction_rules::Correction;
-use verdict::correction_rules::Named;
 use entries::report::Published;
 use fields::kind::Kind;
 use fields::number::Digits;
@@ -8,6 +6,8 @@ use fields::number::Number;
 use layout::correction::CorrectionRead;
 use layout::report::Report;
 use layout::report::ReportRead;
+use verdict::correction_rules::Correction;
+use verdict::correction_rules::Named;
 use verdict::step::Says;
 ghost use mathlib.Core.Path.{_≡_};
 ghost use mathlib.Core.Bool.{cond};

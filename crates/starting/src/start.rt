@@ -1,14 +1,14 @@
 // Starting: the number table into an empty store, or a refusal that writes nothing.
+use crate::tables::scratch;
+use crate::tables::scratch::Counted;
 use entries::entry::Entry;
 use entries::entry::Line;
 use store::entry_slots::entry;
 use store::journals::files;
 use store::numbers::lines;
 use store::numbers::lines::TABLE_LENGTH;
-use store::slots::run;
 use store::readable;
-use crate::tables::scratch;
-use crate::tables::scratch::Counted;
+use store::slots::run;
 ghost use mathlib.Core.Path.{_≡_};
 ghost use Prim.Native.Nat.{_+_, _*_, _≤_};
 ghost use lib.ListN.{length};

@@ -1,7 +1,7 @@
 // The store in five lent buffers, and whether they read as one.
-pub mod readable;
-pub mod records;
 pub mod entry_slots;
 pub mod journals;
 pub mod numbers;
+pub mod readable;
+pub mod records;
 pub mod slots;

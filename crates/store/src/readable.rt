@@ -1,5 +1,4 @@
 // Whether the five lent buffers read as a store.
-use crate::records;
 use crate::entry_slots::entry;
 use crate::journals::files;
 use crate::journals::records::CORRECTIONS;
@@ -8,6 +7,7 @@ use crate::journals::records::REGULAR_LENGTH;
 use crate::journals::records::REPORTS;
 use crate::journals::sums;
 use crate::numbers::lines;
+use crate::records;
 ghost use mathlib.Core.Path.{_≡_};
 ghost use mathlib.Core.Bool.{true};
 ghost use Prim.Native.Nat.{_≤_};

@@ -1,11 +1,11 @@
 // Whether the records of the two journals are in their layouts.
 use crate::journals::records::CORRECTION_SLOT;
 use crate::journals::records::REPORT_SLOT;
+use crate::slots::record;
 use layout::correction::Correction;
 use layout::correction::CorrectionRead;
 use layout::report::Report;
 use layout::report::ReportRead;
-use crate::slots::record;
 ghost use mathlib.Core.Path.{_≡_};
 ghost use Prim.Native.Nat.{_+_, _*_, _≤_};
 ghost use lib.ListN.{length};

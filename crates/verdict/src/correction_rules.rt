@@ -1,4 +1,5 @@
 // The verdict on a correction: the first of the rules that applies.
+use crate::verdicts::Verdict;
 use entries::entry;
 use entries::entry::Entry;
 use entries::entry::Listed;
@@ -8,7 +9,6 @@ use entries::report;
 use entries::report::Published;
 use fields::code::Code;
 use fields::kind::Kind;
-use crate::verdicts::Verdict;
 ghost use mathlib.Core.Path.{_≡_};
 ghost use Rattle.verdict.specs.correction_rules.Corrections.{isAmong, isPermitted, permitsAgainst, namesOwn, namesOpen, firstOf, correctionVerdict};
 

@@ -1,4 +1,5 @@
 // The verdict on a report: the first line of the table that applies.
+use crate::verdicts::Verdict;
 use calendar::dates::CalendarDays;
 use entries::entry;
 use entries::entry::Entry;
@@ -6,7 +7,6 @@ use entries::entry::Listed;
 use entries::report;
 use entries::report::Report;
 use fields::code::Code;
-use crate::verdicts::Verdict;
 ghost use mathlib.Core.Path.{_≡_};
 ghost use Rattle.verdict.specs.report_rules.Reports.{firstRule, reportVerdict};
 

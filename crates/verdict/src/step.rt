@@ -1,6 +1,7 @@
 // One record of a number's history: its verdict, the entry after it, and the pair that confirmed last.
-use calendar::dates::CalendarDays;
 use crate::correction_rules::Correction;
+use crate::verdicts::Verdict;
+use calendar::dates::CalendarDays;
 use entries::entry;
 use entries::entry::Entry;
 use entries::entry::Line;
@@ -11,7 +12,6 @@ use entries::report;
 use entries::report::Published;
 use entries::report::Report;
 use fields::code::Code;
-use crate::verdicts::Verdict;
 ghost use mathlib.Core.Path.{_≡_};
 ghost use Rattle.verdict.specs.Step.{placedAs, verdictOn, effectOn, stepOn, pairedIn, whyBy, standOn, firstStanding};
 
@@ -108,7 +108,10 @@ pub fn step(line: Line, e: Entry, rec: Record) -> Outcome
 fn paired(places: [Place; PLACES], second: Place) -> Why
     ensures { λ w. ⌜ w ≡ pairedIn places second ⌝ }
 {
-    let first = entries::places::place_at(places, crate::effects::reports::partner_at(places, second.report));
+    let first = entries::places::place_at(
+        places,
+        crate::effects::reports::partner_at(places, second.report),
+    );
     Why::Pair(first, second)
 }
 

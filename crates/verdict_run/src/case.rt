@@ -1,14 +1,14 @@
 // One example: the number's line of the table or none, its entry, and whether all has come as it should.
 use crate::line;
 use calendar::dates::CalendarDays;
-use verdict::correction_rules::Correction;
-use verdict::correction_rules::Named;
 use entries::entry;
 use entries::entry::Entry;
 use entries::entry::Line;
 use entries::entry::Listed;
 use entries::report;
 use fields::code::Code;
+use verdict::correction_rules::Correction;
+use verdict::correction_rules::Named;
 use verdict::step;
 use verdict::step::Record;
 use verdict::step::Says;

@@ -2,6 +2,6 @@
 // records behind them are folded.
 pub mod before;
 pub mod gather;
-pub mod work;
 pub mod indexing;
 pub mod overview;
+pub mod work;

@@ -2,11 +2,11 @@
 use crate::entry;
 use crate::showable;
 use crate::stand;
-use working::indexing::index;
 use store::journals::files;
 use store::numbers::lines;
 use store::readable;
 use verdict::step::Standing;
+use working::indexing::index;
 ghost use mathlib.Core.Path.{_≡_};
 ghost use Prim.Native.Nat.{_+_, _*_, _≤_, _<_};
 ghost use lib.ListN.{length, take};

@@ -2,6 +2,7 @@
 use crate::answer::Answer;
 use crate::entry;
 use crate::entry::EntryAnswer;
+use crate::pairs::WhyAnswer;
 use crate::record;
 use crate::record::Asked;
 use crate::why;
@@ -10,7 +11,6 @@ use fields::number::DigitsRead;
 use fields::number::Number;
 use fields::number::NumberRead;
 use store::journals::records::Journal;
-use crate::pairs::WhyAnswer;
 use store::readable;
 ghost use mathlib.Core.Path.{_≡_};
 ghost use Rattle.store.specs.Reads.{lent, reads};

@@ -1,8 +1,8 @@
 // The checks of filing behind 44, in the paper's order.
 use crate::checking::answer::Answer;
+use crate::entering::kind::Filable;
 use calendar::dates;
 use calendar::dates::CalendarDays;
-use crate::entering::kind::Filable;
 use fields::code::Code;
 use fields::code::CodeRead;
 use files::judge;

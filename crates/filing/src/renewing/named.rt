@@ -1,10 +1,10 @@
 // The numbers that a file's records name: the records' places in order of the numbers' first fields, and whether an earlier record
 // names a number.
 use fields::number::Number;
-use working::indexing::index::FRONTS;
-use working::indexing::index::PLACES;
 use store::journals::files::File;
 use working::gather;
+use working::indexing::index::FRONTS;
+use working::indexing::index::PLACES;
 ghost use mathlib.Core.Path.{_≡_};
 ghost use Prim.Native.Nat.{_+_, _%_, _≤_, _<_};
 ghost use lib.ListN.{length, take, drop};

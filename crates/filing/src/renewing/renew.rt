@@ -1,10 +1,10 @@
 // The entries of the numbers that the last file names.
 use crate::renewing::named;
 use crate::renewing::turn;
-use working::indexing::index;
-use store::journals::files as journals_files;
+use store::journals::files as file_list;
 use store::journals::files::File;
 use store::journals::sums;
+use working::indexing::index;
 ghost use mathlib.Core.Path.{_≡_};
 ghost use mathlib.Core.Bool.{true};
 ghost use mathlib.Core.List.{map};
@@ -130,9 +130,9 @@ pub fn renew<'a>(
     ensures { λ r. ⌜ r ≡ countOf rules (readFiles (now (files .entry)) (now (regular .entry)) (now (corrections .entry))) (lastFiled (readFiles (now (files .entry)) (now (regular .entry)) (now (corrections .entry)))) ⌝ }
     ensures { λ r. ⌜ now (entries .exit) ≡ renewedEntries (readFiles (now (files .entry)) (now (regular .entry)) (now (corrections .entry))) (lastFiled (readFiles (now (files .entry)) (now (regular .entry)) (now (corrections .entry)))) (map tableLine (linesOf (now (table .entry)))) (now (entries .entry)) ⌝ }
 {
-    let n = journals_files::file_count(files);
+    let n = file_list::file_count(files);
     let last = n - 1;
-    let f = journals_files::file_at(files, last);
+    let f = file_list::file_at(files, last);
     let start = sums::records_of(files, last, f.kind);
     renew_file(table, files, n, regular, corrections, entries, f, start)
 }

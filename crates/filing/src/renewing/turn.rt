@@ -1,11 +1,11 @@
 // One record of a file: its number worked out afresh, where no earlier record of the file names it.
 use crate::renewing::named;
 use entries::entry::Line;
-use store::entry_slots::entry;
 use fields::number::Number;
-use working::indexing::find;
+use store::entry_slots::entry;
 use store::journals::files::File;
 use store::numbers::lines;
+use working::indexing::find;
 ghost use mathlib.Core.Path.{_≡_};
 ghost use Prim.Native.Nat.{_<_};
 ghost use lib.ListN.{length, take};

@@ -1,5 +1,6 @@
 // An entry in 100 bytes: the holder, the last confirmed porting date, and eight places.
 use crate::entry_slots::place;
+use crate::slots::word;
 use calendar::dates::CalendarDays;
 use calendar::dates::LAST_DAY;
 use entries::entry::Entry;
@@ -8,7 +9,6 @@ use entries::entry::PLACES;
 use entries::entry::Place;
 use entries::entry::free_place;
 use fields::code::Code;
-use crate::slots::word;
 ghost use mathlib.Core.Path.{_≡_};
 ghost use mathlib.Core.List.{flatMap};
 ghost use Prim.Native.Nat.{_+_, _*_, _≤_, _<_};

@@ -1,4 +1,6 @@
 // A place for an open report, in 12 bytes: kind, date, losing and gaining network, publication day, place in its file.
+use crate::slots::run;
+use crate::slots::word;
 use calendar::dates::CalendarDays;
 use calendar::dates::LAST_DAY;
 use entries::entry::Place;
@@ -7,8 +9,6 @@ use entries::report::Report;
 use entries::report::kind_no;
 use fields::code::Code;
 use fields::kind::Kind;
-use crate::slots::run;
-use crate::slots::word;
 ghost use mathlib.Core.Path.{_≡_};
 ghost use Prim.Native.Nat.{_+_, _*_, _≤_};
 ghost use lib.ListN.{length};

@@ -1,8 +1,8 @@
 // The list of the filed files: a count in two bytes, and a slot of 8 bytes for each file, in order of arrival.
-use calendar::dates::LAST_DAY;
-use fields::code::Code;
 use crate::slots::run;
 use crate::slots::word;
+use calendar::dates::LAST_DAY;
+use fields::code::Code;
 ghost use mathlib.Core.Path.{_≡_};
 ghost use Prim.Native.Nat.{_+_, _*_, _≤_, _<_};
 ghost use lib.ListN.{length};

@@ -1,12 +1,12 @@
 // The lines of the number table: a count in two bytes, then for each number its two fields in five bytes each, its owner and its
 // set-up day in two.
+use crate::slots::run;
+use crate::slots::word;
 use calendar::dates::CalendarDays;
 use calendar::dates::in_calendar;
 use fields::code::Code;
 use fields::number::Digits;
 use fields::number::Number;
-use crate::slots::run;
-use crate::slots::word;
 ghost use mathlib.Core.Path.{_≡_};
 ghost use Prim.Native.Nat.{_+_, _*_, _≤_, _<_};
 ghost use lib.ListN.{length};

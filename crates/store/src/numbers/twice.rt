@@ -1,8 +1,8 @@
 // Whether a number stands in the table twice. Sorted keys that rise say that none does; where they do not, the numbers
 // themselves are compared: that is the way of a table that has a number twice, and of two numbers that share a key.
 use crate::numbers::lines;
-use fields::number::Number;
 use crate::slots::keys;
+use fields::number::Number;
 ghost use mathlib.Core.Path.{_≡_};
 ghost use Prim.Native.Nat.{_+_, _*_, _≤_};
 ghost use lib.ListN.{length, take, drop};

@@ -1,11 +1,11 @@
 // The entry after a correction.
 use crate::correction_rules::Named;
+use crate::verdicts::Verdict;
 use entries::entry::Entry;
 use entries::entry::PLACES;
 use entries::entry::Place;
 use entries::report;
 use fields::code::Code;
-use crate::verdicts::Verdict;
 ghost use mathlib.Core.Path.{_≡_};
 ghost use Rattle.verdict.specs.effects.Corrections.{namedAt, withoutNamed, correctionEffect};
 

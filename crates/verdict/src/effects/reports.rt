@@ -1,11 +1,11 @@
 // The entry after a report, and the place of the open report that a confirmed one makes a pair with.
+use crate::verdicts::Verdict;
 use entries::entry::Entry;
 use entries::entry::Last;
 use entries::entry::PLACES;
 use entries::entry::Place;
 use entries::report::Report;
 use fields::kind::Kind;
-use crate::verdicts::Verdict;
 ghost use mathlib.Core.Path.{_≡_};
 ghost use Rattle.verdict.specs.effects.Reports.{kept, confirmed, reportEffect, partnerAt};
 

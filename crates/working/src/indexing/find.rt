@@ -1,12 +1,12 @@
 // A number's records found in its group of the index, and the number worked out from them.
+use crate::gather;
 use crate::indexing::index;
 use crate::indexing::index::FRONTS;
 use crate::indexing::index::PLACES;
-use entries::entry::Line;
-use fields::number::Number;
-use crate::gather;
 use crate::work;
 use crate::work::Worked;
+use entries::entry::Line;
+use fields::number::Number;
 ghost use mathlib.Core.Path.{_≡_};
 ghost use Prim.Native.Nat.{_+_, _≤_, _%_};
 ghost use lib.ListN.{length, take, drop, getD};

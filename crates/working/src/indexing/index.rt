@@ -1,11 +1,11 @@
 // The index: the keys of the records that may name a wanted number, and their places grouped by the first field of the number.
+use crate::gather;
 use fields::number::Number;
 use store::journals::files;
 use store::journals::files::File;
 use store::journals::records;
 use store::journals::records::Journal;
 use store::journals::sums;
-use crate::gather;
 ghost use mathlib.Core.Path.{_≡_};
 ghost use mathlib.Core.Bool.{cond, _&&_};
 ghost use Prim.Native.Nat.{_+_, _*_, _%_, _≤_, _<_};

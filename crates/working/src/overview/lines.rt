@@ -1,8 +1,8 @@
 // The lines' first fields as what an index is wanted for, and a line's standing from that index.
-use entries::entry::Line;
 use crate::indexing::find;
 use crate::indexing::index::FRONTS;
 use crate::indexing::index::PLACES;
+use entries::entry::Line;
 use store::numbers::lines;
 use verdict::step::Standing;
 ghost use mathlib.Core.Path.{_≡_};
