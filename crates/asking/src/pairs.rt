@@ -73,7 +73,7 @@ fn stored_of(files: &[u8], n: usize, p: Place) -> Stored
 }
 
 // The stored reports of a pair.
-pub fn pair_in(files: &[u8], n: usize, w: Why) -> WhyAnswer
+pub(crate) fn pair_in(files: &[u8], n: usize, w: Why) -> WhyAnswer
     requires { ⌜ (2 + n * 8 ≤ length (now files)) × (n < 65536) ⌝ }
     requires { ⌜ recordsOf 0 (tabled n (fileAt (now files))) ≤ 8192 ⌝ }
     ensures { λ r. ⌜ r ≡ listedPair (tabled n (fileAt (now (files .entry)))) w ⌝ }

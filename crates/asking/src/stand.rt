@@ -56,7 +56,7 @@ pub fn files_among(files: &[u8], n: usize) -> usize
 }
 
 // Where the line i stands over the first n files.
-pub fn standing_at<'a>(
+pub(crate) fn standing_at<'a>(
     table: &[u8],
     files: &'a [u8],
     n: usize,

@@ -56,7 +56,7 @@ fn spell(d: CalendarDays) -> u64
     }
 }
 
-pub fn write(d: CalendarDays, out: &mut [u8], at: usize) -> usize
+pub(crate) fn write(d: CalendarDays, out: &mut [u8], at: usize) -> usize
     requires { ⌜ at + length (dateText d) ≤ length (now out) ⌝ }
     ensures { λ r. ⌜ Laid (now (out .entry)) at (dateText d) (now (out .exit)) r ⌝ }
 {

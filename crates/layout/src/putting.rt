@@ -28,7 +28,7 @@ fn put_code(code: MaybeCode, out: &mut [u8], at: usize) -> usize
     text::put_byte(out, behind, 44)
 }
 
-pub fn put_date(date: MaybeDate, out: &mut [u8], at: usize) -> usize
+pub(crate) fn put_date(date: MaybeDate, out: &mut [u8], at: usize) -> usize
     requires { ⌜ at + length (followed (maybeDateText date)) ≤ length (now out) ⌝ }
     ensures { λ r. ⌜ Laid (now (out .entry)) at (followed (maybeDateText date)) (now (out .exit)) r ⌝ }
 {
@@ -37,7 +37,7 @@ pub fn put_date(date: MaybeDate, out: &mut [u8], at: usize) -> usize
 }
 
 // Both fields of a number.
-pub fn put_number(number: Number, out: &mut [u8], at: usize) -> usize
+pub(crate) fn put_number(number: Number, out: &mut [u8], at: usize) -> usize
     requires { ⌜ at + length (numberFollowed number) ≤ length (now out) ⌝ }
     ensures { λ r. ⌜ Laid (now (out .entry)) at (numberFollowed number) (now (out .exit)) r ⌝ }
 {
@@ -48,7 +48,12 @@ pub fn put_number(number: Number, out: &mut [u8], at: usize) -> usize
 }
 
 // Both networks.
-pub fn put_networks(gaining: MaybeCode, losing: MaybeCode, out: &mut [u8], at: usize) -> usize
+pub(crate) fn put_networks(
+    gaining: MaybeCode,
+    losing: MaybeCode,
+    out: &mut [u8],
+    at: usize,
+) -> usize
     requires { ⌜ at + length (networksFollowed gaining losing) ≤ length (now out) ⌝ }
     ensures { λ r. ⌜ Laid (now (out .entry)) at (networksFollowed gaining losing) (now (out .exit)) r ⌝ }
 {
@@ -57,7 +62,7 @@ pub fn put_networks(gaining: MaybeCode, losing: MaybeCode, out: &mut [u8], at: u
 }
 
 // The code of a correction, and `U:`.
-pub fn put_head(code: CorrectionCode, out: &mut [u8], at: usize) -> usize
+pub(crate) fn put_head(code: CorrectionCode, out: &mut [u8], at: usize) -> usize
     requires { ⌜ at + length (headText code) ≤ length (now out) ⌝ }
     ensures { λ r. ⌜ Laid (now (out .entry)) at (headText code) (now (out .exit)) r ⌝ }
 {
@@ -67,7 +72,7 @@ pub fn put_head(code: CorrectionCode, out: &mut [u8], at: usize) -> usize
 }
 
 // `,K:`, between the two parts.
-pub fn put_between(out: &mut [u8], at: usize) -> usize
+pub(crate) fn put_between(out: &mut [u8], at: usize) -> usize
     requires { ⌜ at + 3 ≤ length (now out) ⌝ }
     ensures { λ r. ⌜ Laid (now (out .entry)) at betweenParts (now (out .exit)) r ⌝ }
 {

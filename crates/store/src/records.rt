@@ -58,7 +58,7 @@ fn good_correction(corrections: &[u8], k: usize) -> bool
 }
 
 // Whether each of the first n slots of the regular journal does.
-pub fn good_reports(regular: &[u8], n: usize) -> bool
+pub(crate) fn good_reports(regular: &[u8], n: usize) -> bool
     requires { ⌜ n * 45 ≤ length (now regular) ⌝ }
     ensures { λ r. ⌜ r ≡ all goodReport (table n (slotAt 0 45 (now (regular .entry)))) ⌝ }
 {
@@ -73,7 +73,7 @@ pub fn good_reports(regular: &[u8], n: usize) -> bool
 }
 
 // Whether each of the first n slots of the correction journal does.
-pub fn good_corrections(corrections: &[u8], n: usize) -> bool
+pub(crate) fn good_corrections(corrections: &[u8], n: usize) -> bool
     requires { ⌜ n * 98 ≤ length (now corrections) ⌝ }
     ensures { λ r. ⌜ r ≡ all goodCorrection (table n (slotAt 0 98 (now (corrections .entry)))) ⌝ }
 {

@@ -65,7 +65,7 @@ fn key(day: u16, class: u64, publisher: u16, place: usize, index: usize) -> u64
 }
 
 // The key of the record at a place of a file whose records begin at `start`.
-pub fn key_at<'a>(
+pub(crate) fn key_at<'a>(
     regular: &'a [u8],
     corrections: &'a [u8],
     f: File,
@@ -147,7 +147,7 @@ fn gather<'a>(
 }
 
 // The same, into room for a key of each record of both journals.
-pub fn gather_all<'a>(
+pub(crate) fn gather_all<'a>(
     files: &'a [u8],
     n: usize,
     regular: &'a [u8],

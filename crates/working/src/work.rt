@@ -95,7 +95,7 @@ fn fold<'a>(
 }
 
 // The same, of an array.
-pub fn fold_all<'a>(
+pub(crate) fn fold_all<'a>(
     regular: &'a [u8],
     corrections: &'a [u8],
     line: Line,

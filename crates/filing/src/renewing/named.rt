@@ -15,7 +15,7 @@ ghost use Rattle.working.specs.Working.{InFile};
 ghost use Rattle.filing.specs.renewing.Turns.{filedFrom, numberFrom, namedTo, earlier, frontFrom, Tagged};
 
 // The number that the record at a place of a file names; the file's records begin at `start` in its journal.
-pub fn number_at<'a>(
+pub(crate) fn number_at<'a>(
     regular: &'a [u8],
     corrections: &'a [u8],
     f: File,
@@ -78,7 +78,7 @@ fn lay_all_tags<'a>(
 }
 
 // Lays the tags of a file's records in order, and answers how many there are.
-pub fn tag_file<'a>(
+pub(crate) fn tag_file<'a>(
     regular: &'a [u8],
     corrections: &'a [u8],
     f: File,
@@ -174,7 +174,7 @@ fn named_among_all<'a>(
 }
 
 // Whether one of the first j records of the file names the number: only those with its first field are looked at.
-pub fn named_before<'a>(
+pub(crate) fn named_before<'a>(
     regular: &'a [u8],
     corrections: &'a [u8],
     f: File,

@@ -150,7 +150,7 @@ fn renew_number<'a>(
 }
 
 // The turn for the record at j: nothing where an earlier record of the file names its number.
-pub fn renew_record<'a>(
+pub(crate) fn renew_record<'a>(
     lines: &'a [u8],
     files: &'a [u8],
     n: usize,

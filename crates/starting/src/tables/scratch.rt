@@ -41,7 +41,7 @@ fn lay_out(text: &[u8], room: &mut [u8]) -> Counted
 }
 
 // The same, with no number twice.
-pub fn judge(text: &[u8], room: &mut [u8]) -> Counted
+pub(crate) fn judge(text: &[u8], room: &mut [u8]) -> Counted
     requires { ⌜ 14338 ≤ length (now room) ⌝ }
     ensures { λ r. ⌜ Judged (now (text .entry)) (now (room .entry)) r (now (room .exit)) ⌝ }
 {

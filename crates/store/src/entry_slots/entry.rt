@@ -141,7 +141,7 @@ fn good_entry(entries: &[u8], k: usize) -> bool
 }
 
 // Whether each of the first n entries is.
-pub fn good_entries(entries: &[u8], n: usize) -> bool
+pub(crate) fn good_entries(entries: &[u8], n: usize) -> bool
     requires { ⌜ n * 100 ≤ length (now entries) ⌝ }
     ensures { λ r. ⌜ r ≡ all goodEntry (table n (slotAt 0 100 (now (entries .entry)))) ⌝ }
 {

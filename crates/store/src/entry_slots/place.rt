@@ -57,7 +57,7 @@ fn open_at(entries: &[u8], at: usize) -> Place
 }
 
 // The place in the 12 bytes from `at` on.
-pub fn place_at(entries: &[u8], at: usize) -> Place
+pub(crate) fn place_at(entries: &[u8], at: usize) -> Place
     requires { ⌜ at + 12 ≤ length (now entries) ⌝ }
     ensures { λ r. ⌜ r ≡ placeOf (part (now (entries .entry)) at 12) ⌝ }
 {
@@ -69,7 +69,7 @@ pub fn place_at(entries: &[u8], at: usize) -> Place
 }
 
 // Writes a place into the 12 bytes from `at` on.
-pub fn put_place(entries: &mut [u8], at: usize, p: Place)
+pub(crate) fn put_place(entries: &mut [u8], at: usize, p: Place)
     requires { ⌜ at + 12 ≤ length (now entries) ⌝ }
     ensures { λ _. ⌜ now (entries .exit) ≡ overlay (now (entries .entry)) at (placeSlot p) ⌝ }
 {
@@ -119,7 +119,7 @@ fn good_open(p: Place) -> bool
 }
 
 // Whether the 12 bytes from `at` on are a free place, all zeros, or an open report in range.
-pub fn good_place(entries: &[u8], at: usize) -> bool
+pub(crate) fn good_place(entries: &[u8], at: usize) -> bool
     requires { ⌜ at + 12 ≤ length (now entries) ⌝ }
     ensures { λ r. ⌜ r ≡ goodPlace (part (now (entries .entry)) at 12) ⌝ }
 {

@@ -39,7 +39,7 @@ fn gather_all(files: &[u8], n: usize, keys: &mut [u64; 10240])
 }
 
 // Whether no two of the first n files are of one kind, publisher and day.
-pub fn no_file_twice(files: &[u8], n: usize) -> bool
+pub(crate) fn no_file_twice(files: &[u8], n: usize) -> bool
     requires { ⌜ (2 + n * 8 ≤ length (now files)) × (n ≤ 1024) × (all goodFile (table n (fileAt (now files))) ≡ true) ⌝ }
     ensures { λ r. ⌜ r ≡ noneTwice sameFile (table n (fileAt (now (files .entry)))) ⌝ }
 {

@@ -115,7 +115,7 @@ pub fn good_line(l: Line) -> bool
 }
 
 // Whether each of the first n lines is.
-pub fn good_lines(lines: &[u8], n: usize) -> bool
+pub(crate) fn good_lines(lines: &[u8], n: usize) -> bool
     requires { ⌜ 2 + n * 14 ≤ length (now lines) ⌝ }
     ensures { λ r. ⌜ r ≡ all goodLine (table n (lineAt (now (lines .entry)))) ⌝ }
 {

@@ -38,7 +38,7 @@ pub fn bytes(journal: &[u8], width: usize, k: usize) -> &[u8]
 }
 
 // Whether the slot k holds as many bytes as its first byte says, and zeros behind them.
-pub fn is_held(journal: &[u8], width: usize, k: usize) -> bool
+pub(crate) fn is_held(journal: &[u8], width: usize, k: usize) -> bool
     requires { ⌜ (k * width + width ≤ length (now journal)) × (0 < width) ⌝ }
     ensures { λ r. ⌜ r ≡ isHeld width (slotAt 0 width (now (journal .entry)) k) ⌝ }
 {

@@ -19,7 +19,7 @@ pub fn write(dst: &mut [u8], at: usize, src: &[u8])
 }
 
 // Writes `b` into `dst` from `at` on, `n` times.
-pub fn fill(dst: &mut [u8], at: usize, n: usize, b: u8)
+pub(crate) fn fill(dst: &mut [u8], at: usize, n: usize, b: u8)
     requires { ⌜ at + n ≤ length (now dst) ⌝ }
     ensures { λ _. ⌜ now (dst .exit) ≡ overlay (now (dst .entry)) at (replicate n b) ⌝ }
 {

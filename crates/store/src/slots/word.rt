@@ -13,7 +13,7 @@ pub fn wide(x: u8) -> usize
 }
 
 // The number in the two bytes from `at` on.
-pub fn get2(s: &[u8], at: usize) -> u16
+pub(crate) fn get2(s: &[u8], at: usize) -> u16
     requires { ⌜ at + 2 ≤ length (now s) ⌝ }
     ensures { λ r. ⌜ r ≡ wordAt 2 (now (s .entry)) at ⌝ }
 {
@@ -21,7 +21,7 @@ pub fn get2(s: &[u8], at: usize) -> u16
 }
 
 // The number in the three bytes from `at` on.
-pub fn get3(s: &[u8], at: usize) -> u32
+pub(crate) fn get3(s: &[u8], at: usize) -> u32
     requires { ⌜ at + 3 ≤ length (now s) ⌝ }
     ensures { λ r. ⌜ (r ≡ wordAt 3 (now (s .entry)) at) × (r < 16777216) ⌝ }
 {
@@ -29,7 +29,7 @@ pub fn get3(s: &[u8], at: usize) -> u32
 }
 
 // The number in the five bytes from `at` on.
-pub fn get5(s: &[u8], at: usize) -> u64
+pub(crate) fn get5(s: &[u8], at: usize) -> u64
     requires { ⌜ at + 5 ≤ length (now s) ⌝ }
     ensures { λ r. ⌜ (r ≡ wordAt 5 (now (s .entry)) at) × (r < 1099511627776) ⌝ }
 {
@@ -39,7 +39,7 @@ pub fn get5(s: &[u8], at: usize) -> u64
 }
 
 // Writes a number into the two bytes from `at` on.
-pub fn put2(s: &mut [u8], at: usize, v: u16)
+pub(crate) fn put2(s: &mut [u8], at: usize, v: u16)
     requires { ⌜ at + 2 ≤ length (now s) ⌝ }
     ensures { λ _. ⌜ now (s .exit) ≡ overlay (now (s .entry)) at (lowFirst 2 v) ⌝ }
 {

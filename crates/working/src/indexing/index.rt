@@ -41,7 +41,7 @@ fn is_below(keys: &[u64], w: usize, at: usize, end: u64) -> bool
 }
 
 // Whether one of the first w tags has the first field in front: the first tag that is not below all such is one of them, or there is none.
-pub fn is_wanted(wanted: &[u64; 10240], w: usize, digits: u64) -> bool
+pub(crate) fn is_wanted(wanted: &[u64; 10240], w: usize, digits: u64) -> bool
     requires { ⌜ Wanted (now wanted) w ⌝ }
     ensures { λ r. ⌜ r ≡ isWanted (take w (now (wanted .entry))) digits ⌝ }
 {
