@@ -1,7 +1,9 @@
 #!/bin/sh
-# The wrong programs, crates/NAME/must-fail/*.edit: each can be made, and each public function of a library has two at least. An edit may make several
-# functions wrong at once; above each change stands `wrong: NAME FUNCTION`, and tests/refused holds each to a refusal of its own.
-# An edit without such a line (of a definition, for one) is one wrong program by its file's name. With the name of a crate: of that crate alone.
+# The wrong programs: those in crates/NAME/must-fail are tried at each gate, those in crates/NAME/wrong whenever their crate changed (tests/again). Each can
+# be made, and each public function of a library has two at least, of which one is tried at each gate. An edit may make several functions wrong at once;
+# above each change stands `wrong: NAME FUNCTION`, and tests/refused holds each to a refusal of its own. A crate has one such edit in must-fail, since each
+# costs a check of the whole crate; its file is named by its strongest wrong program. An edit without such a line (of a definition, for one) is one wrong
+# program by its file's name. With the name of a crate: of that crate alone.
 set -eu
 cd "$(dirname "$0")/.."
 # the program's crates: what they print and keep has no contract, and is tested
@@ -28,9 +30,11 @@ for folder in crates/${1:-*}/; do
     *" $crate "*) ;;
     *) if [ -f "crates/$crate/src/lib.rt" ]; then public_of "$crate" >"$public"; fi ;;
     esac
-    find "crates/$crate/must-fail" -name '*.edit' 2>/dev/null | sort | xargs awk -v crate="$crate" -v public="$public" '
+    find "crates/$crate/must-fail" "crates/$crate/wrong" -name '*.edit' 2>/dev/null | sort | xargs awk -v crate="$crate" -v public="$public" '
         function fail(why) { printf "wrong: %s: %s\n", crate, why; failed = 1 }
-        function name_it(name) { if (name in named) fail(name " is there twice"); named[name] = 1; all++ }
+        function name_it(name) { if (name in named) fail(name " is there twice"); named[name] = 1; all++; called = called || name == label }
+        # the edit that ends here is called by one of its wrong programs
+        function finish() { if (label != "" && !called) fail(folder "/" label ".edit has no wrong program of its name"); label = "" }
         # the function in whose text a place lies
         function inside(text, at,    lines, i, head) {
             for (i = split(substr(text, 1, at), lines, "\n"); i > 0; i--)
@@ -41,10 +45,15 @@ for folder in crates/${1:-*}/; do
                 }
             return ""
         }
-        FNR == 1 { split("", here); of = ""; own = FILENAME; sub(/.*\//, "", own); sub(/\.edit$/, "", own) }
+        FNR == 1 {
+            finish()
+            split("", here); of = ""; own = FILENAME; sub(/.*\//, "", own); sub(/\.edit$/, "", own)
+            label = own; called = 0; split(FILENAME, path, "/"); folder = path[3]; joined = 0
+        }
         /^wrong: / {
             if (NF != 3) fail("not a name and a function: " $0)
             of = $3; own = ""; count[of]++; name_it($2)
+            if (folder == "must-fail") { always[of]++; if (!joined++ && edits++) fail("two edits of functions are tried at each gate: " FILENAME " is one too many") }
             if (of in here) fail(FILENAME ": " of " is wrong twice at once, so neither can be told from the other")
             here[of] = 1
         }
@@ -57,7 +66,12 @@ for folder in crates/${1:-*}/; do
             if (of != "" && where != "" && where != last) fail("the change for " of " is in " where)
         }
         END {
-            while ((getline line <public) > 0) { functions++; if (count[line] < 2) fail(line " has " count[line] + 0 " of two wrong programs") }
+            finish()
+            while ((getline line <public) > 0) {
+                functions++
+                if (count[line] < 2) fail(line " has " count[line] + 0 " of two wrong programs")
+                if (!always[line]) fail(line " has no wrong program that is tried at each gate")
+            }
             print functions + 0, all + 0 >(public ".sum")
             exit failed
         }' || failed=1
@@ -65,4 +79,4 @@ for folder in crates/${1:-*}/; do
     functions=$((functions + f)) all=$((all + a))
 done
 [ "$failed" -eq 0 ] || exit 1
-echo "wrong: $all wrong programs, two at least for each of $functions public functions"
+echo "wrong: $all wrong programs, two at least for each of $functions public functions, one of them tried at each gate"
