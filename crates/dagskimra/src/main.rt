@@ -27,13 +27,13 @@ fn book(count: usize) -> u8 {
         return commands::start::run(count);
     }
     if args::is(1, b"file") {
-        return offers::run::run(count);
+        return offers::file::run(count);
     }
     if args::is(1, b"rework") {
         return questions::rework::run(count);
     }
     if args::is(1, b"files") {
-        return commands::arrivals::run(count);
+        return questions::files::run(count);
     }
     if args::is(1, b"read") {
         return commands::read::run(count);

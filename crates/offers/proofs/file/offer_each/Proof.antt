@@ -1,9 +1,9 @@
--- `offers::run::offer_each` is safe and ends. The measure is what is left to do. Assumes nothing.
+-- `offers::file::offer_each` is safe and ends. The measure is what is left to do. Assumes nothing.
 use Prim.Native.Nat.{_-_}
 use lib.ListN.{length}
 use borrow.Author.Needs.{needs}
-use Rattle.offers.proofs.run.offer_each.Statement.{statement}
-use Rattle.offers.proofs.run.offer_each.Tie as tie
+use Rattle.offers.proofs.file.offer_each.Statement.{statement}
+use Rattle.offers.proofs.file.offer_each.Tie as tie
 
 abbrev Inv-loop : tie.InvT-loop
 Inv-loop offers sep total text₀ kept₀ table files₀ regular₀ corrections₀ entries₀ terminal r₀ at₀ text kept files regular corrections entries r at =

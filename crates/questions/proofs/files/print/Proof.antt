@@ -1,8 +1,8 @@
--- `commands::arrivals::print` is safe and ends. The measure is what is left to do. Assumes nothing.
+-- `questions::files::print` is safe and ends. The measure is what is left to do. Assumes nothing.
 use Prim.Native.Nat.{_-_}
 use borrow.Author.Needs.{needs}
-use Rattle.commands.proofs.arrivals.print.Statement.{statement}
-use Rattle.commands.proofs.arrivals.print.Tie as tie
+use Rattle.questions.proofs.files.print.Statement.{statement}
+use Rattle.questions.proofs.files.print.Tie as tie
 
 abbrev Inv-loop : tie.InvT-loop
 Inv-loop room₀ files p₀ n i₀ room p i = Unit
