@@ -1,3 +1,3 @@
-// Filing: a file into the store, or a refusal that changes no byte.
+// The checks of filing behind 44, in the paper's order, and what filing answers.
 pub mod answer;
 pub mod check;

@@ -1,4 +1,5 @@
-// One record of a number's history after the other: its verdict, what it does, and the pair that confirmed last.
+// One record of a number's history after the other (`step`): the verdicts (`verdicts`), what the table on reports asks (`report_tests`), the two
+// tables (`report_rules`, `correction_rules`), what a verdict does to the entry (`effects`), and the pair that confirmed last.
 pub mod correction_rules;
 pub mod effects;
 pub mod report_rules;

@@ -1,4 +1,4 @@
-// The verdicts. `numberOf` in specs/ gives each its number in paper 01.
+// The verdicts. `numberOf` in specs/verdicts gives each its number in paper 01.
 ghost use mathlib.Core.Path.{_≡_};
 ghost use Rattle.verdict.specs.verdicts.Numbers.{numberOf};
 
