@@ -1,6 +1,7 @@
 #!/bin/sh
-# Each public function of a library settles its outcome: its contract is an equation for its answer (or for the part that it lends back) and for
-# each thing that it is lent to change, or a record that crates/outcomes shows to allow one outcome only. What is left out is named here with its reason.
+# Each public function of a library, also one that is public within its crate alone, settles its outcome: its contract is an equation for its answer
+# (or for the part that it lends back) and for each thing that it is lent to change, or a record that crates/outcomes shows to allow one outcome only.
+# What is left out is named here with its reason.
 set -eu
 cd "$(dirname "$0")/.."
 theorems=crates/outcomes/proofs/Outcomes.antt
@@ -45,11 +46,15 @@ done | sort | xargs awk -v theorems="$theorems" -v exceptions="$exceptions" -v r
         if (gives && form == "" && !answered) fail("no equation for the answer")
         functions++
     }
-    FNR == 1 { inside = 0; split(FILENAME, path, "/"); file = path[length(path)]; sub(/\.rt$/, "", file) }
-    /^ *pub (extern "C" )?fn / {
+    # the path below src is the path of its functions; lib.rt is the crate itself
+    FNR == 1 {
+        inside = 0; file = FILENAME
+        sub(/^crates\//, "", file); sub(/\/src\//, "/", file); sub(/(\/lib)?\.rt$/, "", file); gsub("/", "::", file)
+    }
+    /^ *pub(\(crate\))? (extern "C" )?fn / {
         inside = 1; lent = ""; contract = ""; form = ""; answered = 0; gives = 0
-        name = $0; sub(/^ *pub (extern "C" )?fn /, "", name); sub(/[^a-z_0-9A-Z].*/, "", name)
-        here = path[2] "::" file "::" name
+        name = $0; sub(/^ *pub(\(crate\))? (extern "C" )?fn /, "", name); sub(/[^a-z_0-9A-Z].*/, "", name)
+        here = file "::" name
     }
     inside && /ensures \{/ {
         line = $0; sub(/^ *ensures \{ λ /, "", line)
