@@ -7,6 +7,7 @@ mod commands;
 mod damage;
 mod faults;
 mod files;
+mod known;
 mod layout;
 mod refused;
 mod scenario;
@@ -18,9 +19,10 @@ mod verdict;
 mod wrong;
 
 use calendar::{holiday_list_before, the_exception};
-use files::{read_name, FileKind};
+use files::read_name;
+use known::{kind_name, known, EXCEPTION};
 use layout::ReportKind;
-use scenario::{scenario, Scenario};
+use scenario::{fills_a_store, scenario, Scenario};
 use std::collections::BTreeMap;
 use std::fs;
 use std::io;
@@ -29,20 +31,14 @@ use store::shown;
 use verdict::{Content, Filed};
 
 const USAGE: &str = "usage: generate SEED FOLDER       writes the scenario of this seed
-       generate --coverage N       runs the scenarios 1 to N through the model and counts";
+       generate --what SEED        says what is in it
+       generate --coverage N       runs the scenarios 1 to N through the model and counts
+       generate --coverage FROM TO ..    runs those of these seeds";
 
 fn main() {
     let args: Vec<String> = std::env::args().skip(1).collect();
     let args: Vec<&str> = args.iter().map(|a| &a[..]).collect();
-    let done = match args[..] {
-        ["--coverage", n] => n.parse().map(coverage).map_err(|_| USAGE.to_string()),
-        [seed, folder] => seed.parse().map_err(|_| USAGE.to_string()).and_then(|seed| {
-            let written = write(&scenario(seed), Path::new(folder));
-            written.map(|()| true).map_err(|e| format!("{}: {}", folder, e))
-        }),
-        _ => Err(USAGE.to_string()),
-    };
-    let status = match done {
+    let status = match run_line(&args) {
         Ok(true) => 0,
         Ok(false) => 1,
         Err(words) => {
@@ -51,6 +47,27 @@ fn main() {
         }
     };
     std::process::exit(status);
+}
+
+/// One command line; false where something never occurred.
+fn run_line(args: &[&str]) -> Result<bool, String> {
+    let number = |word: &str| word.parse::<u64>().map_err(|_| USAGE.to_string());
+    match *args {
+        ["--coverage", n] => coverage(&[(1, number(n)?)]),
+        ["--coverage", ref seeds @ ..] if !seeds.is_empty() && seeds.len() % 2 == 0 => {
+            let range = |pair: &[&str]| Ok((number(pair[0])?, number(pair[1])?));
+            coverage(&seeds.chunks(2).map(range).collect::<Result<Vec<_>, String>>()?)
+        }
+        ["--what", seed] => {
+            scenario(number(seed)?).notes.iter().for_each(|note| println!("{}", note));
+            Ok(true)
+        }
+        [seed, folder] => {
+            let written = write(&scenario(number(seed)?), Path::new(folder));
+            written.map(|()| true).map_err(|e| format!("{}: {}", folder, e))
+        }
+        _ => Err(USAGE.to_string()),
+    }
 }
 
 /// Writes the files of a scenario, and its command lines to COMMANDS, each as a shell reads it.
@@ -77,48 +94,21 @@ fn quote(word: &str) -> String {
     }
 }
 
-/// What must occur in a large number of scenarios.
-const ANSWERS: [u32; 7] = [0, 1, 2, 3, 4, 5, 6];
-const VERDICTS: [u32; 18] =
-    [10, 11, 12, 13, 14, 15, 16, 17, 18, 19, 20, 21, 22, 30, 31, 32, 33, 34];
-
-/// The causes of a refusal 4, which both `file` and `read` must answer.
-const CAUSES: [&str; 7] = ["character", "length", "date", "code", "value", "closing", "after"];
-
-/// What 31 October 2017 has to do with a scenario: returns confirmed over it, records and numbers
-/// that the list without it answers otherwise, and scenarios with such a record.
-const EXCEPTION: [&str; 4] = ["returns over it", "verdicts moved", "entries moved", "scenarios"];
-
-/// Runs scenarios through the model and prints how often each answer, cause and verdict occurred;
-/// false where one never did.
-fn coverage(scenarios: u64) -> bool {
-    let mut counts: BTreeMap<String, usize> = BTreeMap::new();
-    for number in ANSWERS {
-        counts.insert(format!("answer\t{}", number), 0);
+/// Runs the scenarios of these seeds, FROM to TO, through the model and prints how often each thing
+/// that is known occurred, and others; false where one that is known never did. What only full
+/// stores have is asked for where a scenario among them fills one.
+fn coverage(ranges: &[(u64, u64)]) -> Result<bool, String> {
+    let seeds: Vec<u64> = ranges.iter().flat_map(|(from, to)| *from..=*to).collect();
+    let known = known(seeds.iter().any(|seed| fills_a_store(*seed)));
+    let mut counts: BTreeMap<String, usize> = known.into_iter().map(|what| (what, 0)).collect();
+    let folder = std::env::temp_dir().join(format!("coverage-{}", std::process::id()));
+    for seed in &seeds {
+        let ran = run(&scenario(*seed), &folder, &mut counts);
+        ran.map_err(|error| format!("scenario {}: {}", seed, error))?;
     }
-    for number in VERDICTS {
-        counts.insert(format!("verdict\t{}", number), 0);
-    }
-    for cause in CAUSES {
-        for command in ["file", "read"] {
-            counts.insert(format!("cause\t{}\t{}", cause, command), 0);
-        }
-    }
-    for what in EXCEPTION {
-        counts.insert(format!("2017-10-31\t{}", what), 0);
-    }
-    for seed in 1..=scenarios {
-        let folder = std::env::temp_dir().join(format!("coverage-{}", std::process::id()));
-        if let Err(error) = run(&scenario(seed), &folder, &mut counts) {
-            eprintln!("scenario {}: {}", seed, error);
-            return false;
-        }
-    }
-    println!("scenarios\t{}", scenarios);
-    for (what, count) in &counts {
-        println!("{}\t{}", what, count);
-    }
-    counts.values().all(|count| *count > 0)
+    println!("scenarios\t{}", seeds.len());
+    counts.iter().for_each(|(what, count)| println!("{}\t{}", what, count));
+    Ok(counts.values().all(|count| *count > 0))
 }
 
 /// Runs one scenario in a folder of its own.
@@ -183,7 +173,7 @@ fn count_output(
         let items: Vec<&str> = line.split('\t').collect();
         let refused_file = if command[0] == "read" { &command[1][..] } else { items[0] };
         if let [.., "refused", "4", _, field, cause] = items[..] {
-            *counts.entry(format!("cause\t{}\t{}", cause, command[0])).or_insert(0) += 1;
+            *counts.entry(format!("cause\t{}\t{}", command[0], cause)).or_insert(0) += 1;
             let fault = format!("fault\t{}\t{}\t{}", kind(refused_file), field, cause);
             *counts.entry(fault).or_insert(0) += 1;
         }
@@ -219,13 +209,7 @@ fn count_output(
 
 /// What a file is by its name.
 fn kind(path: &str) -> &'static str {
-    match read_name(path.as_bytes()) {
-        Some((FileKind::Default, _)) => "default",
-        Some((FileKind::Correction, _)) => "correction",
-        Some((FileKind::Request, _)) => "request",
-        Some((FileKind::Response, _)) => "response",
-        None => "none",
-    }
+    read_name(path.as_bytes()).map_or("none", |(kind, _)| kind_name(kind))
 }
 
 /// Which reports a pair is made of, in the order processed; a Z without gaining network is `z`.

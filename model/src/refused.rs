@@ -5,6 +5,7 @@
 use crate::chance::Chance;
 use crate::damage::DAMAGES;
 use crate::files::{closing_record, read_file, FileKind};
+use crate::known::worked_name;
 use crate::strike::struck;
 use crate::wrong::{good_lines, unended_lines, wrong_lines, WRONG_FILES};
 
@@ -16,8 +17,17 @@ pub struct Refused {
     corrections: Vec<Vec<u8>>,
 }
 
-/// A name for the coverage report, and the bytes of a file.
-pub type RefusedFile = (&'static str, Vec<u8>);
+/// What is wrong with a file, in the words of known.rs, and its bytes.
+pub type RefusedFile = (String, Vec<u8>);
+
+/// How many worked faults there are for files of a kind.
+pub fn worked_count(kind: FileKind) -> usize {
+    wrong_lines(kind).len() + unended_lines(kind).len() + wrong_files(kind).len()
+}
+
+fn wrong_files(kind: FileKind) -> Vec<&'static [u8]> {
+    WRONG_FILES.iter().filter(|file| file.0 == kind).map(|file| file.1).collect()
+}
 
 impl Refused {
     pub fn new(seed: u64, reports: Vec<Vec<u8>>, corrections: Vec<Vec<u8>>) -> Refused {
@@ -31,7 +41,7 @@ impl Refused {
     /// One after the other from seed to seed, so that few seeds have all of them.
     pub fn worked_in_turn(&mut self, kind: FileKind) -> RefusedFile {
         let turn = (self.seed - self.seed / 40) as usize;
-        ("worked fault", self.worked(kind, turn))
+        self.worked(kind, turn)
     }
 
     /// A worked fault, a damaged file, or a struck record; what is good all the same is passed over.
@@ -40,14 +50,14 @@ impl Refused {
             let (name, bytes) = match self.chance.below(4) {
                 0 => {
                     let turn = self.chance.below(1 << 16);
-                    ("worked fault", self.worked(kind, turn))
+                    self.worked(kind, turn)
                 }
                 1 => {
                     let (name, damage) = self.chance.pick(DAMAGES);
                     let good = self.file(kind, None);
-                    (name, damage(&mut self.chance, &good))
+                    (format!("damage\t{}", name), damage(&mut self.chance, &good))
                 }
-                _ => ("struck record", self.struck_file(kind)),
+                _ => ("damage\tstruck record".into(), self.struck_file(kind)),
             };
             if read_file(kind, &bytes).is_err() {
                 return (name, bytes);
@@ -57,18 +67,18 @@ impl Refused {
     }
 
     /// The worked lines of a kind in files, then the worked files.
-    fn worked(&mut self, kind: FileKind, turn: usize) -> Vec<u8> {
+    fn worked(&mut self, kind: FileKind, turn: usize) -> RefusedFile {
         let (lines, unended) = (wrong_lines(kind), unended_lines(kind));
-        let whole: Vec<&[u8]> = WRONG_FILES.iter().filter(|f| f.0 == kind).map(|f| f.1).collect();
-        let at = turn % (lines.len() + unended.len() + whole.len());
-        if at < lines.len() {
+        let at = turn % worked_count(kind);
+        let bytes = if at < lines.len() {
             self.file(kind, Some(lines[at].0))
         } else if at < lines.len() + unended.len() {
             let before = if kind == FileKind::Request { Vec::new() } else { self.some(kind, 0) };
             [&before[..], unended[at - lines.len()].0].concat()
         } else {
-            whole[at - lines.len() - unended.len()].to_vec()
-        }
+            wrong_files(kind)[at - lines.len() - unended.len()].to_vec()
+        };
+        (worked_name(kind, at), bytes)
     }
 
     fn struck_file(&mut self, kind: FileKind) -> Vec<u8> {

@@ -23,7 +23,7 @@ pub struct Scenario {
     pub files: Vec<(String, Vec<u8>)>,
     /// Command lines to run in that folder, program name left out.
     pub commands: Vec<Vec<String>>,
-    /// What stories and damages are in it, for the coverage report.
+    /// What is in it, in the words of known.rs.
     pub notes: Vec<String>,
 }
 
@@ -42,10 +42,16 @@ impl Published {
 }
 
 pub fn scenario(seed: u64) -> Scenario {
-    match seed % 40 {
-        39 => limit_scenario(seed),
-        _ => story_scenario(seed),
+    if fills_a_store(seed) {
+        limit_scenario(seed)
+    } else {
+        story_scenario(seed)
     }
+}
+
+/// Every 40th scenario reaches a limit.
+pub fn fills_a_store(seed: u64) -> bool {
+    seed % 40 == 39
 }
 
 fn story_scenario(seed: u64) -> Scenario {
@@ -53,7 +59,12 @@ fn story_scenario(seed: u64) -> Scenario {
     world.tell();
     let files = published(&mut world);
     let mut notes: Vec<String> = world.notes.iter().map(|n| format!("story\t{}", n)).collect();
+    notes.push(format!("flavour\t{:?}", world.flavour));
+    notes.append(&mut world.choices);
     let folder = if world.chance.one_in(8) { "süd west/" } else { "" };
+    if !folder.is_empty() {
+        notes.push("folder\twith a blank".into());
+    }
     let offers = offers(&mut world, files, folder, &mut notes);
     let table: String = world.numbers.iter().map(Num::table_line).collect();
     let mut scenario = Scenario { files: Vec::new(), commands: Vec::new(), notes };
@@ -93,9 +104,13 @@ fn published(world: &mut World) -> Vec<Published> {
 }
 
 /// Order of arrival: by day, with late files, or any order at all.
+pub const ORDERS: [&str; 3] = ["by day", "some late", "any"];
+
 fn reorder(world: &mut World, files: &mut Vec<Published>) {
     let late = world.flavour == Flavour::Late || world.chance.one_in(3);
-    if late && world.chance.one_in(2) {
+    let any = late && world.chance.one_in(2);
+    world.choices.push(format!("order\t{}", ORDERS[usize::from(late) + usize::from(any)]));
+    if any {
         world.chance.shuffle(files);
     } else if late {
         for _ in 0..files.len() / 4 {
@@ -126,13 +141,16 @@ fn offers(
             offers.push(offer(extra("damaged"), bytes));
         }
         if world.chance.one_in(12) {
-            offers.push(misnamed(&mut world.chance, file, folder, i, &good));
+            let (name, wrong) = misnamed(&mut world.chance, file, &good);
+            notes.push(format!("name\t{}", name));
+            offers.push(Offer { path: format!("{}name{}/{}", folder, i, wrong.path), ..wrong });
         }
         if world.chance.one_in(12) {
-            let wrong = ["D00A", "d001", "D01", "D0001", "X001", "D 01", "001", "D-01"];
-            let publisher = world.chance.pick(&wrong).to_string();
+            let publisher = world.chance.pick(&WRONG_PUBLISHERS).to_string();
+            notes.push(format!("publisher\t{}", publisher));
             let mut wrong = offer(extra("publisher"), good.clone());
             if world.chance.one_in(3) {
+                notes.push("publisher\tand a wrong name".into());
                 wrong.path = format!("{}publisher{}/{}", folder, i, "1D24.txt");
             }
             offers.push(Offer { publisher, ..wrong });
@@ -159,28 +177,35 @@ fn damaged(chance: &mut Chance, good: &[u8], notes: &mut Vec<String>) -> Vec<u8>
     damage(chance, good)
 }
 
-/// A name that filing refuses: no name of a file, no date, or a request or response file.
-fn misnamed(chance: &mut Chance, file: &Published, folder: &str, i: usize, good: &[u8]) -> Offer {
+pub const WRONG_PUBLISHERS: [&str; 8] =
+    ["D00A", "d001", "D01", "D0001", "X001", "D 01", "001", "D-01"];
+
+/// Names that filing refuses: no name of a file, no date, or a request or response file. `yymmdd`
+/// stands for the day, `ymmdd` for what is left of it without its first digit.
+pub const WRONG_NAMES: [&str; 12] = [
+    "1Ryymmdd.txt",
+    "1Qyymmdd.txt",
+    "1dyymmdd.txt",
+    "1Dyymmdd.TXT",
+    "7Kyymmdd.txt",
+    "1Dyymmdd.gz",
+    "1D20yymmdd.txt",
+    "1Dymmdd.txt",
+    "1D500101.txt",
+    "1K970101.txt",
+    "1D010229.txt",
+    "x1Dyymmdd.txt",
+];
+
+/// A file by one of these names.
+fn misnamed(chance: &mut Chance, file: &Published, good: &[u8]) -> (&'static str, Offer) {
     let name = file_name(file.letter, file.day);
-    let date = &name[2..8];
-    let wrong = match chance.below(12) {
-        0 => format!("1R{}.txt", date),
-        1 => format!("1Q{}.txt", date),
-        2 => format!("1d{}.txt", date),
-        3 => format!("1D{}.TXT", date),
-        4 => format!("7K{}.txt", date),
-        5 => format!("1D{}.gz", date),
-        6 => format!("1D20{}.txt", date),
-        7 => format!("1D{}.txt", &date[1..]),
-        8 => "1D500101.txt".to_string(),
-        9 => "1K970101.txt".to_string(),
-        10 => "1D010229.txt".to_string(),
-        _ => format!("x1D{}.txt", date),
-    };
-    let path = format!("{}name{}/{}/{}", folder, i, file.publisher, wrong);
+    let wrong = chance.pick(&WRONG_NAMES);
+    let path = wrong.replace("yymmdd", &name[2..8]).replace("ymmdd", &name[3..8]);
     let request = format!("{},{},\r", file.publisher, ddmmyyyy(file.day)).into_bytes();
     let bytes = if wrong.starts_with("1Q") { request } else { good.to_vec() };
-    Offer { publisher: file.publisher.clone(), path, bytes }
+    let path = format!("{}/{}", file.publisher, path);
+    (wrong, Offer { publisher: file.publisher.clone(), path, bytes })
 }
 
 fn words(words: &[&str]) -> Vec<String> {
@@ -220,6 +245,7 @@ fn commands(
         ask(scenario, world, accepted.files.len());
     }
     if world.chance.one_in(10) {
+        scenario.notes.push("start\tagain".into());
         scenario.commands.push(words(&["start", "store", "table.txt"]));
     }
     scenario.commands.push(words(&["show", "store"]));
@@ -238,10 +264,30 @@ fn rework(scenario: &mut Scenario, world: &mut World) {
         }
     }
     if world.chance.one_in(10) {
-        let wrong: [&[&str]; 3] = [&["rework"], &["rework", "store", "store"], &["rework", "none"]];
-        scenario.commands.push(words(world.chance.pick(&wrong)));
+        let wrong = world.chance.pick(&WRONG_REWORKS);
+        scenario.notes.push(format!("command\t{}", wrong));
+        scenario.commands.push(wrong.split(' ').map(str::to_string).collect());
     }
 }
+
+pub const WRONG_REWORKS: [&str; 3] = ["rework", "rework store store", "rework none"];
+
+/// What is wrong with a table that 6 refuses, or a line behind the good ones.
+pub const WRONG_TABLES: [&str; 13] = [
+    "first line twice",
+    "last LF missing",
+    "CR LF for LF",
+    "empty line",
+    "3055,,D00A,02012024",
+    "3055,,D001,02012050",
+    "3055,,D001,31121997",
+    "3055,3056,D001,02012024",
+    ",,D001,02012024",
+    "3055,,D001,02012024,",
+    "3055,D001,02012024",
+    "123456789012,,D001,02012024",
+    "blank behind a comma",
+];
 
 /// A table that 6 refuses, before the good one: nothing is written.
 fn bad_start(scenario: &mut Scenario, world: &mut World) {
@@ -249,21 +295,15 @@ fn bad_start(scenario: &mut Scenario, world: &mut World) {
         return;
     }
     let good: String = world.numbers.iter().map(Num::table_line).collect();
-    let first = world.numbers[0].table_line();
-    let bad = match world.chance.below(13) {
-        0 => good.clone() + &first,
-        1 => good.trim_end().to_string(),
-        2 => good.replace('\n', "\r\n"),
-        3 => good.clone() + "\n",
-        4 => good.clone() + "3055,,D00A,02012024\n",
-        5 => good.clone() + "3055,,D001,02012050\n",
-        6 => good.clone() + "3055,,D001,31121997\n",
-        7 => good.clone() + "3055,3056,D001,02012024\n",
-        8 => good.clone() + ",,D001,02012024\n",
-        9 => good.clone() + "3055,,D001,02012024,\n",
-        10 => good.clone() + "3055,D001,02012024\n",
-        11 => good.clone() + "123456789012,,D001,02012024\n",
-        _ => good.replacen(',', ", ", 1),
+    let wrong = world.chance.pick(&WRONG_TABLES);
+    scenario.notes.push(format!("table\t{}", wrong));
+    let bad = match wrong {
+        "first line twice" => good + &world.numbers[0].table_line(),
+        "last LF missing" => good.trim_end().to_string(),
+        "CR LF for LF" => good.replace('\n', "\r\n"),
+        "empty line" => good + "\n",
+        "blank behind a comma" => good.replacen(',', ", ", 1),
+        line => good + line + "\n",
     };
     scenario.files.push(("bad-table.txt".into(), bad.into_bytes()));
     scenario.commands.push(words(&["start", "store", "bad-table.txt"]));
@@ -296,7 +336,7 @@ fn refused_offers(scenario: &mut Scenario, world: &World, refused: &mut Refused)
             1 => ('K', refused.worked_in_turn(FileKind::Correction)),
             _ => (letter, refused.any(kind)),
         };
-        scenario.notes.push(format!("damage\t{}", name));
+        scenario.notes.push(name);
         let path = format!("refused{}/{}", i, file_name(letter, world.base));
         offers.push(Offer { publisher: "D777".to_string(), path, bytes });
     }
@@ -330,6 +370,10 @@ fn accept(store: &mut Store, offer: &Offer) {
     let _: Result<Answer, Answer> = heading.map(|heading| store.file(heading, &offer.bytes));
 }
 
+/// What `show` is asked for and is no number.
+pub const STRANGE_NUMBERS: [&str; 7] =
+    ["abc", "3055500-", "30555-30555", "123456789012", "3055501,", "D001", "-"];
+
 /// All that can be asked about a store with this many files.
 fn ask(scenario: &mut Scenario, world: &mut World, files: usize) {
     let named: Vec<String> = world.numbers.iter().map(Num::named).collect();
@@ -351,8 +395,8 @@ fn ask(scenario: &mut Scenario, world: &mut World, files: usize) {
         scenario.commands.push(before);
     }
     if world.chance.one_in(3) {
-        let strange = ["abc", "3055500-", "30555-30555", "123456789012", "3055501,", "D001", "-"];
-        let strange = world.chance.pick(&strange);
+        let strange = world.chance.pick(&STRANGE_NUMBERS);
+        scenario.notes.push(format!("number\t{}", strange));
         let unknown = world.chance.pick(&world.unknown).named();
         let known = world.chance.pick(&named);
         scenario.commands.push(words(&["show", "store", &known, &unknown, strange, &known]));
@@ -387,7 +431,7 @@ fn read_some(
     } else if !refused.chance().one_in(4) {
         let in_turn = refused.chance().one_in(2);
         let (name, wrong) = if in_turn { refused.worked_in_turn(kind) } else { refused.any(kind) };
-        scenario.notes.push(format!("damage\t{}", name));
+        scenario.notes.push(name);
         bytes = wrong;
     }
     let path = format!("read/{}", file_name(letter, day));
@@ -404,22 +448,28 @@ fn stop_at_a_missing_file(scenario: &mut Scenario, world: &mut World) {
     let publisher = world.chance.pick(&world.codes);
     let missing = format!("missing/{}", file_name('D', day));
     let behind = format!("behind/{}", file_name('K', day));
+    scenario.notes.push("file\tmissing".into());
     scenario.files.push((behind.clone(), file_text(&[])));
     scenario.commands.push(words(&["file", "store", &publisher, &missing, &behind]));
 }
+
+/// The limits that scenarios reach.
+pub const LIMITS: [&str; 4] =
+    ["8192 regular records", "2048 corrections", "1024 numbers", "1024 files"];
 
 /// Rarely: a scenario that reaches a limit.
 fn limit_scenario(seed: u64) -> Scenario {
     let mut world = World::new(seed);
     world.numbers.truncate(2);
     let mut scenario = Scenario { files: Vec::new(), commands: Vec::new(), notes: Vec::new() };
-    let offers = match seed / 40 % 4 {
+    let limit = (seed / 40 % 4) as usize;
+    let offers = match limit {
         0 => full_journal(&mut world, 'D', 8192),
         1 => full_journal(&mut world, 'K', 2048),
         2 => full_table(&mut scenario, &mut world),
         _ => many_files(&mut world),
     };
-    scenario.notes.push(format!("limit\t{}", seed / 40 % 4));
+    scenario.notes.push(format!("limit\t{}", LIMITS[limit]));
     let table: String = world.numbers.iter().map(Num::table_line).collect();
     scenario.files.push(("table.txt".into(), table.into_bytes()));
     scenario.files.push(("LIST".into(), list(&mut world, &offers)));

@@ -8,7 +8,7 @@ use crate::chance::Chance;
 use crate::told::{Num, Rep, Told};
 
 /// What a scenario is about most of all.
-#[derive(Clone, Copy, PartialEq, Eq)]
+#[derive(Clone, Copy, PartialEq, Eq, Debug)]
 pub enum Flavour {
     Mixed,
     Returns,
@@ -39,6 +39,37 @@ pub const FLAVOURS: [Flavour; 12] = [
     Flavour::Breaches,
 ];
 
+/// The stories that are told.
+pub const STORIES: [&str; 12] = [
+    "port",
+    "return",
+    "return over the exception",
+    "near",
+    "object",
+    "objected pair",
+    "other code",
+    "again",
+    "breach",
+    "crowd",
+    "refill",
+    "one day",
+];
+
+/// Codes of objections, the first ones more often than the others.
+pub const OBJECTION_CODES: [&str; 16] = [
+    "2500", "2500", "2500", "2501", "2502", "2505", "2508", "2510", "2547", "2599", "2509", "2511",
+    "2546", "2548", "2560", "2598",
+];
+
+/// Correction codes that are not built at first.
+pub const OTHER_CODES: [&str; 22] = [
+    "0000", "0100", "0300", "0500", "2000", "2046", "2100", "2200", "2400", "2499", "2600", "3000",
+    "3025", "4100", "4200", "4500", "4700", "6000", "6100", "6101", "6200", "9999",
+];
+
+/// The rules that a story breaks, by the verdict that it is after.
+pub const BREACHES: [&str; 8] = ["12", "13", "14 of a Z", "15", "16", "17 or 18", "19", "14"];
+
 pub struct World {
     pub chance: Chance,
     pub flavour: Flavour,
@@ -49,8 +80,9 @@ pub struct World {
     /// Stories begin on this day or soon after it.
     pub base: Day,
     pub told: Vec<Told>,
-    /// Which stories were told, for the coverage report.
+    /// Which stories were told, and what they chose, for the coverage report.
     pub notes: Vec<&'static str>,
+    pub choices: Vec<String>,
 }
 
 /// Numbers that are easily taken for each other.
@@ -106,6 +138,7 @@ impl World {
             base,
             told: Vec::new(),
             notes: Vec::new(),
+            choices: Vec::new(),
         }
     }
 
@@ -314,11 +347,8 @@ impl World {
             Some(report) => report,
             None => return,
         };
-        let codes = [
-            "2500", "2500", "2500", "2501", "2502", "2505", "2508", "2510", "2547", "2599", "2509",
-            "2511", "2546", "2548", "2560", "2598",
-        ];
-        let code = self.chance.pick(&codes);
+        let code = self.chance.pick(&OBJECTION_CODES);
+        self.choices.push(format!("code\t{}", code));
         match self.chance.below(12) {
             0 => named.date = named.date.saturating_sub(1),
             1 => named.gaining = self.code(),
@@ -387,11 +417,8 @@ impl World {
 
     /// Correction codes that are not built at first, with one part or both.
     fn other_code(&mut self) {
-        let codes = [
-            "0000", "0100", "0300", "0500", "2000", "2046", "2100", "2200", "2400", "2499", "2600",
-            "3000", "3025", "4100", "4200", "4500", "4700", "6000", "6100", "6101", "6200", "9999",
-        ];
-        let code = self.chance.pick(&codes);
+        let code = self.chance.pick(&OTHER_CODES);
+        self.choices.push(format!("code\t{}", code));
         let mut report = self.report('P');
         if self.chance.one_in(5) {
             report.number = self.chance.pick(&self.unknown);
@@ -430,19 +457,21 @@ impl World {
         let mut day = self.soon(report.date);
         let mut publisher = None;
         for _ in 0..self.chance.pick(&[1, 1, 2]) {
-            match self.chance.below(8) {
-                0 => report.number = self.chance.pick(&self.unknown), // 12
-                1 => publisher = Some(self.code()),                   // 13
-                2 => report.losing = report.number.owner.clone(),     // 14 for a Z
-                3 => day = report.date.saturating_sub(self.chance.below(3) as Day), // 15
-                4 => report.date = report.number.set_up.saturating_sub(1), // 16
-                5 => report.date = self.base,                         // 17 or 18
-                6 => {
-                    report.status = 'Z'; // 19
+            let breach = self.chance.pick(&BREACHES);
+            self.choices.push(format!("breach\t{}", breach));
+            match breach {
+                "12" => report.number = self.chance.pick(&self.unknown),
+                "13" => publisher = Some(self.code()),
+                "14 of a Z" => report.losing = report.number.owner.clone(),
+                "15" => day = report.date.saturating_sub(self.chance.below(3) as Day),
+                "16" => report.date = report.number.set_up.saturating_sub(1),
+                "17 or 18" => report.date = self.base,
+                "19" => {
+                    report.status = 'Z';
                     report.gaining = self.code();
                 }
                 _ => {
-                    report.status = 'P'; // 14
+                    report.status = 'P';
                     report.gaining = report.losing.clone();
                 }
             }
