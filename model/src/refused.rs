@@ -6,12 +6,16 @@ use crate::chance::Chance;
 use crate::damage::DAMAGES;
 use crate::files::{closing_record, read_file, FileKind};
 use crate::known::worked_name;
+use crate::scenario::turn;
 use crate::strike::struck;
 use crate::wrong::{good_lines, unended_lines, wrong_lines, WRONG_FILES};
 
+/// As many scenarios as are run at each gate whatever the commit.
+const ROUND: usize = 80;
+
 pub struct Refused {
     chance: Chance,
-    seed: u64,
+    turn: usize,
     /// Good records of the scenario, reports and corrections.
     reports: Vec<Vec<u8>>,
     corrections: Vec<Vec<u8>>,
@@ -31,17 +35,19 @@ fn wrong_files(kind: FileKind) -> Vec<&'static [u8]> {
 
 impl Refused {
     pub fn new(seed: u64, reports: Vec<Vec<u8>>, corrections: Vec<Vec<u8>>) -> Refused {
-        Refused { chance: Chance::new(seed + (1 << 32)), seed, reports, corrections }
+        Refused { chance: Chance::new(seed + (1 << 32)), turn: turn(seed), reports, corrections }
     }
 
     pub fn chance(&mut self) -> &mut Chance {
         &mut self.chance
     }
 
-    /// One after the other from seed to seed, so that few seeds have all of them.
-    pub fn worked_in_turn(&mut self, kind: FileKind) -> RefusedFile {
-        let turn = (self.seed - self.seed / 40) as usize;
-        self.worked(kind, turn)
+    /// The worked faults whose turn it is, so many at a time that ROUND scenarios in a row have all
+    /// of them.
+    pub fn worked_in_turn(&mut self, kind: FileKind) -> Vec<RefusedFile> {
+        let at_a_time = (worked_count(kind) + ROUND - 1) / ROUND;
+        let first = self.turn * at_a_time;
+        (first..first + at_a_time).map(|turn| self.worked(kind, turn)).collect()
     }
 
     /// A worked fault, a damaged file, or a struck record; what is good all the same is passed over.
@@ -63,7 +69,7 @@ impl Refused {
                 return (name, bytes);
             }
         }
-        self.worked_in_turn(kind)
+        self.worked(kind, 0)
     }
 
     /// The worked lines of a kind in files, then the worked files.

@@ -6,7 +6,7 @@ use crate::damage::DAMAGES;
 use crate::files::FileKind;
 use crate::refused::Refused;
 use crate::store::{read_table, Answer, Store};
-use crate::stories::{Flavour, World};
+use crate::stories::{Flavour, World, OTHER_CODES};
 use crate::told::{ddmmyyyy, file_name, file_text, Num, Told};
 use std::collections::BTreeMap;
 
@@ -54,9 +54,22 @@ pub fn fills_a_store(seed: u64) -> bool {
     seed % 40 == 39
 }
 
+/// Counts the scenarios up to this one, those that fill a store left out: what goes in turn goes on
+/// from one to the next.
+pub fn turn(seed: u64) -> usize {
+    (seed - seed / 40) as usize
+}
+
+/// One item after the other, in every so manieth scenario.
+fn in_turn(seed: u64, every: usize, items: &[&'static str]) -> Option<&'static str> {
+    let of = turn(seed);
+    (of % every == 0).then(|| items[of / every % items.len()])
+}
+
 fn story_scenario(seed: u64) -> Scenario {
     let mut world = World::new(seed);
     world.tell();
+    world.tell_code(OTHER_CODES[turn(seed) % OTHER_CODES.len()]);
     let files = published(&mut world);
     let mut notes: Vec<String> = world.notes.iter().map(|n| format!("story\t{}", n)).collect();
     notes.push(format!("flavour\t{:?}", world.flavour));
@@ -70,7 +83,14 @@ fn story_scenario(seed: u64) -> Scenario {
     let mut scenario = Scenario { files: Vec::new(), commands: Vec::new(), notes };
     scenario.files.push(("table.txt".into(), table.into_bytes()));
     let mut refused = refused(seed, &world);
+    if let Some(wrong) = in_turn(seed, 3, &WRONG_TABLES) {
+        bad_start(&mut scenario, &world, wrong);
+    }
     commands(&mut scenario, &mut world, offers, &mut refused);
+    if let Some(wrong) = in_turn(seed, 10, &WRONG_REWORKS) {
+        scenario.notes.push(format!("command\t{}", wrong));
+        scenario.commands.push(wrong.split(' ').map(str::to_string).collect());
+    }
     scenario
 }
 
@@ -146,14 +166,8 @@ fn offers(
             offers.push(Offer { path: format!("{}name{}/{}", folder, i, wrong.path), ..wrong });
         }
         if world.chance.one_in(12) {
-            let publisher = world.chance.pick(&WRONG_PUBLISHERS).to_string();
-            notes.push(format!("publisher\t{}", publisher));
-            let mut wrong = offer(extra("publisher"), good.clone());
-            if world.chance.one_in(3) {
-                notes.push("publisher\tand a wrong name".into());
-                wrong.path = format!("{}publisher{}/{}", folder, i, "1D24.txt");
-            }
-            offers.push(Offer { publisher, ..wrong });
+            let right = offer(extra("publisher"), good.clone());
+            offers.push(misaddressed(&mut world.chance, right, notes));
         }
         offers.push(offer(file.path(folder), good.clone()));
         if world.chance.one_in(8) {
@@ -179,6 +193,17 @@ fn damaged(chance: &mut Chance, good: &[u8], notes: &mut Vec<String>) -> Vec<u8>
 
 pub const WRONG_PUBLISHERS: [&str; 8] =
     ["D00A", "d001", "D01", "D0001", "X001", "D 01", "001", "D-01"];
+
+/// The same from a publisher that is none; now and then by a name that is none either.
+fn misaddressed(chance: &mut Chance, offer: Offer, notes: &mut Vec<String>) -> Offer {
+    let publisher = chance.pick(&WRONG_PUBLISHERS).to_string();
+    notes.push(format!("publisher\t{}", publisher));
+    if !chance.one_in(3) {
+        return Offer { publisher, ..offer };
+    }
+    notes.push("publisher\tand a wrong name".into());
+    Offer { publisher, path: offer.path + "/1D24.txt", ..offer }
+}
 
 /// Names that filing refuses: no name of a file, no date, or a request or response file. `yymmdd`
 /// stands for the day, `ymmdd` for what is left of it without its first digit.
@@ -220,7 +245,6 @@ fn commands(
     mut offers: Vec<Offer>,
     refused: &mut Refused,
 ) {
-    bad_start(scenario, world);
     scenario.commands.push(words(&["start", "store", "table.txt"]));
     if world.chance.one_in(6) {
         ask(scenario, world, 0);
@@ -255,21 +279,16 @@ fn commands(
     }
 }
 
-/// All entries worked out again in the end: none changes, and what is asked then says so too; now
-/// and then a command line that is wrong.
+/// All entries worked out again in the end: none changes, and what is asked then says so too.
 fn rework(scenario: &mut Scenario, world: &mut World) {
     if world.chance.one_in(3) {
         for command in ["rework", "figure", "rework"] {
             scenario.commands.push(words(&[command, "store"]));
         }
     }
-    if world.chance.one_in(10) {
-        let wrong = world.chance.pick(&WRONG_REWORKS);
-        scenario.notes.push(format!("command\t{}", wrong));
-        scenario.commands.push(wrong.split(' ').map(str::to_string).collect());
-    }
 }
 
+/// Command lines that are wrong.
 pub const WRONG_REWORKS: [&str; 3] = ["rework", "rework store store", "rework none"];
 
 /// What is wrong with a table that 6 refuses, or a line behind the good ones.
@@ -290,12 +309,8 @@ pub const WRONG_TABLES: [&str; 13] = [
 ];
 
 /// A table that 6 refuses, before the good one: nothing is written.
-fn bad_start(scenario: &mut Scenario, world: &mut World) {
-    if !world.chance.one_in(3) {
-        return;
-    }
+fn bad_start(scenario: &mut Scenario, world: &World, wrong: &str) {
     let good: String = world.numbers.iter().map(Num::table_line).collect();
-    let wrong = world.chance.pick(&WRONG_TABLES);
     scenario.notes.push(format!("table\t{}", wrong));
     let bad = match wrong {
         "first line twice" => good + &world.numbers[0].table_line(),
@@ -320,22 +335,20 @@ fn list(world: &mut World, offers: &[Offer]) -> Vec<u8> {
     text.into_bytes()
 }
 
-/// Default and correction files of a network that has no other files: a worked fault of each kind,
-/// and any others.
+/// Default and correction files of a network that has no other files: the worked faults of each
+/// kind whose turn it is, and any others.
 fn refused_offers(scenario: &mut Scenario, world: &World, refused: &mut Refused) -> Vec<Offer> {
     let others = if world.flavour == Flavour::Damage { 8 } else { 2 };
+    let (reports, corrections) = (('D', FileKind::Default), ('K', FileKind::Correction));
+    let mut files = Vec::new();
+    files.extend(refused.worked_in_turn(reports.1).into_iter().map(|file| (reports.0, file)));
+    files.extend(refused.worked_in_turn(corrections.1).into_iter().map(|f| (corrections.0, f)));
+    files.extend((0..others).map(|_| {
+        let (letter, kind) = refused.chance().pick(&[reports, corrections, corrections]);
+        (letter, refused.any(kind))
+    }));
     let mut offers = Vec::new();
-    for i in 0..2 + others {
-        let (letter, kind) = refused.chance().pick(&[
-            ('D', FileKind::Default),
-            ('K', FileKind::Correction),
-            ('K', FileKind::Correction),
-        ]);
-        let (letter, (name, bytes)) = match i {
-            0 => ('D', refused.worked_in_turn(FileKind::Default)),
-            1 => ('K', refused.worked_in_turn(FileKind::Correction)),
-            _ => (letter, refused.any(kind)),
-        };
+    for (i, (letter, (name, bytes))) in files.into_iter().enumerate() {
         scenario.notes.push(name);
         let path = format!("refused{}/{}", i, file_name(letter, world.base));
         offers.push(Offer { publisher: "D777".to_string(), path, bytes });
@@ -429,14 +442,28 @@ fn read_some(
     if chance.one_in(3) {
         bytes = damaged(chance, &bytes, &mut scenario.notes);
     } else if !refused.chance().one_in(4) {
-        let in_turn = refused.chance().one_in(2);
-        let (name, wrong) = if in_turn { refused.worked_in_turn(kind) } else { refused.any(kind) };
+        let (name, wrong) = refused.any(kind);
         scenario.notes.push(name);
         bytes = wrong;
     }
-    let path = format!("read/{}", file_name(letter, day));
+    read_also(scenario, format!("read/{}", file_name(letter, day)), bytes);
+    read_worked(scenario, day, refused);
+}
+
+/// `read` of a file that is not offered.
+fn read_also(scenario: &mut Scenario, path: String, bytes: Vec<u8>) {
     scenario.commands.push(words(&["read", &path]));
     scenario.files.push((path, bytes));
+}
+
+/// `read` of request and response files with the worked faults whose turn it is.
+fn read_worked(scenario: &mut Scenario, day: Day, refused: &mut Refused) {
+    let requests = refused.worked_in_turn(FileKind::Request).into_iter().map(|file| ('Q', file));
+    let responses = refused.worked_in_turn(FileKind::Response).into_iter().map(|file| ('R', file));
+    for (i, (letter, (name, bytes))) in requests.chain(responses).enumerate() {
+        scenario.notes.push(name);
+        read_also(scenario, format!("worked{}/{}", i, file_name(letter, day)), bytes);
+    }
 }
 
 /// A file that can't be read stops filing: status 2, and the file behind it is not filed.

@@ -197,7 +197,10 @@ impl World {
             "near" => self.near(),
             "object" => self.object(),
             "objected pair" => self.objected_pair(),
-            "other code" => self.other_code(),
+            "other code" => {
+                let code = self.chance.pick(&OTHER_CODES);
+                self.tell_code(code);
+            }
             "again" => self.again(),
             "breach" => self.breach(),
             "crowd" => self.crowd(),
@@ -415,9 +418,8 @@ impl World {
         }
     }
 
-    /// Correction codes that are not built at first, with one part or both.
-    fn other_code(&mut self) {
-        let code = self.chance.pick(&OTHER_CODES);
+    /// A correction with a code that is not built at first, with one part or both.
+    pub fn tell_code(&mut self, code: &str) {
         self.choices.push(format!("code\t{}", code));
         let mut report = self.report('P');
         if self.chance.one_in(5) {
