@@ -1,4 +1,4 @@
-/* Writes a year as a scenario (model/README.md), so that tests/compare runs it: scenario SEED FOLDER. */
+/* Writes a year as a scenario (witness/README.md), so that tests/compare runs it: scenario SEED FOLDER. */
 #include "plain.h"
 #include "year.h"
 

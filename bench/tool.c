@@ -1,4 +1,4 @@
-/* The command line of the tool over plain.c, so that tests/compare can hold it to the model: what the benchmark compares with is right. */
+/* The command line of the tool over plain.c, so that tests/compare can hold it to the witness: what the benchmark compares with is right. */
 #include "plain.h"
 
 #include <stdio.h>
@@ -352,7 +352,7 @@ static int read_file(const char *path) {
 
 int main(int argc, char **argv) {
     if (argc < 3)
-        stop("usage: as model/README.md has it");
+        stop("usage: as witness/README.md has it");
     const char *command = argv[1], *path = argv[2];
     int list = argc > 3 && strcmp(argv[3], "--list") == 0, before = argc > 4 && strcmp(argv[3], "--before") == 0;
     if (strcmp(command, "start") == 0 && argc == 4)
@@ -374,5 +374,5 @@ int main(int argc, char **argv) {
         return figure();
     if (strcmp(command, "rework") == 0 && argc == 3)
         return rework(path);
-    stop("usage: as model/README.md has it");
+    stop("usage: as witness/README.md has it");
 }

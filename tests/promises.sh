@@ -10,7 +10,7 @@ for name in $(grep -o '`\([a-z_0-9]*/\)\{0,1\}[a-z0-9]*_[a-z_0-9]*`' "$page" | t
     count=$((count + 1))
     case $name in
     */*) where=crates/${name%%/*} ;;
-    *) where='crates include tests bench model' ;;
+    *) where='crates include tests bench witness' ;;
     esac
     last=${name#*/}
     case $last in _*) last=dagskimra$last ;; esac # the functions of include/dagskimra.h, without their first word

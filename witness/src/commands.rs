@@ -16,17 +16,17 @@ type Status = u8;
 /// Exit status 2, with words for people: usage, or a file that can't be read or written.
 type Stopped = String;
 
-const USAGE: &str = "usage: model start STORE TABLE
-       model file STORE PUBLISHER FILE...
-       model file STORE --list LIST
-       model files STORE
-       model show STORE [--before N] [NUMBER...]
-       model why STORE NUMBER...
-       model verdicts STORE
-       model figure STORE
-       model rework STORE
-       model read FILE
-       model selftest";
+const USAGE: &str = "usage: witness start STORE TABLE
+       witness file STORE PUBLISHER FILE...
+       witness file STORE --list LIST
+       witness files STORE
+       witness show STORE [--before N] [NUMBER...]
+       witness why STORE NUMBER...
+       witness verdicts STORE
+       witness figure STORE
+       witness rework STORE
+       witness read FILE
+       witness selftest";
 
 /// Runs one command line; output goes to `out` as far as the command came.
 pub fn run(args: &[&[u8]], out: &mut Vec<u8>) -> Result<Status, Stopped> {

@@ -1,23 +1,8 @@
-//! The model: a plain program that answers about porting files, written from the paper alone.
-
-mod calendar;
-#[allow(dead_code)] // the generator takes more chances
-mod chance;
-mod commands;
-mod dialogue;
-mod examples;
-mod faults;
-mod files;
-mod layout;
-mod lines;
-mod store;
-mod strike;
-mod verdict;
-mod worked;
-mod wrong;
+//! The witness: a plain program that answers about porting files, written from the paper alone.
 
 use std::io::Write;
 use std::os::unix::ffi::OsStringExt;
+use witness::{commands, examples};
 
 fn main() {
     let args: Vec<Vec<u8>> = std::env::args_os().skip(1).map(|a| a.into_vec()).collect();

@@ -367,7 +367,7 @@ fn with_refused(list: Vec<u8>, offers: &[Offer], refused: &mut Refused) -> Vec<u
     lines.concat()
 }
 
-/// The model's own store after these offers: `show --before N` needs to know how many files there
+/// The witness's own store after these offers: `show --before N` needs to know how many files there
 /// are.
 fn accepted(world: &World, offers: &[Offer]) -> Store {
     let table: String = world.numbers.iter().map(Num::table_line).collect();

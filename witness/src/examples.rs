@@ -1,4 +1,4 @@
-//! `model selftest`: calendar, layouts and limits, and the examples of worked.rs, each with the
+//! `witness selftest`: calendar, layouts and limits, and the examples of worked.rs, each with the
 //! answer that the paper gives.
 
 use crate::calendar::{

@@ -1,38 +1,21 @@
 //! The generator: writes seeded scenarios, and says what they reach.
-#![allow(dead_code)]
 
-mod calendar;
-mod chance;
-mod commands;
-mod damage;
-mod faults;
-mod files;
-mod known;
-mod layout;
-mod refused;
-mod scenario;
-mod store;
-mod stories;
-mod strike;
-mod told;
-mod verdict;
-mod wrong;
-
-use calendar::{holiday_list_before, the_exception};
-use files::read_name;
-use known::{kind_name, known, EXCEPTION};
-use layout::ReportKind;
-use scenario::{fills_a_store, scenario, Scenario};
 use std::collections::BTreeMap;
 use std::fs;
 use std::io;
 use std::path::Path;
-use store::shown;
-use verdict::{Content, Filed};
+use witness::calendar::{holiday_list_before, the_exception};
+use witness::commands;
+use witness::files::read_name;
+use witness::known::{kind_name, known, EXCEPTION};
+use witness::layout::ReportKind;
+use witness::scenario::{fills_a_store, scenario, Scenario};
+use witness::store::{self, shown};
+use witness::verdict::{Content, Filed};
 
 const USAGE: &str = "usage: generate SEED FOLDER       writes the scenario of this seed
        generate --what SEED        says what is in it
-       generate --coverage N       runs the scenarios 1 to N through the model and counts
+       generate --coverage N       runs the scenarios 1 to N through the witness and counts
        generate --coverage FROM TO ..    runs those of these seeds";
 
 fn main() {
@@ -94,7 +77,7 @@ fn quote(word: &str) -> String {
     }
 }
 
-/// Runs the scenarios of these seeds, FROM to TO, through the model and prints how often each thing
+/// Runs the scenarios of these seeds, FROM to TO, through the witness and prints how often each thing
 /// that is known occurred, and others; false where one that is known never did. What only full
 /// stores have is asked for where a scenario among them fills one.
 fn coverage(ranges: &[(u64, u64)]) -> Result<bool, String> {

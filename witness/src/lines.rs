@@ -1,4 +1,4 @@
-//! Request K1 in `model selftest`: the answers of wrong.rs, and the judge of records beside the
+//! Request K1 in `witness selftest`: the answers of wrong.rs, and the judge of records beside the
 //! search for faults over many lines that were struck.
 
 use crate::chance::Chance;

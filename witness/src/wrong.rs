@@ -1,6 +1,6 @@
 //! Request K1 worked through: lines and files that are refused with 4, each with the field and the
 //! cause that the request gives, by hand. Every position of each table with every cause that can
-//! occur there; `model selftest` asks for these answers, and scenarios have these lines in files.
+//! occur there; `witness selftest` asks for these answers, and scenarios have these lines in files.
 
 use crate::faults::Cause::{self, After, Character, Closing, Code, Date, Length, Value};
 use crate::files::FileKind::{self, Correction, Default, Request, Response};
