@@ -4,7 +4,6 @@
 set -u
 here=$(cd "$(dirname "$0")" && pwd -P)
 tool=$here/../../bin/dagskimra
-program=$here/../../target/bin/dagskimra
 . "$here/kit.inc"
 room=$(mktemp -d) || exit 2
 trap 'rm -rf "$room"' EXIT
