@@ -18,6 +18,7 @@ Dagskimra keeps the books of a telephone number exchange in a folder, STORE.
   dagskimra read FILE                       the records of a file, without a store
   dagskimra demo                            a small day at the bureau
   dagskimra help COMMAND                    one command with an example
+  dagskimra --version                       version, kit, sum of the sources, program
 
 Output is tab separated, a line each; words for people go to standard error.
 Exit status: 0 all is well; 1 something was refused, or the figure is not 0;
@@ -166,7 +167,18 @@ usage: dagskimra demo
 
 A small day at the bureau in a temporary folder: a number moves, a late file
 arrives, an objection stops a pair, a damaged file is refused. Each command is
-shown with what it prints.
+shown with what it prints. It stops at the first that ends otherwise than it
+should, with status 2.
+END
+        ;;
+    --version)
+        cat <<'END'
+usage: dagskimra --version
+
+Prints `dagskimra` and its version; `kit` and the version of the Rattle kit, or
+of the one that dist/ was made with where there is none; `sources` and the sum of
+all that the program is made from; `program` and the one that is run, which is of
+these sources, or `to be built`. It never builds.
 END
         ;;
     help)
