@@ -97,7 +97,7 @@ remember() { # MARK
             printf '%s\n' "$program" "$kit_id" "$sum" crates.txt crates
             crates_of | sed 's|^\([^ ]*\).*|crates/\1|'
             # shellcheck disable=SC2046
-            find $(crates_of | folders) dist "$program" "$program.built" 2>/dev/null
+            find $(crates_of | folders) dist "$program" "$program.built" 2>/dev/null || : # not every crate has all three
         } >"$1.new" && touch -r "$1" "$1.new" && mv "$1.new" target/seen
     )
 }

@@ -33,6 +33,12 @@ builds() { # COUNT: how often rt was asked to build since the last look
     : >kit/calls
     [ "$count" -eq "$1" ] || fault "rt was asked $count times to build, and should be $1 times"
 }
+sums() { # HOW: whether sums were worked out since the last look: anew, or not
+    how=anew
+    [ -s kit/sums ] || how=not
+    : >kit/sums
+    [ "$how" = "$1" ] || fault "sums were worked out: $how, and should be: $1"
+}
 launch() { # WORDS...
     # shellcheck disable=SC2086
     PATH=$room/kit/bin:$path $drop "$books/bin/dagskimra" "$@" >out 2>said
@@ -67,7 +73,13 @@ cat >kit/program <<'END'
 echo "SOURCE runs $*"
 case "$*" in 'file books D001'*) printf 2 >&3 ;; *) printf 0 >&3 ;; esac
 END
-chmod 755 kit/bin/rt "kit/on/$machine/toolchain/lib/ld-linux-x86-64.so.2"
+cat >kit/bin/sha256sum <<END
+#!/bin/sh
+echo sum >>"$room/kit/sums"
+exec "$(command -v sha256sum)" "\$@"
+END
+: >kit/sums
+chmod 755 kit/bin/* "kit/on/$machine/toolchain/lib/ld-linux-x86-64.so.2"
 
 # ---- the repository
 mkdir -p "$books/dist"
@@ -121,24 +133,30 @@ also 'no program here is of these sources.* minutes .* memory .* disk'
 grep -v 'no program here' said >progress
 printf 'dagskimra: proving %s\n' '1 of 3: laws' '2 of 3: desk' '3 of 3: dagskimra' | cmp -s - progress || fault "progress: $(cat progress)"
 builds 1
+sums anew
 launch show books
 expect 0 '^first runs show books$'
 says 0
 builds 0
+sums not
 launch --version
 expect 0 '^program	target/bin/dagskimra$'
+sums not
 
 turn='dist/'
 PATH=$room/kit/bin:$path sh "$books/dist/make" >out 2>said
 expect 0 "^processor $machine$"
 builds 0
 rm -rf "$books/target"
+sums anew
 launch show books
 expect 0 '^first runs show books$'
 says 0
+sums anew
 launch --version
 expect 0 '^program	dist/dagskimra$'
 builds 0
+sums not
 
 # each change of what the program is made from has it built, and taken back has dist/ run again
 changes() { # BUILDS WHAT COMMAND: the command is run in the repository
@@ -148,15 +166,18 @@ changes() { # BUILDS WHAT COMMAND: the command is run in the repository
     launch show books
     expect 0 'runs show books$'
     builds "$1"
+    : >kit/sums
     launch show books
     expect 0 'runs show books$'
     says 0
     builds 0
+    sums not
     rm -rf "$books" && cp -Rp was "$books"
     launch show books
     expect 0 '^first runs show books$'
     says 0
     builds 0
+    : >kit/sums
 }
 changes 1 'an edited source' 'echo second >crates/dagskimra/src/main.rt'
 changes 1 'an edited definition' 'echo more >>crates/laws/specs/S.antt'
@@ -206,7 +227,7 @@ builds 1
 turn='a checkout that can not be written'
 if [ "$(id -u)" -eq 0 ] && command -v setpriv >/dev/null 2>&1; then
     chmod 755 "$room"
-    chmod 666 kit/calls
+    chmod 666 kit/calls kit/sums
     : >out
     : >said
     drop='setpriv --reuid=65534 --regid=65534 --clear-groups'
@@ -221,6 +242,7 @@ if [ "$(id -u)" -eq 0 ] && command -v setpriv >/dev/null 2>&1; then
     launch --version
     expect 0 '^program	dist/dagskimra$'
     says 1
+    sums anew
     launch demo
     [ "$(grep -c "can't be written" said)" -eq 1 ] || fault "it should say once that it can't be written, and says: $(cat said)"
     [ ! -e "$books/target" ] || fault 'target/ is made'
