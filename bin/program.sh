@@ -89,17 +89,14 @@ remembered() {
     [ -z "$changed" ]
 }
 
-# Keeps what was seen, as of the time of the file MARK. Where target/ can't be written nothing is kept.
+# Keeps what was seen, as of the time of the file MARK: all of it or, where it can't be written, nothing.
 remember() { # MARK
     (
         cd "$root" || exit
-        {
-            printf '%s\n' "$program" "$kit_id" "$sum" crates.txt crates
-            crates_of | sed 's|^\([^ ]*\).*|crates/\1|'
-            # shellcheck disable=SC2046
-            find $(crates_of | folders) dist "$program" "$program.built" 2>/dev/null || : # not every crate has all three
-        } >"$1.new" && touch -r "$1" "$1.new" && mv "$1.new" target/seen
-    )
+        # shellcheck disable=SC2046
+        looked=$(find $(crates_of | sed 's|^\([^ ]*\).*|crates/\1|') dist "$program" "$program.built" -name must-fail -prune -o -print)
+        printf '%s\n' "$program" "$kit_id" "$sum" crates.txt crates "$looked" >"$1.new" && touch -r "$1" "$1.new" && mv "$1.new" target/seen
+    ) 2>/dev/null
 }
 
 # whether PROGRAM is the one that the text BUILT tells of, and is made from these sources
