@@ -93,8 +93,11 @@ remembered() {
 remember() { # MARK
     (
         cd "$root" || exit
-        # shellcheck disable=SC2046
-        looked=$(find $(crates_of | sed 's|^\([^ ]*\).*|crates/\1|') dist "$program" "$program.built" -name must-fail -prune -o -print)
+        looked=$(
+            crates_of | sed 's|^\([^ ]*\).*|crates/\1|'
+            # shellcheck disable=SC2046
+            find $(crates_of | folders) dist "$program" "$program.built"
+        )
         printf '%s\n' "$program" "$kit_id" "$sum" crates.txt crates "$looked" >"$1.new" && touch -r "$1" "$1.new" && mv "$1.new" target/seen
     ) 2>/dev/null
 }
