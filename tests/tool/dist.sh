@@ -12,8 +12,8 @@ if cmp -s "$built" "dist/$name"; then
     exit
 fi
 echo "dist: the program of dist/, made on $made_on, is not the one built here, on $(uname -m):"
-cmp "$built" "dist/$name"
-echo "  $(cmp -l "$built" "dist/$name" 2>/dev/null | wc -l) bytes differ"
+cmp "$built" "dist/$name" 2>&1 | sed 's/^/  /'
+echo "  $(cmp -l "$built" "dist/$name" 2>/dev/null | wc -l) bytes differ where both have one"
 if [ -f "$built" ] && [ -f "dist/$name" ] && [ "$made_on" != "$(uname -m)" ]; then exit 0; fi
 echo "'sh dist/make' makes dist/ anew; commit what it makes"
 exit 1
