@@ -29,9 +29,11 @@ compile --extern witness="$room/libwitness.rlib" witness/src/generate.rs -o "$ro
 }
 tail -n 1 "$room/selftest"
 
-# By its launcher once, which builds the program where it is missing or older than its sources.
-printf 'D001,,\r' >"$room/1Q240306.txt"
-bin/dagskimra read "$room/1Q240306.txt" >/dev/null
+# The program that the launcher runs, built where there is none.
+here=$PWD/tests/tool
+. "$here/kit.inc"
+DAGSKIMRA_PROGRAM=$program
+export DAGSKIMRA_PROGRAM
 
 # What is printed is compared, and not what a disk keeps: the stores may stand in memory.
 if [ -z "${TMPDIR:-}" ] && [ -d /dev/shm ] && [ -w /dev/shm ]; then
@@ -40,7 +42,7 @@ if [ -z "${TMPDIR:-}" ] && [ -d /dev/shm ] && [ -w /dev/shm ]; then
 fi
 
 compare() { # FROM TO
-    tests/compare --proved --seeds "$1" "$2" target/bin/dagskimra "$room/witness" "$room/generate"
+    tests/compare --proved --seeds "$1" "$2" "$program" "$room/witness" "$room/generate"
 }
 
 if [ $# -eq 2 ]; then
