@@ -4,7 +4,7 @@ name=dagskimra
 # the one place that says it; docs/DECISIONS.md says how it is counted
 version=0.4
 # What a build takes, seen on two processors. Each job is a process of the prover; RT_JOBS says how many there are at once.
-takes='about 15 minutes on two processors, up to 1.2 GB of memory for each, and 0.6 GB of disk'
+takes='about 15 minutes on two processors, up to 1.5 GB of memory for each, and 0.9 GB of disk'
 
 say() { printf '%s: %s\n' "$name" "$*" >&2; }
 
