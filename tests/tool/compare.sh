@@ -3,7 +3,7 @@
 #
 #   sh tests/tool/compare.sh             100 scenarios, as at each gate: 80 that are the same each time and have all in them that the generator
 #                                        knows, and 20 in a row whose seeds are taken from the commit; none fills a store to its limits
-#   sh tests/tool/compare.sh FROM TO     those of these seeds, the limits (39, 79, 119, ..) too, which take minutes each
+#   sh tests/tool/compare.sh FROM TO     those of these seeds, the limits (39, 79, 119, ..) too; 8,192 reports (39, 199, ..) take a minute or two
 #
 # Needs rustc (1.63 or newer) to build the witness. The proved program is run without its launcher, to save time: the other tests run that.
 set -eu
