@@ -1,66 +1,90 @@
-// Runs what the lines of the input ask for: starts stores from good and damaged tables, fills one to its limits, damages single bytes
-// of it, and says what came of each.
-mod cases;
-mod damage;
-mod full;
+// Runs what the lines of the input ask for: stores that are started, filled, damaged, filed into and asked, and examples of verdicts.
+// The input's first line has the words of the output; the comment below it says what the others mean.
+mod ask;
+mod example;
+mod lay;
+mod line;
+mod look;
+mod offer;
 mod print;
+mod start;
 
-use text::Spelt;
-
-// The number in a field of a line.
-fn number(line: &[u8], k: usize) -> u64 {
-    let Spelt::Value(n) = text::read_digits(text::piece(line, b';', k), false) else {
-        return 0;
-    };
-    n
-}
-
-// One line of the input: T with a table, M with a count of numbers, S with the buffer that is short, D with a byte to damage; F and W.
-fn one(
+// A table or a file that a line gives: a store is started with it, or it is offered.
+fn given(
     line: &[u8],
+    w: &[u8],
+    x: &mut [u8; 262144],
     t: &mut [u8; 14338],
     f: &mut [u8; 8194],
     r: &mut [u8; 368640],
     c: &mut [u8; 200704],
     e: &mut [u8; 102400],
 ) {
-    if line.len() == 0 {
+    let n = lay::text(x, line);
+    let text = line::first(x, n);
+    if line::byte(line, 0) == b's' {
+        start::begin(line, w, text, t, f, r, c, e);
         return;
     }
-    let what = text::piece(line, b';', 1);
-    match line[0] {
-        b'T' => cases::case(what, text::piece(line, b';', 2), t, f, r, c, e),
-        b'M' => cases::many(what, (number(line, 2) % 10000) as usize, t, f, r, c, e),
-        b'S' => cases::short(what, number(line, 2), t, f, r, c, e),
-        b'F' => full::fill(t, f, r, c, e),
-        b'D' => {
-            let at = number(line, 3) % 1000000;
-            let b = number(line, 4) % 256;
-            damage::hurt(what, number(line, 2), at as usize, b as u8, t, f, r, c, e);
-        }
-        _ => damage::whole(what, t, f, r, c, e),
+    offer::one(line, w, text, t, f, r, c, e);
+}
+
+// Bytes that a line puts, or what it looks at. `mark` is a checksum over a store, and `good` whether all of an example has come as it should.
+fn other(
+    line: &[u8],
+    w: &[u8],
+    mark: &mut u64,
+    good: &mut bool,
+    t: &mut [u8; 14338],
+    f: &mut [u8; 8194],
+    r: &mut [u8; 368640],
+    c: &mut [u8; 200704],
+    e: &mut [u8; 102400],
+) {
+    if line::byte(line, 0) == b'p' {
+        lay::put(line, t, f, r, c, e);
+        return;
+    }
+    example::one(line, w, good, t, e);
+    look::one(line, w, mark, good, t, f, r, c, e);
+}
+
+fn one(
+    line: &[u8],
+    w: &[u8],
+    mark: &mut u64,
+    good: &mut bool,
+    x: &mut [u8; 262144],
+    t: &mut [u8; 14338],
+    f: &mut [u8; 8194],
+    r: &mut [u8; 368640],
+    c: &mut [u8; 200704],
+    e: &mut [u8; 102400],
+) {
+    match line::byte(line, 0) {
+        b's' | b'f' => given(line, w, x, t, f, r, c, e),
+        _ => other(line, w, mark, good, t, f, r, c, e),
     }
 }
 
 fn lines(
     s: &[u8],
+    x: &mut [u8; 262144],
     t: &mut [u8; 14338],
     f: &mut [u8; 8194],
     r: &mut [u8; 368640],
     c: &mut [u8; 200704],
     e: &mut [u8; 102400],
 ) {
-    let mut at: usize = 0;
-    while at < s.len() {
-        let end = text::field_end(s, at, b'\n');
-        if end < at {
-            return;
-        }
-        if s.len() <= end {
-            return;
-        }
-        one(&s[at..end], t, f, r, c, e);
-        at = end + 1;
+    let w = text::piece(s, b'\n', 0);
+    let n = text::cuts(s, b'\n');
+    let mut mark: u64 = 0;
+    let mut good = true;
+    let mut i: usize = 0;
+    while i < n {
+        let line = text::piece(s, b'\n', i);
+        one(line, w, &mut mark, &mut good, x, t, f, r, c, e);
+        i += 1;
     }
 }
 
@@ -70,10 +94,12 @@ fn main() {
     let mut regular = [7u8; 368640];
     let mut corrections = [7u8; 200704];
     let mut entries = [7u8; 102400];
-    let mut input = io::buffer();
+    let mut text = [0u8; 262144];
+    let mut input = io::large_buffer();
     let n = io::read_full(0, &mut input);
     lines(
         &input[..n],
+        &mut text,
         &mut table,
         &mut files,
         &mut regular,
