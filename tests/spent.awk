@@ -20,8 +20,8 @@ BEGIN {
     while ((getline line <"crates.txt") > 0) {
         sub(/#.*/, "", line)
         name = line; sub(/:.*/, "", name)
-        # whatever names the kit's library `os` is of the program; a program of examples ends in _run
-        kind[name] = line ~ / os( |$)/ ? "program" : name ~ /_run$/ ? "examples" : "libraries"
+        # a program of examples ends in _run; whatever else names the kit's library `os` is of the program
+        kind[name] = name ~ /_run$/ ? "examples" : line ~ / os( |$)/ ? "program" : "libraries"
     }
     start = clock()
 }

@@ -1,7 +1,7 @@
 #!/usr/bin/env python3
-"""What the independent model answers to the steps on filing in `stdin`: expected.py MODEL < stdin
+"""What the independent witness answers to the steps on filing in `stdin`: expected.py WITNESS < stdin
 
-It prints the part of `stdout` from the line `Filing` on, up to the line `Asking`. MODEL is the program built from model/ (see its README).
+It prints the part of `stdout` from the line `Filing` on, up to the line `Asking`. WITNESS is the program built from witness/ (see its README).
 Answer 44 is the only one that it does not give: a store with a damaged byte is expected to be refused with 44. That a refusal changes no
 byte is what the paper asks for.
 """
@@ -11,13 +11,13 @@ import subprocess
 import sys
 import tempfile
 
-model = os.path.abspath(sys.argv[1])
+witness = os.path.abspath(sys.argv[1])
 root = tempfile.mkdtemp()
 store, numbers, made, damaged = None, [], 0, False
 
 
 def run(*words):
-    done = subprocess.run([model, *words], stdout=subprocess.PIPE, stderr=subprocess.PIPE, cwd=root)
+    done = subprocess.run([witness, *words], stdout=subprocess.PIPE, stderr=subprocess.PIPE, cwd=root)
     assert done.returncode < 2, (words, done.stderr)
     return done.stdout.decode().splitlines()
 
