@@ -1,10 +1,10 @@
--- `calendar_run::lines` ends, and hands on parts of the text. The measure is what is left of the text.
+-- `days_run::input::lines` ends, and hands on parts of the text. The measure is what is left of the text.
 -- Assumes nothing.
 use Prim.Native.Nat.{_-_}
 use borrow.Author.Needs.{needs}
 use lib.ListN.{length}
-use Rattle.calendar_run.proofs.lines.Statement.{statement}
-use Rattle.calendar_run.proofs.lines.Tie as tie
+use Rattle.days_run.proofs.input.lines.Statement.{statement}
+use Rattle.days_run.proofs.input.lines.Tie as tie
 
 abbrev Inv-loop : tie.InvT-loop
 Inv-loop s at₀ at = Unit
@@ -15,8 +15,8 @@ abbrev μ-loop : tie.MeasureT-loop
 loop-holds : tie.Need-loop-holds Inv-loop μ-loop
 loop-holds c = tt
 
-end-of-requires : tie.Need-end-of-requires Inv-loop μ-loop
-end-of-requires c κs = search needs
+field-end-requires : tie.Need-field-end-requires Inv-loop μ-loop
+field-end-requires c κs = search needs
 
 returns : tie.Need-returns Inv-loop μ-loop
 returns c = search needs
@@ -52,7 +52,7 @@ lines-spec =
     Inv-loop
     μ-loop
     loop-holds
-    end-of-requires
+    field-end-requires
     returns
     returns-2
     part-line-start

@@ -1,16 +1,15 @@
--- `order_run::print_first` is safe and ends: the measure is what is left of the length.
--- Assumes nothing.
-use borrow.Author.Needs.{needs}
+-- `days_run::keys::print_first` is safe and ends. Assumes nothing.
 use Prim.Native.Nat.{_-_}
+use borrow.Author.Needs.{needs}
 use lib.ListN.{length}
-use Rattle.order_run.proofs.print_first.Statement.{statement}
-use Rattle.order_run.proofs.print_first.Tie as tie
+use Rattle.days_run.proofs.keys.print_first.Statement.{statement}
+use Rattle.days_run.proofs.keys.print_first.Tie as tie
 
 abbrev Inv-loop : tie.InvT-loop
-Inv-loop keys n i₀ t4 i = Unit {0}
+Inv-loop keys i₀ t3 i = Unit {0}
 
 abbrev μ-loop : tie.MeasureT-loop
-μ-loop keys n i₀ t4 i = length keys - i
+μ-loop keys i₀ t3 i = length keys - i
 
 loop-holds : tie.Need-loop-holds Inv-loop μ-loop
 loop-holds c = search needs
@@ -18,11 +17,11 @@ loop-holds c = search needs
 returns : tie.Need-returns Inv-loop μ-loop
 returns c = search needs
 
-slice-aggregate-write-all : tie.Need-slice-aggregate-write-all Inv-loop μ-loop
-slice-aggregate-write-all c = search needs
+slice-aggregate-say : tie.Need-slice-aggregate-say Inv-loop μ-loop
+slice-aggregate-say c = search needs
 
-write-all-requires : tie.Need-write-all-requires Inv-loop μ-loop
-write-all-requires c κs = search needs
+say-requires : tie.Need-say-requires Inv-loop μ-loop
+say-requires c κs = search needs
 
 mul-print-decimal : tie.Need-mul-print-decimal Inv-loop μ-loop
 mul-print-decimal c = search needs
@@ -53,8 +52,8 @@ print-first-spec =
     μ-loop
     loop-holds
     returns
-    slice-aggregate-write-all
-    write-all-requires
+    slice-aggregate-say
+    say-requires
     mul-print-decimal
     shared-slice-read-print-decimal
     print-decimal-requires

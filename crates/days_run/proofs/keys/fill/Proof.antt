@@ -1,17 +1,22 @@
--- `order_run::fill` is safe and ends: the slice keeps its length, and the measure is what is left of it.
--- Assumes nothing.
-use borrow.Author.Needs.{needs}
-use mathlib.Core.Path.{_≡_}
+-- `days_run::keys::fill` is safe and ends. Assumes nothing.
 use Prim.Native.Nat.{_-_}
+use mathlib.Core.Path.{_≡_}
+use borrow.Author.Needs.{needs}
 use lib.ListN.{length}
-use Rattle.order_run.proofs.fill.Statement.{statement}
-use Rattle.order_run.proofs.fill.Tie as tie
+use Rattle.days_run.proofs.keys.fill.Statement.{statement}
+use Rattle.days_run.proofs.keys.fill.Tie as tie
 
 abbrev Inv-loop : tie.InvT-loop
-Inv-loop keys₀ shape i₀ keys i = length keys ≡ length keys₀
+Inv-loop keys₀ numbers step n₀ i₀ keys n i = length keys ≡ length keys₀
 
 abbrev μ-loop : tie.MeasureT-loop
-μ-loop keys₀ shape i₀ keys i = length keys₀ - i
+μ-loop keys₀ numbers step n₀ i₀ keys n i = length keys₀ - i
+
+wrapped-requires : tie.Need-wrapped-requires Inv-loop μ-loop
+wrapped-requires c κs = search needs
+
+wrapped-requires-2 : tie.Need-wrapped-requires-2 Inv-loop μ-loop
+wrapped-requires-2 c κs = search needs
 
 loop-holds : tie.Need-loop-holds Inv-loop μ-loop
 loop-holds c = search needs
@@ -24,6 +29,9 @@ mul-keys c = search needs
 
 slice-write-keys : tie.Need-slice-write-keys Inv-loop μ-loop
 slice-write-keys c = search needs
+
+wrapping-add-u64-requires : tie.Need-wrapping-add-u64-requires Inv-loop μ-loop
+wrapping-add-u64-requires c κs = search needs
 
 add-i : tie.Need-add-i Inv-loop μ-loop
 add-i c = search needs
@@ -46,10 +54,13 @@ fill-spec =
     (tie.spec
     Inv-loop
     μ-loop
+    wrapped-requires
+    wrapped-requires-2
     loop-holds
     key-requires
     mul-keys
     slice-write-keys
+    wrapping-add-u64-requires
     add-i
     loop-less
     loop-again
