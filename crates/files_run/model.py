@@ -1,13 +1,17 @@
 #!/usr/bin/env python3
 """What files_run must print, worked out from the specification and the project's readings of it alone.
 
-usage: model.py > stdout
+usage: model.py    (writes the file stdout beside itself, and in the file stdin the cases of faults.py anew, behind those by hand)
 
 Nothing here is taken from the Rattle code: a record is tested by regular expressions and the calendar of Python.
 """
 import datetime
 import pathlib
 import re
+import sys
+
+sys.dont_write_bytecode = True
+import faults  # noqa: E402
 
 CR = "\r"
 WORD = "Zeilenanzahl:"
@@ -206,46 +210,64 @@ def write(kind, ws, room):
 # ---- what is printed
 
 KIND = {"D": "default", "K": "correction", "Q": "request", "R": "response"}
+MADE = "# The cases from here on are those of faults.py\n"
+ROOM = 300000
 
 
-def example(kind, s):
+def plain(s):
+    for b, sign in faults.SIGNS.items():
+        s = s.replace(sign, chr(b))
+    return s
+
+
+def example(kind, s, numbers):
     j = judge(kind, s)
-    print(f"{kind}: {said(j)}")
-    if j[0] == "records":
-        for line in s.split(CR)[:j[1]]:
-            print("  " + line)
-        print(f"  written: {len(s)} bytes, the same")
+    if j[0] != "records":
+        return said(j)
+    assert composed(kind, numbers) == (f"{len(s)} bytes", s), "the words are those of the file"
+    return "\n  ".join([said(j)] + s.split(CR)[:j[1]] + [f"written: {len(s)} bytes, the same"])
 
 
-def every_byte(kind, s):
-    print(kind)
-    print("  cut " + "".join(sign(judge(kind, s[:n])) for n in range(len(s) + 1)))
-    for b in (44, 13, 10, 32, 0, 228, 53):
-        print(f"  {b:02x}  " + "".join(sign(judge(kind, s[:i] + chr(b) + s[i + 1:])) for i in range(len(s))))
+def composed(kind, numbers):
+    """The length of the buffer, how many words, and the words; where these are fewer they are taken again, the first one higher each time."""
+    room, count, *words = [int(w) for w in numbers.split()]
+    n = len(words)
+    return write(kind, [words[i % n] + (0 if i % n else i // n) for i in range(count)], room)
+
+
+def large(kind, numbers):
+    answer, s = composed(kind, numbers)
+    j = judge(kind, s)
+    return f"{answer}, {said(j)}, {j[1]} walked"
+
+
+ANSWER = {
+    "=": lambda kind, s, more: "",
+    "l": lambda kind, s, more: s + (" same" if RECORD[kind](s) else " fault"),
+    "n": lambda kind, s, more: f"{s}: {name(s)}",
+    "f": example,
+    "w": lambda kind, s, more: f"{composed(kind, more)[0]}, 0 changed behind",
+    "g": lambda kind, s, more: large(kind, more),
+    "J": lambda kind, s, more: said(judge(kind, s)),
+    "C": lambda kind, s, more: "".join(sign(judge(kind, s[:n])) for n in range(len(s) + 1)),
+    "R": lambda kind, s, more: "".join(sign(judge(kind, s[:i] + more + s[i + 1:])) for i in range(len(s))),
+}
 
 
 def main():
-    cases = pathlib.Path(__file__).with_name("stdin").read_text()
-    for line in cases.splitlines():
-        what, letter, why, text = line.split("\t")
-        kind, text = KIND[letter], text.replace("|", "\r").replace("^", "\n")
-        if what == "#":
-            print(why)
-        elif what == "f":
-            example(kind, text)
-        elif what == "n":
-            print(f"{text}: {name(text)}")
-        elif what == "j":
-            print(f"{why}: {said(judge(kind, text))}")
-        elif what == "e":
-            every_byte(kind, text)
-        elif what == "w":
-            room, *words = [int(w) for w in text.split()]
-            print(f"{why}: {write(kind, words, room)[0]}, 0 changed behind")
-    words = [w for i in range(8192) for w in (13000000 + i, 1, 9559, 2, 1, 0)]
-    answer, s = write("default", words, 300000)
-    j = judge("default", s)
-    print(f"8,192 records: {answer}, {said(j)}, {j[1]} walked")
+    here = pathlib.Path(__file__)
+    by_hand = here.with_name("stdin").read_text().split(MADE)[0]
+    stdout = []
+    for line in by_hand.splitlines():
+        if line.startswith("#"):
+            continue
+        what, letter, words, text, more = (line.split("\t") + [""])[:5]
+        stdout.append(words + ANSWER[what](KIND[letter], plain(text), plain(more)) + "\n")
+    made, said_of_made = faults.lines()
+    stdin = by_hand + MADE + "".join(made)
+    assert len(stdin) <= ROOM, "the program has room for so many bytes"
+    here.with_name("stdin").write_text(stdin)
+    here.with_name("stdout").write_text("".join(stdout + said_of_made))
 
 
 main()

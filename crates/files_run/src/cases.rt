@@ -1,72 +1,95 @@
-// The cases: on each line, between tabs, what is to be done, the letter of the kind of file, words for people, and the text. In the text
-// `|` stands for CR and `^` for LF.
+// The cases, line by line; the head of the file stdin says how one is written.
 use crate::damage;
 use crate::examples;
+use crate::lines;
 use crate::show;
 use crate::writing;
 use records::names::kind::FileKind;
-use records::names::kind::KindRead;
 
+// The byte that a sign stands for.
 fn plain(b: u8) -> u8 {
     match b {
         124 => 13,
         94 => 10,
+        126 => 9,
+        40 => 0,
+        41 => 31,
+        60 => 127,
+        62 => 128,
+        91 => 191,
+        93 => 192,
+        123 => 228,
+        125 => 255,
         _ => b,
     }
 }
 
-// The text, as far as there is room for it.
-fn text_of(s: &[u8], copy: &mut [u8]) -> usize {
+// The text that a case spells, as far as there is room for it: how many bytes.
+fn spelt(s: &[u8], text: &mut [u8]) -> usize {
     let mut i: usize = 0;
     while i < s.len() {
-        if copy.len() <= i {
+        if text.len() <= i {
             return i;
         }
-        copy[i] = plain(s[i]);
+        text[i] = plain(s[i]);
         i += 1;
     }
     i
 }
 
+// The first byte, and 0 where there is none.
 fn first(s: &[u8]) -> u8 {
     if 0 < s.len() { s[0] } else { 0 }
 }
 
-// What a line asks for: `#` a heading, `n` a name, `f` a file read and written back, `j` a file judged, `e` every byte of a file cut and
-// replaced, `w` a file from words.
-fn todo(what: u8, kind: FileKind, why: &[u8], text: &[u8]) {
+fn kind_of(letter: u8) -> FileKind {
+    match letter {
+        75 => FileKind::Correction,
+        81 => FileKind::Request,
+        82 => FileKind::Response,
+        _ => FileKind::Default,
+    }
+}
+
+// What a case asks for, done to its text, and what it names besides. A capital letter asks to be brief.
+fn todo(what: u8, kind: FileKind, text: &mut [u8], more: &[u8]) {
+    let brief = what < 97;
     match what {
-        35 => {
-            show::say(why);
-            show::say(b"\n");
-        }
+        108 => lines::one(kind, text),
         110 => examples::name(text),
-        102 => examples::file(kind, text),
-        106 => damage::one(kind, why, text),
-        101 => damage::every_byte(kind, text),
-        119 => writing::one(kind, why, text),
-        _ => show::say(b"?\n"),
+        102 => examples::file(kind, text, more),
+        103 | 119 => writing::one(what, kind, text, more),
+        74 | 106 => damage::whole(kind, text, brief),
+        67 | 99 => damage::cut(kind, text, brief),
+        120 => damage::each_byte(kind, text, 0, false, true),
+        82 | 114 => damage::each_byte(kind, text, plain(first(more)), brief, false),
+        _ => show::word(show::NOTHING),
     }
 }
 
+fn answer(s: &[u8], what: u8, room: &mut [u8]) {
+    let n = spelt(text::piece(s, 9, 3), room);
+    if n <= room.len() {
+        let kind = kind_of(first(text::piece(s, 9, 1)));
+        todo(what, kind, &mut room[0..n], text::piece(s, 9, 4));
+    }
+}
+
+// The words, and what comes of the case.
 fn line(s: &[u8]) {
-    let mut copy = [0u8; 256];
-    let n = text_of(text::piece(s, 9, 3), &mut copy);
-    let what = first(text::piece(s, 9, 0));
-    let why = text::piece(s, 9, 2);
-    let KindRead::Kind(kind) = FileKind::of_letter(first(text::piece(s, 9, 1))) else {
-        show::say(b"?\n");
+    let what = first(s);
+    if what == 35 {
         return;
-    };
-    if n <= 256 {
-        todo(what, kind, why, &copy[0..n]);
     }
+    show::say(text::piece(s, 9, 2));
+    let mut room = [0u8; 1024];
+    answer(s, what, &mut room);
+    show::word(show::END);
 }
 
-fn lines(s: &[u8]) {
+fn all_lines(s: &[u8]) {
     let mut at: usize = 0;
-    let mut left = s.len();
-    while 0 < left {
+    while at < s.len() {
         let end = text::field_end(s, at, 10);
         if end < at {
             return;
@@ -76,22 +99,21 @@ fn lines(s: &[u8]) {
         }
         line(&s[at..end]);
         at = end + 1;
-        left -= 1;
     }
 }
 
 fn all(input: &mut [u8]) {
     let n = io::read_full(0, input);
     if n <= input.len() {
-        lines(&input[0..n]);
+        all_lines(&input[0..n]);
     }
 }
 
-fn lend(input: &mut [u8; 16384]) {
+fn lend(input: &mut [u8; 300000]) {
     all(input);
 }
 
 pub fn run() {
-    let mut input = [0u8; 16384];
+    let mut input = [0u8; 300000];
     lend(&mut input);
 }

@@ -1,76 +1,63 @@
-// Damaged files, each rule broken once; a small file of each kind cut short at every byte, and with every byte replaced.
+// A file judged as it is, and damaged at each byte in turn.
 use crate::show;
 use records::names::kind::FileKind;
 
-pub fn one(kind: FileKind, why: &[u8], file: &[u8]) {
-    show::say(why);
-    show::say(b": ");
-    show::judged(files::judge::judge(kind, file));
-    show::say(b"\n");
+// The place of the fault, where it is to be brief, or else place, field and cause; or how many records there are.
+pub fn whole(kind: FileKind, file: &[u8], brief: bool) {
+    let j = files::judge::judge(kind, file);
+    if brief {
+        show::judged(j);
+        return;
+    }
+    show::found(j);
 }
 
-// A sign for each length that the file can be cut to.
-fn cut(kind: FileKind, file: &[u8]) {
-    show::say(b"  cut ");
+// What is found in turn `i`: a sign for it where it is to be brief, or else said where it is not what was found before.
+fn turn(i: usize, kind: FileKind, file: &[u8], last: u64, brief: bool) -> u64 {
+    let j = files::judge::judge(kind, file);
+    if brief {
+        show::sign(j);
+        return 0;
+    }
+    show::changed(i, j, last)
+}
+
+// Cut short to each length, from none to all of it.
+pub fn cut(kind: FileKind, file: &[u8], brief: bool) {
+    let mut last: u64 = 0;
     let mut n: usize = 0;
     while n <= file.len() {
-        show::byte(show::sign(files::judge::judge(kind, &file[0..n])));
+        last = turn(n, kind, &file[0..n], last, brief);
         n += 1;
     }
-    show::say(b"\n");
 }
 
-// A sign for each place at which `b` replaces a byte. `copy` is room for the file.
-fn signs(kind: FileKind, file: &[u8], b: u8, copy: &mut [u8]) {
-    let n = file.len();
-    if copy.len() < n {
-        return;
+// The file, or what follows its first byte.
+fn part(file: &[u8], behind: bool) -> &[u8] {
+    if behind {
+        if 0 < file.len() {
+            return &file[1..];
+        }
     }
+    file
+}
+
+fn pick(first: bool, a: u8, b: u8) -> u8 {
+    if first { a } else { b }
+}
+
+// Each byte replaced by `b`; or left out, where the byte in front of it is held to take its place, and the file begins behind its first byte.
+pub fn each_byte(kind: FileKind, file: &mut [u8], b: u8, brief: bool, out: bool) {
+    let n = file.len();
+    let mut held = b;
+    let mut last: u64 = 0;
     let mut i: usize = 0;
     while i < n {
-        set_out(copy, file, i, b);
-        show::byte(show::sign(files::judge::judge(kind, &copy[0..n])));
+        let was = file[i];
+        file[i] = held;
+        last = turn(i, kind, part(file, out), last, brief);
+        file[i] = pick(out, held, was);
+        held = pick(out, was, held);
         i += 1;
     }
-    show::say(b"\n");
-}
-
-fn replace(kind: FileKind, file: &[u8], b: u8, copy: &mut [u8]) {
-    show::say(b"  ");
-    io::print_hex(1, b as u64, 2);
-    show::say(b"  ");
-    signs(kind, file, b, copy);
-}
-
-// The file's bytes, with `b` at the place `at`.
-fn set_out(copy: &mut [u8], file: &[u8], at: usize, b: u8) {
-    if copy.len() < file.len() {
-        return;
-    }
-    let mut i: usize = 0;
-    while i < file.len() {
-        copy[i] = file[i];
-        i += 1;
-    }
-    if at < copy.len() {
-        copy[at] = b;
-    }
-}
-
-fn replaced(kind: FileKind, file: &[u8], copy: &mut [u8]) {
-    replace(kind, file, 44, copy);
-    replace(kind, file, 13, copy);
-    replace(kind, file, 10, copy);
-    replace(kind, file, 32, copy);
-    replace(kind, file, 0, copy);
-    replace(kind, file, 228, copy);
-    replace(kind, file, 53, copy);
-}
-
-pub fn every_byte(kind: FileKind, file: &[u8]) {
-    show::kind(kind);
-    show::say(b"\n");
-    cut(kind, file);
-    let mut copy = [0u8; 160];
-    replaced(kind, file, &mut copy);
 }

@@ -1,42 +1,30 @@
--- `files_run::damage::cut` meets its contract. Assumes nothing.
-use lib.ListN.{length}
+-- `files_run::damage::cut` is safe and ends. Assumes nothing.
 use Prim.Native.Nat.{_-_, _+_}
 use borrow.Author.Needs.{needs}
+use lib.ListN.{length}
 use Rattle.files_run.proofs.damage.cut.Statement.{statement}
 use Rattle.files_run.proofs.damage.cut.Tie as tie
 
 abbrev Inv-loop : tie.InvT-loop
-Inv-loop kind file n₀ t5 n = Unit {0}
+Inv-loop kind file brief last₀ n₀ last n = Unit {0}
 
 abbrev μ-loop : tie.MeasureT-loop
-μ-loop kind file n₀ t5 n = length file + 1 - n
-
-slice-aggregate-say : tie.Need-slice-aggregate-say Inv-loop μ-loop
-slice-aggregate-say c = search needs
-
-say-requires : tie.Need-say-requires Inv-loop μ-loop
-say-requires c κs = search needs
+μ-loop kind file brief last₀ n₀ last n = length file + 1 - n
 
 loop-holds : tie.Need-loop-holds Inv-loop μ-loop
 loop-holds c = search needs
 
-sub-judge : tie.Need-sub-judge Inv-loop μ-loop
-sub-judge c = search needs
+sub-turn : tie.Need-sub-turn Inv-loop μ-loop
+sub-turn c = search needs
 
-part-judge-start : tie.Need-part-judge-start Inv-loop μ-loop
-part-judge-start c = search needs
+part-turn-start : tie.Need-part-turn-start Inv-loop μ-loop
+part-turn-start c = search needs
 
-part-judge-end : tie.Need-part-judge-end Inv-loop μ-loop
-part-judge-end c = search needs
+part-turn-end : tie.Need-part-turn-end Inv-loop μ-loop
+part-turn-end c = search needs
 
-judge-requires : tie.Need-judge-requires Inv-loop μ-loop
-judge-requires c κs = search needs
-
-sign-requires : tie.Need-sign-requires Inv-loop μ-loop
-sign-requires c κs = search needs
-
-byte-requires : tie.Need-byte-requires Inv-loop μ-loop
-byte-requires c κs = search needs
+turn-requires : tie.Need-turn-requires Inv-loop μ-loop
+turn-requires c κs = search needs
 
 add-n : tie.Need-add-n Inv-loop μ-loop
 add-n c = search needs
@@ -47,12 +35,6 @@ loop-less c = search needs
 loop-again : tie.Need-loop-again Inv-loop μ-loop
 loop-again c = search needs
 
-slice-aggregate-say-2 : tie.Need-slice-aggregate-say-2 Inv-loop μ-loop
-slice-aggregate-say-2 c = search needs
-
-say-requires-2 : tie.Need-say-requires-2 Inv-loop μ-loop
-say-requires-2 c κs = search needs
-
 returns : tie.Need-returns Inv-loop μ-loop
 returns c = search needs
 
@@ -62,18 +44,12 @@ cut-spec =
     (tie.spec
     Inv-loop
     μ-loop
-    slice-aggregate-say
-    say-requires
     loop-holds
-    sub-judge
-    part-judge-start
-    part-judge-end
-    judge-requires
-    sign-requires
-    byte-requires
+    sub-turn
+    part-turn-start
+    part-turn-end
+    turn-requires
     add-n
     loop-less
     loop-again
-    slice-aggregate-say-2
-    say-requires-2
     returns)

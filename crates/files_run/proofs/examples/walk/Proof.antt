@@ -1,14 +1,14 @@
--- `files_run::examples::walk` meets its contract. Assumes nothing.
+-- `files_run::examples::walk` is safe and ends. Assumes nothing.
 use Prim.Native.Nat.{_-_}
 use borrow.Author.Needs.{needs}
 use Rattle.files_run.proofs.examples.walk.Statement.{statement}
 use Rattle.files_run.proofs.examples.walk.Tie as tie
 
 abbrev Inv-loop : tie.InvT-loop
-Inv-loop kind file n i₀ at₀ t7 t8 t9 i at = Unit {0}
+Inv-loop kind file n said right₀ i₀ at₀ right i at = Unit {0}
 
 abbrev μ-loop : tie.MeasureT-loop
-μ-loop kind file n i₀ at₀ t7 t8 t9 i at = n - i
+μ-loop kind file n said right₀ i₀ at₀ right i at = n - i
 
 loop-holds : tie.Need-loop-holds Inv-loop μ-loop
 loop-holds c = search needs
@@ -22,44 +22,17 @@ returns c = search needs
 returns-2 : tie.Need-returns-2 Inv-loop μ-loop
 returns-2 c = search needs
 
-slice-aggregate-say : tie.Need-slice-aggregate-say Inv-loop μ-loop
-slice-aggregate-say c = search needs
+part-is-found-start : tie.Need-part-is-found-start Inv-loop μ-loop
+part-is-found-start c = search needs
 
-say-requires : tie.Need-say-requires Inv-loop μ-loop
-say-requires c κs = search needs
+part-is-found-end : tie.Need-part-is-found-end Inv-loop μ-loop
+part-is-found-end c = search needs
 
-part-say-start : tie.Need-part-say-start Inv-loop μ-loop
-part-say-start c = search needs
+is-found-requires : tie.Need-is-found-requires Inv-loop μ-loop
+is-found-requires c κs = search needs
 
-part-say-end : tie.Need-part-say-end Inv-loop μ-loop
-part-say-end c = search needs
-
-say-requires-2 : tie.Need-say-requires-2 Inv-loop μ-loop
-say-requires-2 c κs = search needs
-
-part-same-start : tie.Need-part-same-start Inv-loop μ-loop
-part-same-start c = search needs
-
-part-same-end : tie.Need-part-same-end Inv-loop μ-loop
-part-same-end c = search needs
-
-record-bytes-requires : tie.Need-record-bytes-requires Inv-loop μ-loop
-record-bytes-requires c κs = search needs
-
-same-requires : tie.Need-same-requires Inv-loop μ-loop
-same-requires c κs = search needs
-
-slice-aggregate-say-2 : tie.Need-slice-aggregate-say-2 Inv-loop μ-loop
-slice-aggregate-say-2 c = search needs
-
-say-requires-3 : tie.Need-say-requires-3 Inv-loop μ-loop
-say-requires-3 c κs = search needs
-
-slice-aggregate-say-3 : tie.Need-slice-aggregate-say-3 Inv-loop μ-loop
-slice-aggregate-say-3 c = search needs
-
-say-requires-4 : tie.Need-say-requires-4 Inv-loop μ-loop
-say-requires-4 c κs = search needs
+counted-requires : tie.Need-counted-requires Inv-loop μ-loop
+counted-requires c κs = search needs
 
 add-at : tie.Need-add-at Inv-loop μ-loop
 add-at c = search needs
@@ -86,19 +59,10 @@ walk-spec =
     line-end-requires
     returns
     returns-2
-    slice-aggregate-say
-    say-requires
-    part-say-start
-    part-say-end
-    say-requires-2
-    part-same-start
-    part-same-end
-    record-bytes-requires
-    same-requires
-    slice-aggregate-say-2
-    say-requires-3
-    slice-aggregate-say-3
-    say-requires-4
+    part-is-found-start
+    part-is-found-end
+    is-found-requires
+    counted-requires
     add-at
     add-i
     loop-less

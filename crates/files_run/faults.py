@@ -1,13 +1,10 @@
-#!/usr/bin/env python3
-"""The cases of faults_run and what it must print of them, worked out from the specification's tables and the rules on faults alone.
-
-usage: model.py    (writes the files stdin and stdout beside itself)
+"""The cases of files_run that ask for field and cause of a fault, and what it must print of them, worked out from the specification's tables and
+the rules on faults alone. model.py writes them behind its own.
 
 Nothing here is taken from the Rattle code. What a case means to damage is said when it is made, and where it says a field and a cause,
 the answer worked out must be those.
 """
 import datetime
-import pathlib
 import re
 
 CR = "\r"
@@ -184,13 +181,13 @@ def put(what, kind, words, s, answer, byte=""):
 
 
 def heading(words):
-    put("#", "D", words, "", "")
+    put("=", "D", words, "", "")
 
 
 def case(kind, words, s, meant=None):
     j = judge(kind, s)
     assert meant is None or j == meant, (words, s, j, meant)
-    put("j", kind, words, s, f": {said(j)}")
+    put("j", kind, f"{words}: ", s, said(j))
 
 
 def turns(js):
@@ -583,7 +580,8 @@ def small_files():
     each_byte("Q", "request, without", "D456,,\r")
 
 
-def main():
+def lines():
+    """Lines of stdin, and of stdout."""
     field_by_cause()
     empty_fields()
     two_field_rules()
@@ -595,10 +593,4 @@ def main():
     ends()
     other_kinds()
     small_files()
-    assert sum(map(len, stdin)) <= 262144, "the program has room for so many bytes"
-    here = pathlib.Path(__file__)
-    here.with_name("stdin").write_text("".join(stdin))
-    here.with_name("stdout").write_text("".join(stdout))
-
-
-main()
+    return stdin, stdout

@@ -1,16 +1,19 @@
--- `files_run::cases::lines` meets its contract. Assumes nothing.
+-- `files_run::cases::all_lines` ends, and hands on parts of the text. The measure is what is left of the text.
+-- Assumes nothing.
+use Prim.Native.Nat.{_-_}
 use borrow.Author.Needs.{needs}
-use Rattle.files_run.proofs.cases.lines.Statement.{statement}
-use Rattle.files_run.proofs.cases.lines.Tie as tie
+use lib.ListN.{length}
+use Rattle.files_run.proofs.cases.all_lines.Statement.{statement}
+use Rattle.files_run.proofs.cases.all_lines.Tie as tie
 
 abbrev Inv-loop : tie.InvT-loop
-Inv-loop s at₀ left₀ at left = Unit {0}
+Inv-loop s at₀ at = Unit
 
 abbrev μ-loop : tie.MeasureT-loop
-μ-loop s at₀ left₀ at left = left
+μ-loop s at₀ at = length s - at
 
 loop-holds : tie.Need-loop-holds Inv-loop μ-loop
-loop-holds c = search needs
+loop-holds c = tt
 
 field-end-requires : tie.Need-field-end-requires Inv-loop μ-loop
 field-end-requires c κs = search needs
@@ -33,20 +36,17 @@ line-requires c κs = search needs
 add-at : tie.Need-add-at Inv-loop μ-loop
 add-at c = search needs
 
-sub-left : tie.Need-sub-left Inv-loop μ-loop
-sub-left c = search needs
-
 loop-less : tie.Need-loop-less Inv-loop μ-loop
 loop-less c = search needs
 
 loop-again : tie.Need-loop-again Inv-loop μ-loop
-loop-again c = search needs
+loop-again c = tt
 
 returns-3 : tie.Need-returns-3 Inv-loop μ-loop
 returns-3 c = search needs
 
-pub lines-spec : {M : Type 1} → statement M
-lines-spec =
+pub all-lines-spec : {M : Type 1} → statement M
+all-lines-spec =
     tie.close
     (tie.spec
     Inv-loop
@@ -59,7 +59,6 @@ lines-spec =
     part-line-end
     line-requires
     add-at
-    sub-left
     loop-less
     loop-again
     returns-3)

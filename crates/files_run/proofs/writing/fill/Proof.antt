@@ -1,16 +1,16 @@
--- `faults_run::cases::spelt` meets its contract. Assumes nothing.
-use lib.ListN.{length}
+-- `files_run::writing::fill` is safe and ends. Assumes nothing.
 use Prim.Native.Nat.{_-_}
 use mathlib.Core.Path.{_≡_}
 use borrow.Author.Needs.{needs}
-use Rattle.faults_run.proofs.cases.spelt.Statement.{statement}
-use Rattle.faults_run.proofs.cases.spelt.Tie as tie
+use lib.ListN.{length}
+use Rattle.files_run.proofs.writing.fill.Statement.{statement}
+use Rattle.files_run.proofs.writing.fill.Tie as tie
 
 abbrev Inv-loop : tie.InvT-loop
-Inv-loop s file₀ i₀ file i = length file ≡ length file₀
+Inv-loop words₀ s used i₀ words i = length words ≡ length words₀
 
 abbrev μ-loop : tie.MeasureT-loop
-μ-loop s file₀ i₀ file i = length s - i
+μ-loop words₀ s used i₀ words i = used - i
 
 loop-holds : tie.Need-loop-holds Inv-loop μ-loop
 loop-holds c = search needs
@@ -21,14 +21,14 @@ same-length c = search needs
 returns : tie.Need-returns Inv-loop μ-loop
 returns c = search needs
 
-shared-slice-read-plain : tie.Need-shared-slice-read-plain Inv-loop μ-loop
-shared-slice-read-plain c = search needs
+word-requires : tie.Need-word-requires Inv-loop μ-loop
+word-requires c κs = search needs
 
-plain-requires : tie.Need-plain-requires Inv-loop μ-loop
-plain-requires c κs = search needs
+mul-words : tie.Need-mul-words Inv-loop μ-loop
+mul-words c = search needs
 
-slice-write-file : tie.Need-slice-write-file Inv-loop μ-loop
-slice-write-file c = search needs
+slice-write-words : tie.Need-slice-write-words Inv-loop μ-loop
+slice-write-words c = search needs
 
 add-i : tie.Need-add-i Inv-loop μ-loop
 add-i c = search needs
@@ -45,8 +45,8 @@ same-length-2 c = search needs
 returns-2 : tie.Need-returns-2 Inv-loop μ-loop
 returns-2 c = search needs
 
-pub spelt-spec : {M : Type 1} → statement M
-spelt-spec =
+pub fill-spec : {M : Type 1} → statement M
+fill-spec =
     tie.close
     (tie.spec
     Inv-loop
@@ -54,9 +54,9 @@ spelt-spec =
     loop-holds
     same-length
     returns
-    shared-slice-read-plain
-    plain-requires
-    slice-write-file
+    word-requires
+    mul-words
+    slice-write-words
     add-i
     loop-less
     loop-again

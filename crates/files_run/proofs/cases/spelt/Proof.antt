@@ -1,16 +1,16 @@
--- `files_run::cases::text_of` meets its contract. Assumes nothing.
-use lib.ListN.{length}
+-- `files_run::cases::spelt` is safe and ends. Assumes nothing.
 use Prim.Native.Nat.{_-_}
 use mathlib.Core.Path.{_≡_}
 use borrow.Author.Needs.{needs}
-use Rattle.files_run.proofs.cases.text_of.Statement.{statement}
-use Rattle.files_run.proofs.cases.text_of.Tie as tie
+use lib.ListN.{length}
+use Rattle.files_run.proofs.cases.spelt.Statement.{statement}
+use Rattle.files_run.proofs.cases.spelt.Tie as tie
 
 abbrev Inv-loop : tie.InvT-loop
-Inv-loop s copy₀ i₀ copy i = length copy ≡ length copy₀
+Inv-loop s text₀ i₀ text i = length text ≡ length text₀
 
 abbrev μ-loop : tie.MeasureT-loop
-μ-loop s copy₀ i₀ copy i = length s - i
+μ-loop s text₀ i₀ text i = length s - i
 
 loop-holds : tie.Need-loop-holds Inv-loop μ-loop
 loop-holds c = search needs
@@ -27,8 +27,8 @@ shared-slice-read-plain c = search needs
 plain-requires : tie.Need-plain-requires Inv-loop μ-loop
 plain-requires c κs = search needs
 
-slice-write-copy : tie.Need-slice-write-copy Inv-loop μ-loop
-slice-write-copy c = search needs
+slice-write-text : tie.Need-slice-write-text Inv-loop μ-loop
+slice-write-text c = search needs
 
 add-i : tie.Need-add-i Inv-loop μ-loop
 add-i c = search needs
@@ -45,8 +45,8 @@ same-length-2 c = search needs
 returns-2 : tie.Need-returns-2 Inv-loop μ-loop
 returns-2 c = search needs
 
-pub text-of-spec : {M : Type 1} → statement M
-text-of-spec =
+pub spelt-spec : {M : Type 1} → statement M
+spelt-spec =
     tie.close
     (tie.spec
     Inv-loop
@@ -56,7 +56,7 @@ text-of-spec =
     returns
     shared-slice-read-plain
     plain-requires
-    slice-write-copy
+    slice-write-text
     add-i
     loop-less
     loop-again
