@@ -35,6 +35,7 @@ for folder in crates/${1:-*}/; do
         function name_it(name) { if (name in named) fail(name " is there twice"); named[name] = 1; all++; called = called || name == label }
         # the edit that ends here is called by one of its wrong programs
         function finish() { if (label != "" && !called) fail(folder "/" label ".edit has no wrong program of its name"); label = "" }
+        function read(file,    line, text) { text = ""; while ((getline line <file) > 0) text = text line "\n"; close(file); return text }
         # the function in whose text a place lies
         function inside(text, at,    lines, i, head) {
             for (i = split(substr(text, 1, at), lines, "\n"); i > 0; i--)
@@ -47,7 +48,7 @@ for folder in crates/${1:-*}/; do
         }
         FNR == 1 {
             finish()
-            split("", here); of = ""; own = FILENAME; sub(/.*\//, "", own); sub(/\.edit$/, "", own)
+            split("", texts); split("", here); of = ""; own = FILENAME; sub(/.*\//, "", own); sub(/\.edit$/, "", own)
             label = own; called = 0; split(FILENAME, path, "/"); folder = path[3]; joined = 0
         }
         /^wrong: / {
@@ -57,7 +58,7 @@ for folder in crates/${1:-*}/; do
             if (of in here) fail(FILENAME ": " of " is wrong twice at once, so neither can be told from the other")
             here[of] = 1
         }
-        /^file: / { file = "crates/" crate "/" substr($0, 7); text = ""; while ((getline line <file) > 0) text = text line "\n"; close(file) }
+        /^file: / { file = "crates/" crate "/" substr($0, 7); if (!(file in texts)) texts[file] = read(file); text = texts[file] }
         /^old: / {
             if (own != "") { name_it(own); own = "" }
             old = substr($0, 6); at = index(text, old)
@@ -65,6 +66,8 @@ for folder in crates/${1:-*}/; do
             last = of; sub(/.*::/, "", last); where = inside(text, at + length(old) - 1)
             if (of != "" && where != "" && where != last) fail("the change for " of " is in " where)
         }
+        # the next change is made in what this one leaves
+        /^new:/ { new = substr($0, 5); sub(/^ /, "", new); if (at) texts[file] = text = substr(text, 1, at - 1) new substr(text, at + length(old)) }
         END {
             finish()
             while ((getline line <public) > 0) {
