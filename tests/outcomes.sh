@@ -1,7 +1,7 @@
 #!/bin/sh
 # Each public function of a library, also one that is public within its crate alone, settles its outcome: its contract is an equation for its answer
 # (or for the part that it lends back) and for each thing that it is lent to change, or a record that crates/outcomes shows to allow one outcome only.
-# What is left out is named here with its reason.
+# An equation of a thing with itself is none. What is left out is named here with its reason, and with what is counted it makes all such functions.
 set -eu
 cd "$(dirname "$0")/.."
 theorems=crates/outcomes/proofs/Outcomes.antt
@@ -33,6 +33,15 @@ done | sort | xargs awk -v theorems="$theorems" -v exceptions="$exceptions" -v r
             excepted[with_room[i] " room"] = 1
     }
     function fail(why) { printf "outcomes: %s: %s\n", here, why; failed++ }
+    # without the brackets around it
+    function bare(text) { while (text ~ /^[( ]/) text = substr(text, 2); while (text ~ /[) ]$/) text = substr(text, 1, length(text) - 1); return text }
+    # an equation among those of a line whose two sides are the same
+    function idle(line,    parts, sides, i, n) {
+        sub(/ ⌝.*/, "", line)
+        n = split(line, parts, " × ")
+        for (i = 1; i <= n; i++) if (split(parts[i], sides, " ≡ ") == 2 && bare(sides[1]) == bare(sides[2])) return bare(parts[i])
+        return ""
+    }
     # the contract of the function whose head has ended
     function judge(    i, n, names) {
         if (here in excepted) { met[here] = 1; return }
@@ -52,7 +61,8 @@ done | sort | xargs awk -v theorems="$theorems" -v exceptions="$exceptions" -v r
         sub(/^crates\//, "", file); sub(/\/src\//, "/", file); sub(/(\/lib)?\.rt$/, "", file); gsub("/", "::", file)
     }
     /^ *pub(\(crate\))? (extern "C" )?fn / {
-        inside = 1; lent = ""; contract = ""; form = ""; answered = 0; gives = 0
+        if (inside) fail("its head has no end that can be told")
+        inside = 1; lent = ""; contract = ""; form = ""; answered = 0; gives = 0; publics++
         name = $0; sub(/^ *pub(\(crate\))? (extern "C" )?fn /, "", name); sub(/[^a-z_0-9A-Z].*/, "", name)
         here = file "::" name
     }
@@ -61,6 +71,7 @@ done | sort | xargs awk -v theorems="$theorems" -v exceptions="$exceptions" -v r
         answer = line; sub(/\..*/, "", answer)
         sub(/^[^⌜]*⌜ /, "", line)
         contract = contract line
+        if (idle(line) != "") fail("says nothing: " idle(line))
         if (index(line, answer " ≡ ") == 1 || index(line, "(" answer " ≡ ") == 1 || index(line, "now " answer " ≡ ") == 1) answered = 1
         else if (line !~ /^\(?now \([a-z_]* \.exit\) ≡ /) { form = line; sub(/ .*/, "", form) }
         next
@@ -74,13 +85,15 @@ done | sort | xargs awk -v theorems="$theorems" -v exceptions="$exceptions" -v r
             line = substr(line, RSTART + RLENGTH)
         }
         if (index($0, "->")) gives = 1
-        if ($0 ~ /^ *\{$/) { judge(); inside = 0 }
+        # a head ends where the body begins, which may stand on its line
+        if ($0 ~ /\{$/ || $0 ~ /\{.*\}$/) { judge(); inside = 0 }
     }
     END {
         for (i = 1; i <= count; i++)
             if (!(listed[i] in met)) { printf "outcomes: %s is left out and is not there\n", listed[i]; failed++ }
         for (i = 1; i <= rooms_count; i++)
             if (!(with_room[i] in met)) { printf "outcomes: %s has no room that is left out\n", with_room[i]; failed++ }
+        if (!failed && functions + count != publics) { printf "outcomes: there are %d public functions, and %d were looked at\n", publics, functions + count; failed++ }
         printf "outcomes: %d public functions, each with one outcome, %d of them but for a room; %d left out\n", functions, rooms_count, count
         exit failed > 0
     }'

@@ -1,0 +1,229 @@
+#!/bin/sh
+# The checking scripts can fail. Each is shown, in a copy of what it reads, a small bad case for each thing that it claims to find, and has to end with
+# another status than 0 and say so; and it passes the copy as it is. Those that read what the prover said are shown it in small repositories of their own.
+set -u
+cd "$(dirname "$0")/.."
+root=$PWD
+room=$(mktemp -d) || exit 2
+trap 'rm -rf "$room"' EXIT
+trap 'exit 2' HUP INT TERM
+bad=0 shown=0 changed=''
+
+fault() {
+    echo "checks: $*"
+    sed 's/^/    /' "$room/said" | head -n 5
+    bad=$((bad + 1))
+}
+passes() { # SCRIPT WORDS..
+    shown=$((shown + 1))
+    sh "$@" >"$room/said" 2>&1 || fault "$* does not pass what is right"
+}
+fails() { # WORDS SCRIPT WORDS..: the script ends otherwise and says the words; then the copy is as it was
+    words=$1
+    shift
+    shown=$((shown + 1))
+    if sh "$@" >"$room/said" 2>&1; then
+        fault "$* passes, and should say '$words'"
+    elif ! grep -qF -- "$words" "$room/said"; then
+        fault "$* should say '$words', and says:"
+    fi
+    restore
+}
+restore() {
+    for path in $changed; do
+        rm -rf "$path"
+        [ ! -e "$root/$path" ] || cp -R "$root/$path" "$path"
+    done
+    changed=''
+}
+change() { # PATH SED: a file of the copy
+    changed="$changed $1"
+    sed "$2" "$1" >"$room/new" && cmp -s "$room/new" "$1" && fault "'$2' changes nothing in $1"
+    cp "$room/new" "$1"
+}
+add() { # PATH LINE..: lines behind a file of the copy
+    path=$1
+    shift
+    changed="$changed $path"
+    mkdir -p "${path%/*}"
+    printf '%s\n' "$@" >>"$path"
+}
+
+mkdir "$room/copy"
+cp -R crates.txt crates docs tests bin dist include bench witness "$room/copy/"
+cd "$room/copy" || exit 2
+
+# ---- listed.sh
+passes tests/listed.sh
+changed=crates/forgotten
+mkdir crates/forgotten
+fails 'crates.txt does not list crates/forgotten' tests/listed.sh
+
+# ---- outcomes.sh
+of=crates/text/src/lib.rt
+passes tests/outcomes.sh
+change crates/filing/src/file.rt '/ensures {/d'
+fails 'filing::file::file: no ensures' tests/outcomes.sh
+add $of 'pub fn loose(x: u8) -> u8 {' '    x' '}'
+fails 'text::loose: no ensures' tests/outcomes.sh
+add $of 'pub(crate) fn loose(x: u8) -> u8 { x }'
+fails 'text::loose: no ensures' tests/outcomes.sh
+add $of 'pub fn loose(x: u8) -> u8' '    ensures { λ r. ⌜ r ≡ r ⌝ }' '{' '    x' '}'
+fails 'text::loose: says nothing: r ≡ r' tests/outcomes.sh
+add $of 'pub fn loose(out: &mut [u8]) -> u8' '    ensures { λ r. ⌜ (r ≡ 1) × (now (out .exit) ≡ now (out .exit)) ⌝ }' '{' '    1' '}'
+fails 'text::loose: says nothing: now (out' tests/outcomes.sh
+add $of 'pub fn loose(out: &mut [u8]) -> u8' '    ensures { λ r. ⌜ r ≡ 1 ⌝ }' '{' '    1' '}'
+fails 'text::loose: what becomes of out is not said' tests/outcomes.sh
+add $of 'pub fn loose(out: &mut [u8]) -> u8' '    ensures { λ _. ⌜ now (out .exit) ≡ now (out .entry) ⌝ }' '{' '    1' '}'
+fails 'text::loose: no equation for the answer' tests/outcomes.sh
+add $of 'pub fn loose(x: u8) -> u8' '    ensures { λ r. ⌜ Unheard x r ⌝ }' '{' '    x' '}'
+fails 'no theorem says that Unheard settles its outcome' tests/outcomes.sh
+change crates/working/src/gather.rt 's/fn gather_all/fn gather_some/'
+fails 'working::gather::gather_all is left out and is not there' tests/outcomes.sh
+change crates/working/src/indexing/find.rt 's/fn work_indexed/fn worked_indexed/'
+fails 'working::indexing::find::work_indexed has no room that is left out' tests/outcomes.sh
+
+# ---- promises.sh, of a page of a few words
+page() { # NAME: a page that names it
+    changed=docs/PROMISES.md
+    echo "Named: \`$1\`." >docs/PROMISES.md
+}
+page day_of_day_zero
+passes tests/promises.sh
+# in two parts, since the page may name what stands in tests/ too
+no=no_such
+page ${no}_thing
+fails "names ${no}_thing, which is not there" tests/promises.sh
+page text/day_of_day_zero
+fails 'names text/day_of_day_zero, which is not there' tests/promises.sh
+page holiday-list
+passes tests/promises.sh
+page no-such-theorem
+fails 'names the theorem no-such-theorem, which is not there' tests/promises.sh
+page Promises.holiday-list
+fails 'names the theorem Promises.holiday-list, which is not there' tests/promises.sh
+
+# ---- rooms.sh
+passes tests/rooms.sh
+change docs/rooms.svg '$d'
+fails 'docs/rooms.svg is not up to date' tests/rooms.sh
+change docs/ARCHITECTURE.md '/^| `calendar` |/d'
+fails 'its table has not the rooms of the picture' tests/rooms.sh
+change docs/ARCHITECTURE.md '/^| `calendar` |/s/`holidays`/`feasts`/'
+fails 'the row of calendar does not name its modules' tests/rooms.sh
+
+# ---- wrong.sh, of one crate
+edit=crates/text/must-fail/letter_is_a_digit.edit
+passes tests/wrong.sh text
+add $of 'pub fn loose(x: u8) -> u8' '    ensures { λ r. ⌜ r ≡ x ⌝ }' '{' '    x' '}'
+fails 'text: loose has 0 of two wrong programs' tests/wrong.sh text
+change $edit '/^wrong: byte_at_the_front/,/^$/d'
+fails 'text: put_byte has no wrong program that is tried at each gate' tests/wrong.sh text
+change $edit '/^wrong: byte_at_the_front/,/^$/s/^old: ./old: no such code /'
+fails 'text: does not stand once in crates/text/src/lib.rt: no such code' tests/wrong.sh text
+change $edit 's/^wrong: byte_at_the_front put_byte/wrong: byte_at_the_front spell/'
+fails 'text: the change for spell is in put_byte' tests/wrong.sh text
+change $edit 's/^wrong: byte_at_the_front put_byte/wrong: byte_at_the_front/'
+fails 'text: not a name and a function: wrong: byte_at_the_front' tests/wrong.sh text
+change $edit 's/^wrong: byte_at_the_front/wrong: nine_is_no_digit/'
+fails 'text: nine_is_no_digit is there twice' tests/wrong.sh text
+add $edit '' 'wrong: once_more put_byte' 'file: src/lib.rt'
+fails 'put_byte is wrong twice at once' tests/wrong.sh text
+changed="$edit crates/text/must-fail/another.edit"
+mv $edit crates/text/must-fail/another.edit
+fails 'must-fail/another.edit has no wrong program of its name' tests/wrong.sh text
+changed='crates/text/must-fail/nine_is_no_digit.edit crates/text/wrong'
+mv crates/text/wrong/nine_is_no_digit.edit crates/text/must-fail/
+fails 'is one too many' tests/wrong.sh text
+add $edit '' 'wrong: second spell_again' 'file: src/lib.rt' "$(sed -n 's/^old: /old: /p' $edit | head -n 1)"
+fails 'does not stand once' tests/wrong.sh text
+
+# ---- dist.sh
+passes tests/dist.sh
+change dist/BUILT 's/^sources ./sources x/'
+fails 'the program of dist/ is not of these sources' tests/dist.sh
+add dist/dagskimra more
+fails 'the program of dist/ is not of these sources' tests/dist.sh
+
+# ---- refused, in a repository of one crate and one edit
+mkdir -p "$room/small/crates/digits/must-fail" "$room/small/target/must-fail/digits/wrong_digit"
+cp -R "$root/tests" "$room/small/"
+cd "$room/small" || exit 2
+printf 'wrong: wrong_digit spell\nfile: src/lib.rt\nold: 9\nnew: 8\n' >crates/digits/must-fail/wrong_digit.edit
+said=target/must-fail/digits/wrong_digit/.log
+fails 'digits/wrong_digit was not tried' tests/refused
+says() { printf '%s\n' "$@" >$said; }
+says 'crates/digits/proofs/spell/Proof.antt:3:7: error: 9 is not 8'
+passes tests/refused
+says 'fn digits::spell: no proof: its ensures does not close'
+passes tests/refused
+says 'fn digits::spell: proved'
+fails 'wrong_digit: nothing is said against spell' tests/refused
+says 'crates/digits/proofs/spell/Proof.antt:3:7: error: `value` was not admitted (see above)'
+fails 'wrong_digit: nothing is said against spell' tests/refused
+says 'crates/digits/proofs/spell/Proof.antt:3:7: error: there is no `c .left` that can be named from here'
+fails 'wrong_digit: nothing is said against spell' tests/refused
+says 'crates/digits/proofs/read/Proof.antt:3:7: error: 9 is not 8'
+fails 'wrong_digit: nothing is said against spell' tests/refused
+
+# ---- again, with a command rt that says what it is told to
+mkdir -p bin crates/laws/src crates/laws/specs crates/laws/proofs crates/digits/src crates/digits/specs crates/digits/proofs
+mv crates/digits/must-fail crates/digits/wrong
+printf 'laws:\ndigits: laws\n' >crates.txt
+for crate in laws digits; do echo "$crate" | tee crates/$crate/src/lib.rt crates/$crate/specs/Lib.antt >crates/$crate/proofs/Lib.antt; done
+echo 'kit 1' >kit
+says 'crates/digits/proofs/spell/Proof.antt:3:7: error: 9 is not 8'
+cp $said answer
+mkdir -p target/stamp target/rlib
+cat >bin/rt <<END
+#!/bin/sh
+case \$1 in
+version) cat "$room/small/kit" ;;
+must-fail)
+    mkdir -p target/must-fail/digits/wrong_digit
+    cp "$room/small/answer" target/must-fail/digits/wrong_digit/.log
+    echo 'rt: must-fail digits/wrong_digit: tried'
+    [ ! -f "$room/small/survives" ]
+    ;;
+esac
+END
+chmod 755 bin/rt
+PATH=$room/small/bin:$PATH
+: >tests/seen
+lists() { # CRATES WHAT: these would be tried
+    shown=$((shown + 1))
+    sh tests/again --list >"$room/said" 2>&1
+    [ "$(tr '\n' ' ' <"$room/said")" = "$1" ] || fault "after $2 tests/again should try '$1', and tries:"
+}
+lists 'digits ' 'nothing was seen'
+: >survives
+fails 'must-fail digits/wrong_digit' tests/again --keep
+rm survives
+lists 'digits ' 'a wrong program that was not refused'
+says 'fn digits::spell: proved'
+cp $said answer
+fails 'nothing is said against spell' tests/again --keep
+lists 'digits ' 'a wrong program that nothing is said against'
+echo 'crates/digits/proofs/spell/Proof.antt:3:7: error: 9 is not 8' >answer
+passes tests/again --keep
+lists '' 'all were seen refused'
+passes tests/again
+turn() { # CRATES WHAT PATH: a line more in a file
+    cp "$3" "$room/was"
+    echo more >>"$3"
+    lists "$1" "$2"
+    cp "$room/was" "$3"
+}
+turn 'digits ' 'a change of its code' crates/digits/src/lib.rt
+turn 'digits ' 'a change of its definitions' crates/digits/specs/Lib.antt
+turn 'digits ' 'a change of its proofs' crates/digits/proofs/Lib.antt
+turn 'digits ' 'a change of its edit' crates/digits/wrong/wrong_digit.edit
+turn 'digits ' 'a change of code below it' crates/laws/src/lib.rt
+turn 'digits ' 'a change of a definition below it' crates/laws/specs/Lib.antt
+turn '' 'a change of a proof below it' crates/laws/proofs/Lib.antt
+turn 'digits ' 'another kit' kit
+turn 'digits ' 'another judge' tests/refused
+lists '' 'all is as it was'
+
+echo "checks: $shown looks at the checking scripts; $bad faults"
+[ "$bad" -eq 0 ]
