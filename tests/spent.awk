@@ -1,21 +1,13 @@
-# Passes on what `rt ci` prints but its last line, which goes to the file `last`, and adds to the file `parts` where its time went.
+# Where the time of `rt ci` went. Reads what tests/run noted when each of rt's own lines came: hundredths of a second that rt's children had taken by then,
+# the time, and the line. Writes a line for each part: its name, seconds of processor, 0, seconds on the clock or -1, 0.
 #
-# rt works in batches: it waits for all of one, then prints what each said. So when the first line of a batch comes, /proc has what rt's children have taken
-# with that batch, and each crate's share of it is as the seconds that its line tells. The file `pid` has the number of rt's process.
-function taken(    stat, line, f) {
-    if (process == "") { getline process <pid; close(pid) }
-    stat = "/proc/" process "/stat"
-    if ((getline line <stat) > 0) { sub(/^.*\) /, "", line); split(line, f, " "); all = (f[14] + f[15]) / 100 }
-    close(stat)
-    return all
-}
-function clock(    now) { "date +%s" | getline now; close("date +%s"); return now }
-# the batch that ends here, shared out among its crates
+# rt works in batches: it waits for all of one, then prints what each said. So what its children have taken with a batch stands there when the first line of
+# the batch comes, and each crate's share of it is as the seconds that its line tells.
 function share(    k) {
     for (k = 1; k <= count; k++) cpu[kind[crate[k]]] += batch * (took[k] + 0.5) / (sum + count / 2)
     count = sum = 0
 }
-function put(name, seconds, wall) { printf "%s %.1f 0 %d 0\n", name, seconds, wall >>parts }
+function put(name, seconds, clock) { printf "%s %.1f 0 %d 0\n", name, seconds, clock }
 BEGIN {
     while ((getline line <"crates.txt") > 0) {
         sub(/#.*/, "", line)
@@ -23,24 +15,22 @@ BEGIN {
         # a program of examples ends in _run; whatever else names the kit's library `os` is of the program
         kind[name] = name ~ /_run$/ ? "examples" : line ~ / os( |$)/ ? "program" : "libraries"
     }
-    start = clock()
 }
-/^rt: [a-z_]+ proved \([0-9]+ s\)$/ {
-    now = taken()
+{ now = $1 / 100; time = $2 }
+NR == 1 { start = time }
+$4 == "must-fail" { edits = now; tried = time; next }
+$5 == "proved" {
     if (now - mark > 0.5) { share(); batch = now - mark; mark = now }
-    crate[++count] = $2; took[count] = substr($4, 2) + 0; sum += took[count]
-    proving = now; proved = clock()
+    crate[++count] = $4; took[count] = substr($6, 2) + 0; sum += took[count]
+    proving = now; proved = time
 }
-/^rt: must-fail / { edits = taken(); tried = clock() }
-{ if (NR > 1) { print kept; fflush() } kept = $0 }
 END {
     share()
-    end = clock()
+    if (!tried) { edits = proving; tried = proved }
     put("proving", proving, proved - start)
     put("-libraries", cpu["libraries"], -1)
     put("-examples", cpu["examples"], -1)
     put("-the_program", cpu["program"], -1)
     put("wrong_programs", edits - proving, tried - proved)
-    put("running_examples", taken() - edits, end - tried)
-    print kept >last
+    put("running_examples", now - edits, time - tried)
 }
