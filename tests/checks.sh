@@ -83,6 +83,21 @@ fails 'working::gather::gather_all is left out and is not there' tests/outcomes.
 change crates/working/src/indexing/find.rt 's/fn work_indexed/fn worked_indexed/'
 fails 'working::indexing::find::work_indexed has no room that is left out' tests/outcomes.sh
 
+# ---- outer.sh
+passes tests/outer.sh
+change crates/capi/src/offer.rt '/^pub extern "C" fn dagskimra_file/,/ensures/s/^    ensures/    requires { ⌜ length (now text) ≤ 100 ⌝ }\n&/'
+fails 'capi::offer::dagskimra_file asks for something' tests/outer.sh
+add crates/filing/src/file.rt 'pub extern "C" fn dagskimra_loose(x: u8) -> u8 {' '    x' '}'
+fails 'filing::file::dagskimra_loose is exported, and tests/outer does not list it' tests/outer.sh
+change crates/starting/src/start.rt 's/^pub fn start(/fn start(/'
+fails 'starting::start::start is not public' tests/outer.sh
+change crates/filing/src/file.rt 's/^pub fn file(/pub fn filed(/'
+fails 'filing::file::file is listed, and is no public function' tests/outer.sh
+add tests/outer 'filing::file::file'
+fails 'filing::file::file is listed twice' tests/outer.sh
+add tests/outer 'inner filing'
+fails 'filing is listed as inner, and exports nothing' tests/outer.sh
+
 # ---- promises.sh, of a page of a few words
 page() { # NAME: a page that names it
     changed=docs/PROMISES.md
