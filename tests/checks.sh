@@ -117,6 +117,25 @@ page no-such-theorem
 fails 'names the theorem no-such-theorem, which is not there' tests/promises.sh
 page Promises.holiday-list
 fails 'names the theorem Promises.holiday-list, which is not there' tests/promises.sh
+page dates::day_of
+passes tests/promises.sh
+page dates::$no
+fails "names the function dates::$no, which is not there" tests/promises.sh
+page noSuchDefinition
+fails 'names the definition noSuchDefinition, which is not there' tests/promises.sh
+# the same on the page of a room
+of_room=docs/promises/calendar.md
+add $of_room "Named: \`${no}_thing\`."
+fails "$of_room names ${no}_thing, which is not there" tests/promises.sh
+add $of_room 'Named: `no-such-theorem`.'
+fails "$of_room names the theorem no-such-theorem, which is not there" tests/promises.sh
+# and each room has one
+change $of_room '1s/calendar/almanac/'
+fails 'the room calendar has no page' tests/promises.sh
+change $of_room '1s/calendar/calendar, almanac/'
+fails "$of_room is of almanac, which is no room" tests/promises.sh
+change docs/promises/text.md '1s/text/text, calendar/'
+fails 'the room calendar has two pages' tests/promises.sh
 
 # ---- rooms.sh
 passes tests/rooms.sh
