@@ -2,7 +2,7 @@
  *
  * Build the archive by `rt staticlib capi` (target/staticlib/libcapi.a, for x86-64 Linux) and link it. Nothing else is needed: the functions keep no
  * state, ask for no memory, and touch only what they are lent. They may be called from several threads as long as no two calls share a buffer that one
- * of them writes. Each function's contract is in crates/capi/src; the numbers of answers and verdicts are those of docs/PROMISES.md.
+ * of them writes. Each function's contract is in crates/capi/src; the numbers of answers and verdicts are those of docs/promises/rows.md.
  *
  * Every buffer is a pointer and a length. The five buffers of a store have to be at least as long as the constants below say, and must not overlap;
  * their contents may be any bytes: what does not read as a store is answered with 44. Other pointers (`uint64_t *`) must be valid and distinct.
