@@ -100,11 +100,14 @@ module _ (b : Buffers) (whole : isReadable b ≡ true) (n : ℕ) where
   pub reworked-readable : isReadable with ≡ true
   reworked-readable = sym (read-entries with still-long (whole-table b whole) (whole-files b whole) (whole-records b whole) (lineCount (b .table)) refl) ∙ reworked-good
 
-  entries-are : table (lineCount (b .table)) (entryAt after) ≡ map (entryOver rules files) lines
+  -- each line's entry is the one worked out
+  pub reworked-entry : (k : ℕ) → k < lineCount (b .table) → entryAt after k ≡ entryOver rules files (lineOf (b .table) k)
   unfolding entryAt workedSlot
+  reworked-entry k h = ap entryOf (slot-of k h) ∙ entry-back _ (worked-fits b whole k h n)
+
+  entries-are : table (lineCount (b .table)) (entryAt after) ≡ map (entryOver rules files) lines
   entries-are =
-      table-cong (lineCount (b .table)) (entryAt after) (λ (k : ℕ). entryOver rules files (lineOf (b .table) k))
-      (λ k h. ap entryOf (slot-of k h) ∙ entry-back _ (worked-fits b whole k h n))
+      table-cong (lineCount (b .table)) (entryAt after) (λ (k : ℕ). entryOver rules files (lineOf (b .table) k)) reworked-entry
       ∙ sym (ap (map (entryOver rules files)) lines-table ∙ map-table (entryOver rules files) (lineCount (b .table)) (lineOf (b .table)))
 
   pub reworked-reads : reads with ≡ some (record { lines = lines; files = readFiles (b .files) (b .regular) (b .corrections); entries = map (entryOver rules files) lines })
@@ -112,7 +115,7 @@ module _ (b : Buffers) (whole : isReadable b ≡ true) (n : ℕ) where
   reworked-reads = reads-some with reworked-readable ∙ (λ i. some (record { lines = lines; files = readFiles (b .files) (b .regular) (b .corrections); entries = entries-are i }))
 
 -- ---- what is listed
-below-mem : (n i : ℕ) → i < n → List·Memᴰ i (table n (λ (k : ℕ). k))
+pub below-mem : (n i : ℕ) → i < n → List·Memᴰ i (table n (λ (k : ℕ). k))
 unfolding table
 below-mem zero i h = absurd (omega arith)
 below-mem (suc n) i h = ⊎-elim (λ (e : i ≡ n). Memᴰ·append-right (table n (λ (k : ℕ). k)) (List·Memᴰ·head e)) (λ (l : i < n). Memᴰ·append-left (n ∷ []) (below-mem n i l)) (eq-or-lt-of-le (omega arith))

@@ -1,2 +1,3 @@
 pub mod Reworking
+pub mod Listed
 pub mod resuming

@@ -1,13 +1,11 @@
 -- The promises of demand 3 for a store that was reworked. Assumes nothing.
 --     resumed-reached     buffers that reworking and then filing lead to read as a store that the model reaches
 --     demand-3-resumed    in them every number's entry equals the one worked out afresh from the journals
-use mathlib.Core.Path.{_≡_, refl, ap, _∙_}
-use mathlib.Core.Bool.{Bool, true, false, cond}
+use mathlib.Core.Path.{_≡_, ap, _∙_}
+use mathlib.Core.Bool.{true}
 use mathlib.Core.List.{List, map}
-use mathlib.Core.Option.{Option, none, some}
+use mathlib.Core.Option.{Option, some}
 use Prim.Native.Nat.{ℕ, _≤_}
-use native.Mathlib.Omega.{arith}
-use lib.Dec.{leb}
 use lib.ListN.{length, take}
 use lib.Seq.{take-all}
 use Rattle.fields.specs.declared.number.Number.{Number}
@@ -24,20 +22,10 @@ use Rattle.store.proofs.Whole.{whole-files, files-once}
 use Rattle.filing.proofs.checking.Stored.{held-once}
 use Rattle.filing.specs.Effect.{storeOf}
 use Rattle.filing.proofs.Promises.{read-so, filed-on}
-use Rattle.reworking.specs.declared.rework.Reworked.{Reworked}
-use Rattle.reworking.specs.Reworking.{reworkedEntries, reworkAnswer, entriesAfter, withRoom, Reworks}
+use Rattle.reworking.specs.Reworking.{reworkedEntries, entriesAfter}
 use Rattle.reworking.proofs.Promises.{reworked-reads}
+use Rattle.reworking.proofs.Listing.{accepted}
 use Rattle.reworking.specs.resuming.Resumed.{Resumed, rework, file}
-
--- what is not 44 was asked of a store, with room for the list
-accepted : (b : Buffers) (n count : ℕ) (list : List ℕ) → Reworked.Changed count ≡ reworkAnswer n (withRoom list b) → (isReadable b ≡ true) × (withRoom list b ≡ some (held b))
-unfolding withRoom reads
-accepted b n count list q = go (leb 1024 (length list)) (isReadable b) q
-  where
-    go : (r t : Bool) → Reworked.Changed count ≡ reworkAnswer n (cond r (cond t (some (held b)) none) none) → (t ≡ true) × (cond r (cond t (some (held b)) none) none ≡ some (held b))
-    go true true q = (refl, refl)
-    go true false q = absurd (let z : _≡_ {A = ℕ} 0 1 = cc in omega arith)
-    go false t q = absurd (let z : _≡_ {A = ℕ} 0 1 = cc in omega arith)
 
 module _ (b : Buffers) (whole : isReadable b ≡ true) (n : ℕ) (all : length (held b .files) ≤ n) where
   abbrev files : List Filed
