@@ -1,10 +1,10 @@
 #!/bin/sh
 # Each public function of a library, also one that is public within its crate alone, settles its outcome: its contract is an equation for its answer
-# (or for the part that it lends back) and for each thing that it is lent to change, or a record that crates/outcomes shows to allow one outcome only.
+# (or for the part that it lends back) and for each thing that it is lent to change, or a record that crates/promises shows to allow one outcome only.
 # An equation of a thing with itself is none. What is left out is named here with its reason, and with what is counted it makes all such functions.
 set -eu
 cd "$(dirname "$0")/.."
-theorems=crates/outcomes/proofs/Outcomes.antt
+theorems=crates/promises/proofs/outcomes/Outcomes.antt
 
 # rooms of a caller's own, that no user lends: what stands behind the keys and places laid, and what a table that is refused left
 exceptions='working::gather::gather_all working::indexing::index::index working::indexing::find::gather_indexed filing::renewing::named::tag_file starting::tables::scratch::judge'
