@@ -1,0 +1,5 @@
+pub mod Numbers
+pub mod InUse
+pub mod Calls
+pub mod Filed
+pub mod Asked
