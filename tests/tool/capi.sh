@@ -64,14 +64,15 @@ cmp -s "$work/exported" "$work/called" || fail "the example does not call each f
 
 # ---- the example
 if [ "$(uname -m)" = x86_64 ]; then
-    cc=${CC:-cc} run=
+    cc=${CC:-cc} run= package=gcc
 else
-    cc=${CC:-x86_64-linux-gnu-gcc}
+    cc=${CC:-x86_64-linux-gnu-gcc} package=gcc-x86-64-linux-gnu
     kit=$(dirname "$(dirname "$(rt doc)")")
     run="$kit/on/$(uname -m)/toolchain/bin/qemu-x86_64"
 fi
 command -v "$cc" >/dev/null || {
-    echo "tests/tool/capi.sh: header held to the source; SKIPPED: no C compiler for x86-64 ($cc), so the example was NOT run"
+    echo 'capi: the header is held to the source'
+    echo "capi: SKIPPED: there is no C compiler for x86-64 here, $cc (package $package), so the example was NOT run"
     exit 0
 }
 rt staticlib capi >"$work/log" 2>&1 || {

@@ -9,7 +9,7 @@
 set -eu
 cd "$(dirname "$0")/../.."
 if ! command -v rustc >/dev/null 2>&1; then
-    echo 'compare: SKIPPED: there is no rustc here, so the tool was NOT compared with the witness'
+    echo 'compare: SKIPPED: there is no rustc here (package rustc), so the tool was NOT compared with the witness'
     exit 0
 fi
 room=target/witness

@@ -5,7 +5,7 @@ set -u
 here=$(cd "$(dirname "$0")" && pwd -P)
 tool=$here/../../bin/dagskimra
 command -v flock >/dev/null 2>&1 || {
-    echo 'lock: SKIPPED: there is no command flock here'
+    echo 'lock: SKIPPED: there is no command flock here (package util-linux)'
     exit 0
 }
 room=$(mktemp -d) || exit 2

@@ -4,8 +4,12 @@
 set -u
 here=$(cd "$(dirname "$0")" && pwd -P)
 tool=$here/../../bin/dagskimra
-if ! command -v script >/dev/null 2>&1 || ! script -qec true /dev/null </dev/null >/dev/null 2>&1; then
-    echo 'progress: SKIPPED: there is no command script here that lends a terminal, so progress was NOT looked at'
+if ! command -v script >/dev/null 2>&1; then
+    echo 'progress: SKIPPED: there is no command script here (package bsdutils), so progress was NOT looked at'
+    exit 0
+fi
+if ! script -qec true /dev/null </dev/null >/dev/null 2>&1; then
+    echo 'progress: SKIPPED: the command script lends no terminal here, so progress was NOT looked at'
     exit 0
 fi
 room=$(mktemp -d) || exit 2
