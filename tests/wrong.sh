@@ -1,9 +1,9 @@
 #!/bin/sh
 # The wrong programs: those in crates/NAME/must-fail are tried at each gate, those in crates/NAME/wrong whenever their crate changed (tests/again). Each can
-# be made, and each public function of a library has two at least, of which one is tried at each gate. An edit may make several functions wrong at once;
-# above each change stands `wrong: NAME FUNCTION`, and tests/refused holds each to a refusal of its own. A crate has one such edit in must-fail, since each
-# costs a check of the whole crate; its file is named by its strongest wrong program. An edit without such a line (of a definition, for one) is one wrong
-# program by its file's name. With the name of a crate: of that crate alone.
+# be made, and each public function of a library has two at least, of which one is tried at each gate. Each edit says what is refused (tests/refused has
+# the three forms): of code `wrong: NAME FUNCTION`, or `FUNCTION.NEED`, above each change, and it may make several functions wrong at once; of a definition
+# `wrong: NAME FILE.THEOREM`, the theorem that does not hold with it, or the function that does not follow it. A crate has one edit of functions in must-fail, since each costs a check of the whole
+# crate; its file is named by its strongest wrong program. With the name of a crate: of that crate alone.
 set -eu
 cd "$(dirname "$0")/.."
 # the program's crates: what they print and keep has no contract, and is tested
@@ -33,6 +33,13 @@ for folder in crates/${1:-*}/; do
     find "crates/$crate/must-fail" "crates/$crate/wrong" -name '*.edit' 2>/dev/null | sort | xargs awk -v crate="$crate" -v public="$public" '
         function fail(why) { printf "wrong: %s: %s\n", crate, why; failed = 1 }
         function name_it(name) { if (name in named) fail(name " is there twice"); named[name] = 1; all++; called = called || name == label }
+        # the file of proofs that a theorem stands in has a name of its own, with a capital; a function has none
+        function is_law(of,    last) { last = of; sub(/.*::/, "", last); return last ~ /^[A-Z]/ }
+        # a theorem, or a need of a function, has its line in its file; of a proof that the prover makes there is none
+        function is_proved(of, file, name,    text) {
+            gsub("::", "/", of); text = read("crates/" crate "/proofs/" of file)
+            return text == "" && file ~ /Proof/ || name != "" && (index(text, "\n" name " :") || index(text, " " name " :"))
+        }
         # the edit that ends here is called by one of its wrong programs
         function finish() { if (label != "" && !called) fail(folder "/" label ".edit has no wrong program of its name"); label = "" }
         function read(file,    line, text) { text = ""; while ((getline line <file) > 0) text = text line "\n"; close(file); return text }
@@ -48,19 +55,26 @@ for folder in crates/${1:-*}/; do
         }
         FNR == 1 {
             finish()
-            split("", texts); split("", here); of = ""; own = FILENAME; sub(/.*\//, "", own); sub(/\.edit$/, "", own)
-            label = own; called = 0; split(FILENAME, path, "/"); folder = path[3]; joined = 0
+            split("", texts); split("", here); of = ""; label = FILENAME; sub(/.*\//, "", label); sub(/\.edit$/, "", label)
+            called = 0; split(FILENAME, path, "/"); folder = path[3]; joined = 0
         }
         /^wrong: / {
-            if (NF != 3) fail("not a name and a function: " $0)
-            of = $3; own = ""; count[of]++; name_it($2)
+            if (NF != 3) fail("not a name and what is refused: " $0)
+            name_it($2); of = what = $3; sub(/\..*/, "", of); inner = substr(what, length(of) + 2)
+            if (what in here) fail(FILENAME ": " what " is wrong twice at once, so neither can be told from the other")
+            here[what] = 1
+            if (is_law(of)) { if (!is_proved(of, ".antt", inner)) fail("no theorem " inner " in the proofs of " of); of = ""; next }
+            if (of in here && what != of) fail(FILENAME ": " of " is wrong twice at once, so neither can be told from the other")
+            here[of] = 1; fresh = 1
+            if (inner != "" && !is_proved(of, "/Proof.antt", inner)) fail("no need " inner " in the proof of " of)
+        }
+        # a wrong program of a function is an edit of code; a definition that its code does not follow is none of its own
+        /^file: src\// && of != "" && fresh {
+            count[of]++; fresh = 0
             if (folder == "must-fail") { always[of]++; if (!joined++ && edits++) fail("two edits of functions are tried at each gate: " FILENAME " is one too many") }
-            if (of in here) fail(FILENAME ": " of " is wrong twice at once, so neither can be told from the other")
-            here[of] = 1
         }
         /^file: / { file = "crates/" crate "/" substr($0, 7); if (!(file in texts)) texts[file] = read(file); text = texts[file] }
         /^old: / {
-            if (own != "") { name_it(own); own = "" }
             old = substr($0, 6); at = index(text, old)
             if (!at || index(substr(text, at + length(old)), old)) fail("does not stand once in " file ": " old)
             last = of; sub(/.*::/, "", last); where = inside(text, at + length(old) - 1)
