@@ -312,6 +312,8 @@ for form in 'computed as far as they go, the two types are `Path ℕ 9 8` (expec
   `rw` has no last argument, so what it leaves must be a path whose two ends are equal, and `Path ℕ 9 8` is none' \
     '`simp`: no equation of the list has an instance in the goal `x ≡ 9`' \
     "\`rw\`: no occurrence of the path's left endpoint in the goal" \
+    '`rw`: no part of the goal `x ≡ 9`
+  is an instance of `y`' \
     'as printed, the two sides differ only where one has `x` (left), at the start, and the other has `9` (right)
   `x` ≟ `9`: does not hold (this comparison, made at this position, had to wait for a metavariable)' \
     'expected type `spell.Reads.Post c`, but this has type `Laid before at text`'; do
