@@ -143,6 +143,14 @@ module _ (n : Number) (p : numberFits n ≡ true) where
   unfolding blockFits
   block-ends e = and-left (digitsFits (n .last)) _ (and-right (digitsFits (n .first)) _ (block-whole e))
 
+  pub last-fits : digitsFits (n .last) ≡ true
+  unfolding digitsFits down sizeOf
+  last-fits = go (isEmpty (n .last)) refl
+    where
+      go : (t : Bool) → isEmpty (n .last) ≡ t → digitsFits (n .last) ≡ true
+      go true e = ap (λ (k : ℕ). digitsFits (record { 0 = k })) (eqb-true (n .last .0) 1 e)
+      go false e = block-ends e
+
   pub last-size : digitsSize (n .last) ≤ 11
   last-size = go (isEmpty (n .last)) refl
     where

@@ -1,9 +1,10 @@
 // A network code: D and three digits, known by the number that they spell.
 ghost use mathlib.Core.Path.{_≡_};
+ghost use mathlib.Core.Bool.{true};
 ghost use Prim.Native.Nat.{_+_, _≤_};
 ghost use lib.ListN.{length};
 ghost use Rattle.laws.specs.Overlay.{Laid};
-ghost use Rattle.fields.specs.Code.{codeOf, codeFits, codeOfWord, codeText, maybeCodeOfWord, maybeCodeText};
+ghost use Rattle.fields.specs.Code.{codeOf, codeFits, codeOfWord, codeText, maybeCodeOfWord, maybeCodeFits, maybeCodeText};
 use text::Spelt;
 
 pub struct Code(pub u16);
@@ -50,8 +51,9 @@ impl Code {
         CodeRead::Code(Code(w as u16))
     }
 
+    // Into its field, which can hold it.
     pub fn write(self, out: &mut [u8], at: usize) -> usize
-        requires { ⌜ at + length (codeText self) ≤ length (now out) ⌝ }
+        requires { ⌜ (at + length (codeText self) ≤ length (now out)) × (codeFits self ≡ true) ⌝ }
         ensures { λ r. ⌜ Laid (now (out .entry)) at (codeText self) (now (out .exit)) r ⌝ }
     {
         let behind = text::put_byte(out, at, 68);
@@ -96,7 +98,7 @@ impl MaybeCode {
     }
 
     pub fn write(self, out: &mut [u8], at: usize) -> usize
-        requires { ⌜ at + length (maybeCodeText self) ≤ length (now out) ⌝ }
+        requires { ⌜ (at + length (maybeCodeText self) ≤ length (now out)) × (maybeCodeFits self ≡ true) ⌝ }
         ensures { λ r. ⌜ Laid (now (out .entry)) at (maybeCodeText self) (now (out .exit)) r ⌝ }
     {
         match self {

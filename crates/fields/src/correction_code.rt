@@ -1,9 +1,10 @@
 // The code of a correction: four digits, known by the number that they spell. 25XX is an objection.
 ghost use mathlib.Core.Path.{_≡_};
+ghost use mathlib.Core.Bool.{true};
 ghost use Prim.Native.Nat.{_+_, _≤_};
 ghost use lib.ListN.{length};
 ghost use Rattle.laws.specs.Overlay.{Laid};
-ghost use Rattle.fields.specs.CorrectionCode.{correctionCodeOf, correctionCodeOfWord, isObjection, correctionCodeText};
+ghost use Rattle.fields.specs.CorrectionCode.{correctionCodeOf, correctionCodeOfWord, isObjection, correctionCodeFits, correctionCodeText};
 use text::Spelt;
 
 pub struct CorrectionCode(pub u16);
@@ -43,7 +44,7 @@ impl CorrectionCode {
     }
 
     pub fn write(self, out: &mut [u8], at: usize) -> usize
-        requires { ⌜ at + length (correctionCodeText self) ≤ length (now out) ⌝ }
+        requires { ⌜ (at + length (correctionCodeText self) ≤ length (now out)) × (correctionCodeFits self ≡ true) ⌝ }
         ensures { λ r. ⌜ Laid (now (out .entry)) at (correctionCodeText self) (now (out .exit)) r ⌝ }
     {
         text::put_digits(out, at, 4, self.0 as u64)

@@ -1,10 +1,11 @@
 // A date: ddmmyyyy, a day of the calendar.
 ghost use mathlib.Core.Path.{_≡_};
+ghost use mathlib.Core.Bool.{true};
 ghost use Prim.Native.Nat.{_+_, _≤_};
 ghost use lib.ListN.{length};
 ghost use Rattle.laws.specs.Overlay.{Laid};
 ghost use Rattle.calendar.specs.Answers.{dateOf};
-ghost use Rattle.fields.specs.Date.{dateFieldOf, dateOfWord, spelling, dateText, maybeDateOf, maybeDateOfWord, maybeDateText};
+ghost use Rattle.fields.specs.Date.{dateFieldOf, dateOfWord, spelling, dateFits, dateText, maybeDateOf, maybeDateOfWord, maybeDateFits, maybeDateText};
 use calendar::dates::CalendarDays;
 use calendar::dates::Date;
 use calendar::dates::Dated;
@@ -57,7 +58,7 @@ fn spell(d: CalendarDays) -> u64
 }
 
 pub(crate) fn write(d: CalendarDays, out: &mut [u8], at: usize) -> usize
-    requires { ⌜ at + length (dateText d) ≤ length (now out) ⌝ }
+    requires { ⌜ (at + length (dateText d) ≤ length (now out)) × (dateFits d ≡ true) ⌝ }
     ensures { λ r. ⌜ Laid (now (out .entry)) at (dateText d) (now (out .exit)) r ⌝ }
 {
     text::put_digits(out, at, 8, spell(d))
@@ -112,7 +113,7 @@ impl MaybeDate {
     }
 
     pub fn write(self, out: &mut [u8], at: usize) -> usize
-        requires { ⌜ at + length (maybeDateText self) ≤ length (now out) ⌝ }
+        requires { ⌜ (at + length (maybeDateText self) ≤ length (now out)) × (maybeDateFits self ≡ true) ⌝ }
         ensures { λ r. ⌜ Laid (now (out .entry)) at (maybeDateText self) (now (out .exit)) r ⌝ }
     {
         match self {

@@ -60,7 +60,7 @@ impl Digits {
     }
 
     pub fn write(self, out: &mut [u8], at: usize) -> usize
-        requires { ⌜ at + length (digitsText self) ≤ length (now out) ⌝ }
+        requires { ⌜ (at + length (digitsText self) ≤ length (now out)) × (digitsFits self ≡ true) ⌝ }
         ensures { λ r. ⌜ Laid (now (out .entry)) at (digitsText self) (now (out .exit)) r ⌝ }
     {
         let k = text::size(self.0, 12);

@@ -1,10 +1,11 @@
 // A correction, `CCCCU:`, a part, `,K:`, a part: its code, what was reported and what it should be.
 ghost use mathlib.Core.Path.{_≡_};
+ghost use mathlib.Core.Bool.{true};
 ghost use Prim.Native.Nat.{_+_, _≤_};
 ghost use lib.ListN.{length};
 ghost use Rattle.laws.specs.Overlay.{Laid};
 ghost use Rattle.layout.specs.Report.{wholeOf};
-ghost use Rattle.layout.specs.Correction.{headOf, reportedOf, isSound, soundOf, correctionOf, correctionOfWords, namedNumber, correctionText};
+ghost use Rattle.layout.specs.Correction.{headOf, reportedOf, isSound, soundOf, correctionOf, correctionOfWords, namedNumber, correctionFits, correctionText};
 use crate::part::Part;
 use crate::part::PartRead;
 use crate::putting;
@@ -160,8 +161,9 @@ impl Correction {
         u.len() + k.len() + 9
     }
 
+    // Into a record that can hold it.
     pub fn write(self, out: &mut [u8], at: usize) -> usize
-        requires { ⌜ at + length (correctionText self) ≤ length (now out) ⌝ }
+        requires { ⌜ (at + length (correctionText self) ≤ length (now out)) × (correctionFits self ≡ true) ⌝ }
         ensures { λ r. ⌜ Laid (now (out .entry)) at (correctionText self) (now (out .exit)) r ⌝ }
     {
         let code = self.code;

@@ -1,10 +1,11 @@
 // Six fields, `num1,num2,ddmmyyyy,GAINING,LOSING,STATUS`, each of which may be empty: a report is such a part with
 // nothing missing, and a correction has two.
 ghost use mathlib.Core.Path.{_≡_};
+ghost use mathlib.Core.Bool.{true};
 ghost use Prim.Native.Nat.{_+_, _≤_};
 ghost use lib.ListN.{length};
 ghost use Rattle.laws.specs.Overlay.{Laid};
-ghost use Rattle.layout.specs.Part.{partOf, partOfWords, partText};
+ghost use Rattle.layout.specs.Part.{partOf, partOfWords, partFits, partText};
 use crate::putting;
 use crate::walk::CodeAt;
 use crate::walk::DateAt;
@@ -113,8 +114,9 @@ impl Part {
         first.len() + last.len() + date.len() + gaining.len() + losing.len() + kind.len() + 5
     }
 
+    // Into six fields that can hold it.
     pub fn write(self, out: &mut [u8], at: usize) -> usize
-        requires { ⌜ at + length (partText self) ≤ length (now out) ⌝ }
+        requires { ⌜ (at + length (partText self) ≤ length (now out)) × (partFits self ≡ true) ⌝ }
         ensures { λ r. ⌜ Laid (now (out .entry)) at (partText self) (now (out .exit)) r ⌝ }
     {
         let number = self.number;

@@ -1,10 +1,13 @@
-// Fields with the comma behind each, laid into a lent buffer; what follows them is the answer.
+// Fields with the comma behind each, laid into a lent buffer; what follows them is the answer. Each can hold its value.
+ghost use mathlib.Core.Path.{_≡_};
+ghost use mathlib.Core.Bool.{true};
 ghost use Prim.Native.Nat.{_+_, _≤_};
 ghost use lib.ListN.{length};
 ghost use Rattle.laws.specs.Overlay.{Laid};
-ghost use Rattle.fields.specs.Code.{maybeCodeText};
-ghost use Rattle.fields.specs.Date.{maybeDateText};
-ghost use Rattle.fields.specs.Number.{digitsText};
+ghost use Rattle.fields.specs.Code.{maybeCodeFits, maybeCodeText};
+ghost use Rattle.fields.specs.CorrectionCode.{correctionCodeFits};
+ghost use Rattle.fields.specs.Date.{maybeDateFits, maybeDateText};
+ghost use Rattle.fields.specs.Number.{digitsFits, digitsText, numberFits};
 ghost use Rattle.layout.specs.Putting.{followed, numberFollowed, networksFollowed, headText, betweenParts};
 use fields::code::MaybeCode;
 use fields::correction_code::CorrectionCode;
@@ -13,7 +16,7 @@ use fields::number::Digits;
 use fields::number::Number;
 
 fn put_digits(d: Digits, out: &mut [u8], at: usize) -> usize
-    requires { ⌜ at + length (followed (digitsText d)) ≤ length (now out) ⌝ }
+    requires { ⌜ (at + length (followed (digitsText d)) ≤ length (now out)) × (digitsFits d ≡ true) ⌝ }
     ensures { λ r. ⌜ Laid (now (out .entry)) at (followed (digitsText d)) (now (out .exit)) r ⌝ }
 {
     let behind = d.write(out, at);
@@ -21,7 +24,7 @@ fn put_digits(d: Digits, out: &mut [u8], at: usize) -> usize
 }
 
 fn put_code(code: MaybeCode, out: &mut [u8], at: usize) -> usize
-    requires { ⌜ at + length (followed (maybeCodeText code)) ≤ length (now out) ⌝ }
+    requires { ⌜ (at + length (followed (maybeCodeText code)) ≤ length (now out)) × (maybeCodeFits code ≡ true) ⌝ }
     ensures { λ r. ⌜ Laid (now (out .entry)) at (followed (maybeCodeText code)) (now (out .exit)) r ⌝ }
 {
     let behind = code.write(out, at);
@@ -29,7 +32,7 @@ fn put_code(code: MaybeCode, out: &mut [u8], at: usize) -> usize
 }
 
 pub(crate) fn put_date(date: MaybeDate, out: &mut [u8], at: usize) -> usize
-    requires { ⌜ at + length (followed (maybeDateText date)) ≤ length (now out) ⌝ }
+    requires { ⌜ (at + length (followed (maybeDateText date)) ≤ length (now out)) × (maybeDateFits date ≡ true) ⌝ }
     ensures { λ r. ⌜ Laid (now (out .entry)) at (followed (maybeDateText date)) (now (out .exit)) r ⌝ }
 {
     let comma = date.write(out, at);
@@ -38,7 +41,7 @@ pub(crate) fn put_date(date: MaybeDate, out: &mut [u8], at: usize) -> usize
 
 // Both fields of a number.
 pub(crate) fn put_number(number: Number, out: &mut [u8], at: usize) -> usize
-    requires { ⌜ at + length (numberFollowed number) ≤ length (now out) ⌝ }
+    requires { ⌜ (at + length (numberFollowed number) ≤ length (now out)) × (numberFits number ≡ true) ⌝ }
     ensures { λ r. ⌜ Laid (now (out .entry)) at (numberFollowed number) (now (out .exit)) r ⌝ }
 {
     let first = number.first;
@@ -54,7 +57,7 @@ pub(crate) fn put_networks(
     out: &mut [u8],
     at: usize,
 ) -> usize
-    requires { ⌜ at + length (networksFollowed gaining losing) ≤ length (now out) ⌝ }
+    requires { ⌜ (at + length (networksFollowed gaining losing) ≤ length (now out)) × (maybeCodeFits gaining ≡ true) × (maybeCodeFits losing ≡ true) ⌝ }
     ensures { λ r. ⌜ Laid (now (out .entry)) at (networksFollowed gaining losing) (now (out .exit)) r ⌝ }
 {
     let behind = put_code(gaining, out, at);
@@ -63,7 +66,7 @@ pub(crate) fn put_networks(
 
 // The code of a correction, and `U:`.
 pub(crate) fn put_head(code: CorrectionCode, out: &mut [u8], at: usize) -> usize
-    requires { ⌜ at + length (headText code) ≤ length (now out) ⌝ }
+    requires { ⌜ (at + length (headText code) ≤ length (now out)) × (correctionCodeFits code ≡ true) ⌝ }
     ensures { λ r. ⌜ Laid (now (out .entry)) at (headText code) (now (out .exit)) r ⌝ }
 {
     let behind = code.write(out, at);

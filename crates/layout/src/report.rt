@@ -1,9 +1,10 @@
 // A report, `num1,num2,ddmmyyyy,GAINING,LOSING,STATUS`: a part with nothing missing, save the gaining network of a Z.
 ghost use mathlib.Core.Path.{_≡_};
+ghost use mathlib.Core.Bool.{true};
 ghost use Prim.Native.Nat.{_+_, _≤_};
 ghost use lib.ListN.{length};
 ghost use Rattle.laws.specs.Overlay.{Laid};
-ghost use Rattle.layout.specs.Report.{isNamed, wholeOf, reportPart, reportOf, reportOfWords, reportText};
+ghost use Rattle.layout.specs.Report.{isNamed, wholeOf, reportPart, reportOf, reportOfWords, reportFits, reportText};
 use crate::part::Part;
 use crate::part::PartRead;
 use calendar::dates::CalendarDays;
@@ -124,8 +125,9 @@ impl Report {
         p.len()
     }
 
+    // Into a record that can hold it.
     pub fn write(self, out: &mut [u8], at: usize) -> usize
-        requires { ⌜ at + length (reportText self) ≤ length (now out) ⌝ }
+        requires { ⌜ (at + length (reportText self) ≤ length (now out)) × (reportFits self ≡ true) ⌝ }
         ensures { λ r. ⌜ Laid (now (out .entry)) at (reportText self) (now (out .exit)) r ⌝ }
     {
         let p = self.part();

@@ -1,9 +1,10 @@
 // A request, `DXXX,`, a date or nothing, `,`: whoever asks, and the day from which on, or all.
 ghost use mathlib.Core.Path.{_≡_};
+ghost use mathlib.Core.Bool.{true};
 ghost use Prim.Native.Nat.{_+_, _≤_};
 ghost use lib.ListN.{length};
 ghost use Rattle.laws.specs.Overlay.{Laid};
-ghost use Rattle.layout.specs.Request.{requestOf, requestOfWords, requestText};
+ghost use Rattle.layout.specs.Request.{requestOf, requestOfWords, requestFits, requestText};
 use fields::code::Code;
 use fields::code::CodeRead;
 use fields::date::MaybeDate;
@@ -63,8 +64,9 @@ impl Request {
         from.len() + 6
     }
 
+    // Into a record that can hold it.
     pub fn write(self, out: &mut [u8], at: usize) -> usize
-        requires { ⌜ at + length (requestText self) ≤ length (now out) ⌝ }
+        requires { ⌜ (at + length (requestText self) ≤ length (now out)) × (requestFits self ≡ true) ⌝ }
         ensures { λ r. ⌜ Laid (now (out .entry)) at (requestText self) (now (out .exit)) r ⌝ }
     {
         let code = self.code;

@@ -14,7 +14,7 @@ spell-requires c κs = search needs
 put-digits-requires : tie.Need-put-digits-requires
 put-digits-requires c κs =
     let s = c .before .before .before in
-    omega (arith, length-digits 8 (spelling (dateOf (s .args .d .0))), s .pre)
+    omega (arith, length-digits 8 (spelling (dateOf (s .args .d .0))), s .pre .0)
 
 same-length : tie.Need-same-length
 same-length c = search needs

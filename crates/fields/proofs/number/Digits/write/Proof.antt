@@ -10,7 +10,7 @@ size-requires : tie.Need-size-requires
 size-requires c κs = search needs
 
 put-digits-requires : tie.Need-put-digits-requires
-put-digits-requires c κs = omega (arith, c .before .size .ensures, rw length-digits at (c .before .before .before .pre))
+put-digits-requires c κs = omega (arith, c .before .size .ensures, rw length-digits at (c .before .before .before .pre .0))
 
 same-length : tie.Need-same-length
 same-length c = search needs

@@ -3,6 +3,7 @@ use Rattle.laws.proofs.Overlay.{room-first, room-next, laid-then, laid-length}
 use Rattle.fields.specs.Date.{maybeDateText}
 use Rattle.fields.specs.Kind.{maybeKindText}
 use Rattle.layout.specs.Putting.{followed, numberFollowed, networksFollowed}
+use Rattle.layout.proofs.PutLaws.{part-fields}
 use Rattle.layout.proofs.PartLaws.{whole, room-part, networksOn, dateOn}
 use Rattle.layout.proofs.part.Part.write.Statement.{statement}
 use Rattle.layout.proofs.part.Part.write.Tie as tie
@@ -11,15 +12,15 @@ put-number-requires : tie.Need-put-number-requires
 put-number-requires c κs =
     let s = c .before .before .before in
     let p = s .args .self in
-    room-first (numberFollowed (p .number)) (dateOn p) (room-part p (s .args .out .now) (s .args .at) (s .pre))
+    (room-first (numberFollowed (p .number)) (dateOn p) (room-part p (s .args .out .now) (s .args .at) (s .pre .0)), part-fields p (s .pre .1) .0)
 
 put-date-requires : tie.Need-put-date-requires
 put-date-requires c κs =
     let w1 = c .before .before .before in
     let s = w1 .before .before .before .before in
     let p = s .args .self in
-    let r1 = room-next (dateOn p) (room-part p (s .args .out .now) (s .args .at) (s .pre)) (w1 .put-number .ensures) in
-    room-first (followed (maybeDateText (p .date))) (networksOn p) r1
+    let r1 = room-next (dateOn p) (room-part p (s .args .out .now) (s .args .at) (s .pre .0)) (w1 .put-number .ensures) in
+    (room-first (followed (maybeDateText (p .date))) (networksOn p) r1, part-fields p (s .pre .1) .1)
 
 put-networks-requires : tie.Need-put-networks-requires
 put-networks-requires c κs =
@@ -27,8 +28,8 @@ put-networks-requires c κs =
     let w1 = w2 .before .before .before .before in
     let s = w1 .before .before .before .before in
     let p = s .args .self in
-    let r1 = room-next (dateOn p) (room-part p (s .args .out .now) (s .args .at) (s .pre)) (w1 .put-number .ensures) in
-    room-first (networksFollowed (p .gaining) (p .losing)) (maybeKindText (p .kind)) (room-next (networksOn p) r1 (w2 .put-date .ensures))
+    let r1 = room-next (dateOn p) (room-part p (s .args .out .now) (s .args .at) (s .pre .0)) (w1 .put-number .ensures) in
+    (room-first (networksFollowed (p .gaining) (p .losing)) (maybeKindText (p .kind)) (room-next (networksOn p) r1 (w2 .put-date .ensures)), part-fields p (s .pre .1) .2, part-fields p (s .pre .1) .3)
 
 write-requires : tie.Need-write-requires
 write-requires c κs =
@@ -37,7 +38,7 @@ write-requires c κs =
     let w1 = w2 .before .before .before .before in
     let s = w1 .before .before .before .before in
     let p = s .args .self in
-    let r1 = room-next (dateOn p) (room-part p (s .args .out .now) (s .args .at) (s .pre)) (w1 .put-number .ensures) in
+    let r1 = room-next (dateOn p) (room-part p (s .args .out .now) (s .args .at) (s .pre .0)) (w1 .put-number .ensures) in
     room-next (maybeKindText (p .kind)) (room-next (networksOn p) r1 (w2 .put-date .ensures)) (w3 .put-networks .ensures) .fits
 
 same-length : tie.Need-same-length

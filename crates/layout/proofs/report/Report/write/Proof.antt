@@ -1,6 +1,7 @@
 -- `layout::report::Report::write` meets its contract. Assumes nothing.
 use mathlib.Core.Path.{sym}
 use borrow.Author.Needs.{needs}
+use Rattle.layout.proofs.PutLaws.{report-part}
 use Rattle.layout.proofs.report.Report.write.Statement.{statement}
 use Rattle.layout.proofs.report.Report.write.Tie as tie
 
@@ -8,7 +9,9 @@ part-requires : tie.Need-part-requires
 part-requires c κs = search needs
 
 write-requires : tie.Need-write-requires
-write-requires c κs = rw (c .before .part .ensures) (c .before .before .before .pre)
+write-requires c κs =
+    let s = c .before .before .before in
+    rw (c .before .part .ensures) (s .pre .0, report-part (s .args .self) (s .pre .1))
 
 same-length : tie.Need-same-length
 same-length c = search needs
