@@ -2,9 +2,11 @@
 use mathlib.Core.Path.{_≡_, refl, sym, ap, _∙_}
 use mathlib.Core.List.{List, [], _++_, map, foldl}
 use Prim.Native.Nat.{ℕ, _+_, _≤_, _<_}
+use lib.Dec.{leb}
 use lib.ListN.{length, take, drop, getD}
 use Rattle.laws.specs.Lists.{table}
 use Rattle.laws.specs.Order.{sorted}
+use Rattle.laws.proofs.Order.{length-inOrder}
 use Rattle.laws.proofs.Rising.{take-sorted-any}
 use Rattle.laws.proofs.Folds.{fold-more, fold-map}
 use Rattle.fields.specs.declared.number.Number.{Number}
@@ -20,7 +22,8 @@ use Rattle.rules.specs.Rules.{rules, standings, recordOf}
 use Rattle.rules.proofs.Promises.{before-a-late-file, same-history, standing-entry}
 use Rattle.store.specs.journals.Reads.{recordsAt, filedIn, firstFiles, readFiles}
 use Rattle.working.specs.Slips.{Slip, slipAt, keyOf, keysOf}
-use Rattle.working.specs.Working.{tableLine, Sound, Gathered, standBehind, WorkedAfresh, recordIn, standBefore}
+use Rattle.working.specs.declared.work.Worked.{Worked}
+use Rattle.working.specs.Working.{tableLine, Sound, Gathered, standBehind, foldedBehind, WorkedAfresh, recordIn, standBefore}
 use Rattle.store.proofs.journals.FirstFiles.{first-of-all}
 use Rattle.working.proofs.KeyLaws.{fold-keys, keys-count, bounded-at, fold-before}
 use Rattle.working.proofs.GatherLaws.{ranged, room-all, in-turn}
@@ -72,17 +75,19 @@ module _ (n : ℕ) (files regular corrections : List ℕ) (number : Number) (lin
       (λ (t : Standing) (e : Event). standOn line t (recordOf e)) (firstStanding line)
       ∙ ap (foldl (λ (t : Standing) (e : Event). standOn line t (recordOf e)) (firstStanding line)) (sym (same-history (filedIn (recordsAt regular corrections) [] (table n (fileAt files))) number))
 
-  pub answer : (keys after : List ℕ) (r : ℕ) (s : Standing) → Gathered n files regular corrections number keys r → after ≡ sorted (take r keys) ++ drop r keys
-      → s ≡ foldl (standBehind line regular corrections) (firstStanding line) (take r after) → WorkedAfresh n files regular corrections number line s r
-  answer keys after r s g e f =
+  pub answer : (keys after : List ℕ) (r : ℕ) (w : Worked) → Gathered n files regular corrections number keys r → after ≡ sorted (take r keys) ++ drop r keys
+      → w ≡ foldedBehind line regular corrections (take r after) → WorkedAfresh n files regular corrections number line (w .standing) (w .count)
+  answer keys after r w g e f =
       let read = first-of-all n files regular corrections (sound .filed) in
-      let stands = f
-      ∙ ap (foldl (standBehind line regular corrections) (firstStanding line)) (ap (take r) e ∙ take-sorted-any r keys ∙ ap sorted (g .laid))
+      let all = ap (take r) e ∙ take-sorted-any r keys ∙ ap sorted (g .laid) in
+      let stands = ap (λ (x : Worked). x .standing) f
+      ∙ ap (foldl (standBehind line regular corrections) (firstStanding line)) all
       ∙ folded
       ∙ ap (λ (fs : List Filed). entryOver standings fs (tableLine number line)) read in record {
         stands = stands;
         entry = ap (λ (t : Standing). t .entry) stands ∙ standing-entry (take n (readFiles files regular corrections)) (tableLine number line);
-        counted = gathered-count n files regular corrections number sound keys r g;
+        counted = ap (λ (x : Worked). x .count) f ∙ ap length all ∙ length-inOrder leb (keysOf (recordsAt regular corrections) number (fileAt files) n) ∙ sym (g .counted)
+            ∙ gathered-count n files regular corrections number sound keys r g;
       }
 
   -- ---- those records that are processed before the one at a place of the file k

@@ -1,7 +1,7 @@
 -- What working out one number answers. Assumes nothing: these are definitions.
 use mathlib.Core.Path.{_≡_}
 use mathlib.Core.Bool.{Bool, true, cond, not, _&&_}
-use mathlib.Core.List.{List, _++_}
+use mathlib.Core.List.{List, _++_, foldl}
 use Prim.Native.Nat.{ℕ, _+_, _*_, _/_, _≤_, _<_}
 use lib.Dec.{ltb, eqb}
 use lib.ListN.{length, take}
@@ -9,13 +9,14 @@ use Rattle.laws.specs.Lists.{table, all}
 use Rattle.fields.specs.declared.number.Number.{Number}
 use Rattle.entries.specs.declared.entry.Line.{Line}
 use Rattle.verdict.specs.declared.step.Standing.{Standing}
-use Rattle.verdict.specs.Step.{standOn}
+use Rattle.verdict.specs.Step.{firstStanding, standOn}
 use Rattle.model.specs.Rules.{TableLine, Event}
 use Rattle.model.specs.Model.{entryOver, history}
 use Rattle.store.specs.journals.Files.{fileAt, fileCount, goodFile, recordsOf}
 use Rattle.store.specs.declared.journals.files.File.{File}
 use Rattle.rules.specs.Rules.{rules, standings, recordOf}
 use Rattle.store.specs.journals.Reads.{recordsAt, readFiles}
+use Rattle.working.specs.declared.work.Worked.{Worked}
 use Rattle.working.specs.Slips.{keysOf, eventBehind}
 
 -- a line of the number table in the model's words
@@ -65,6 +66,10 @@ pub record Gathered (n : ℕ) (files regular corrections : List ℕ) (number : N
 -- the standing after the record behind a key
 unfoldable pub standBehind : Line → List ℕ → List ℕ → Standing → ℕ → Standing
 standBehind line regular corrections s key = standOn line s (recordOf (eventBehind regular corrections key))
+
+-- the fold over the records behind these keys: where it leads, and how many records were folded
+abbrev pub foldedBehind : Line → List ℕ → List ℕ → List ℕ → Worked
+foldedBehind line regular corrections keys = record { standing = foldl (standBehind line regular corrections) (firstStanding line) keys; count = length keys }
 
 -- what `work_out` answers: where the number stands over the first n files, worked out afresh, and how many records that took
 pub record WorkedAfresh (n : ℕ) (files regular corrections : List ℕ) (number : Number) (line : Line) (standing : Standing) (count : ℕ) : Type 0 where

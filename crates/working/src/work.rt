@@ -12,20 +12,19 @@ use verdict::step::Says;
 use verdict::step::Standing;
 ghost use mathlib.Core.Path.{_≡_};
 ghost use mathlib.Core.Bool.{cond};
-ghost use mathlib.Core.List.{_++_, foldl};
+ghost use mathlib.Core.List.{_++_};
 ghost use Prim.Native.Nat.{_≤_};
 ghost use lib.Dec.{eqb};
 ghost use lib.ListN.{length, take, drop};
 ghost use Rattle.laws.specs.Order.{sorted};
-ghost use Rattle.verdict.specs.Step.{firstStanding};
 ghost use Rattle.store.specs.journals.Records.{shownIn};
 ghost use Rattle.store.specs.declared.journals.records.Journal.the-variants.{Regular, Correction};
 ghost use Rattle.rules.specs.Records.{saysIn};
 ghost use Rattle.rules.specs.Rules.{recordOf};
 ghost use Rattle.working.specs.Slips.{eventBehind};
-ghost use Rattle.working.specs.Working.{Sound, standBehind, WorkedAfresh};
+ghost use Rattle.working.specs.Working.{Sound, standBehind, foldedBehind, WorkedAfresh};
 
-// Where a number stands, and how many records that took.
+// Where a number stands, and how many records were folded to get there.
 pub struct Worked {
     pub standing: Standing,
     pub count: usize,
@@ -74,24 +73,26 @@ pub fn stand_behind<'a>(
     step::stand(line, s, rec)
 }
 
-// The fold over the records behind the first r keys.
+// The fold over the records behind the first r keys: where it leads, and how many records were folded.
 fn fold<'a>(
     regular: &'a [u8],
     corrections: &'a [u8],
     line: Line,
     keys: &'a [u64],
     r: usize,
-) -> Standing
+) -> Worked
     requires { ⌜ r ≤ length (now keys) ⌝ }
-    ensures { λ s. ⌜ s ≡ foldl (standBehind line (now (regular .entry)) (now (corrections .entry))) (firstStanding line) (take r (now (keys .entry))) ⌝ }
+    ensures { λ w. ⌜ w ≡ foldedBehind line (now (regular .entry)) (now (corrections .entry)) (take r (now (keys .entry))) ⌝ }
 {
     let mut s = step::first(line);
+    let mut count: usize = 0;
     let mut i = 0;
     while i < r {
         s = stand_behind(regular, corrections, line, s, keys[i]);
+        count += 1;
         i += 1;
     }
-    s
+    Worked { standing: s, count }
 }
 
 // The same, of an array.
@@ -101,9 +102,9 @@ pub(crate) fn fold_all<'a>(
     line: Line,
     keys: &'a [u64; 10240],
     r: usize,
-) -> Standing
+) -> Worked
     requires { ⌜ r ≤ 10240 ⌝ }
-    ensures { λ s. ⌜ s ≡ foldl (standBehind line (now (regular .entry)) (now (corrections .entry))) (firstStanding line) (take r (now (keys .entry))) ⌝ }
+    ensures { λ w. ⌜ w ≡ foldedBehind line (now (regular .entry)) (now (corrections .entry)) (take r (now (keys .entry))) ⌝ }
 {
     fold(regular, corrections, line, keys, r)
 }
@@ -130,9 +131,5 @@ pub fn work_out<'a>(
     let mut keys = [0u64; 10240];
     let r = gather::gather_all(files, n, regular, corrections, number, &mut keys);
     sort_first(&mut keys, r);
-    let s = fold_all(regular, corrections, line, &keys, r);
-    Worked {
-        standing: s,
-        count: r,
-    }
+    fold_all(regular, corrections, line, &keys, r)
 }

@@ -176,9 +176,5 @@ pub fn work_indexed<'a>(
         room,
     );
     work::sort_first(room, r);
-    let s = work::fold_all(regular, corrections, line, room, r);
-    Worked {
-        standing: s,
-        count: r,
-    }
+    work::fold_all(regular, corrections, line, room, r)
 }

@@ -1,9 +1,10 @@
--- `working::work::fold` meets its contract: the loop's invariant is the fold over the first i keys; a turn is `fold-turn`. Assumes nothing.
-use mathlib.Core.Path.{_≡_, ap, _∙_}
+-- `working::work::fold` meets its contract: the loop's invariant is the fold over the first i keys, and that these were counted; a turn is `fold-turn`. Assumes nothing.
+use mathlib.Core.Path.{_≡_, refl, sym, ap, _∙_}
 use mathlib.Core.List.{foldl}
 use Prim.Native.Nat.{ℕ, _-_, _≤_}
 use native.Mathlib.Omega.{arith}
-use lib.ListN.{take}
+use lib.ListN.{length, take}
+use lib.Seq.{length-take-le}
 use Rattle.verdict.specs.Step.{firstStanding}
 use Rattle.working.specs.Working.{standBehind}
 use Rattle.working.proofs.WorkLaws.{fold-turn}
@@ -12,16 +13,16 @@ use Rattle.working.proofs.work.fold.Statement.{statement}
 use Rattle.working.proofs.work.fold.Tie as tie
 
 abbrev Inv-loop : tie.InvT-loop
-Inv-loop regular corrections line keys r s₀ i₀ s i = (i ≤ r) × (s ≡ foldl (standBehind line regular corrections) (firstStanding line) (take i keys))
+Inv-loop regular corrections line keys r s₀ count₀ i₀ s count i = (i ≤ r) × (count ≡ i) × (s ≡ foldl (standBehind line regular corrections) (firstStanding line) (take i keys))
 
 abbrev μ-loop : tie.MeasureT-loop
-μ-loop regular corrections line keys r s₀ i₀ s i = r - i
+μ-loop regular corrections line keys r s₀ count₀ i₀ s count i = r - i
 
 first-requires : tie.Need-first-requires Inv-loop μ-loop
 first-requires c κs = search needs
 
 loop-holds : tie.Need-loop-holds Inv-loop μ-loop
-loop-holds c = (search needs, c .first .ensures)
+loop-holds c = (search needs, refl, c .first .ensures)
 
 mul-stand-behind : tie.Need-mul-stand-behind Inv-loop μ-loop
 mul-stand-behind c = search needs
@@ -31,6 +32,9 @@ shared-slice-read-stand-behind c = search needs
 
 stand-behind-requires : tie.Need-stand-behind-requires Inv-loop μ-loop
 stand-behind-requires c κs = search needs
+
+add-count : tie.Need-add-count Inv-loop μ-loop
+add-count c = omega arith
 
 add-i : tie.Need-add-i Inv-loop μ-loop
 add-i c = search needs
@@ -43,7 +47,8 @@ loop-again c =
     let at-loop = c .before .before .before in
     let args = at-loop .before .before .before .before .before .args in (
       search needs,
-      fold-turn (args .line) (args .regular .now) (args .corrections .now) (args .keys .now) (at-loop .loop .s) (c .stand-behind .result) (at-loop .loop .i) (search needs) (at-loop .loop .inv .1) (c .stand-behind .ensures),
+      omega arith,
+      fold-turn (args .line) (args .regular .now) (args .corrections .now) (args .keys .now) (at-loop .loop .s) (c .stand-behind .result) (at-loop .loop .i) (search needs) (at-loop .loop .inv .2) (c .stand-behind .ensures),
     )
 
 returns : tie.Need-returns Inv-loop μ-loop
@@ -51,7 +56,9 @@ returns c =
     let at-loop = c .before in
     let args = at-loop .before .before .before .before .before .args in
     let e : at-loop .loop .i ≡ args .r = omega arith in
-    at-loop .loop .inv .1 ∙ ap (λ (i : ℕ). foldl (standBehind (args .line) (args .regular .now) (args .corrections .now)) (firstStanding (args .line)) (take i (args .keys .now))) e
+    let stands = at-loop .loop .inv .2 ∙ ap (λ (i : ℕ). foldl (standBehind (args .line) (args .regular .now) (args .corrections .now)) (firstStanding (args .line)) (take i (args .keys .now))) e in
+    let counted : at-loop .loop .count ≡ length (take (args .r) (args .keys .now)) = at-loop .loop .inv .1 ∙ e ∙ sym (length-take-le (args .r) (args .keys .now) (omega arith)) in
+    λ k. record { standing = stands k; count = counted k }
 
 pub fold-spec : {M : Type 1} → statement M
 fold-spec =
@@ -64,6 +71,7 @@ fold-spec =
     mul-stand-behind
     shared-slice-read-stand-behind
     stand-behind-requires
+    add-count
     add-i
     loop-less
     loop-again
