@@ -4,17 +4,19 @@
 use mathlib.Core.Path.{_≡_, refl, ap, _∙_}
 use mathlib.Core.Bool.{Bool, true, false, _||_}
 use mathlib.Core.List.{[], _∷_, _++_, flatMap}
-use Prim.Native.Nat.{ℕ, _+_, _/_, _%_, _<_}
+use Prim.Native.Nat.{ℕ, _+_, _/_, _%_, _<_, _≤_}
 use lib.Dec.{eqb}
-use lib.ListN.{length, getD, take, drop}
+use lib.Seq.{drop-cons}
+use lib.ListN.{length, getD, take, drop, drop-of-length-le}
 use borrow.Author.Tests.{eqb-true}
+use native.Mathlib.Numerals.{add-one}
 use Rattle.laws.specs.Sums.{sumTo}
 use Rattle.laws.specs.Lists.{table, all, any}
 use Rattle.laws.specs.Order.{put, neverFalls}
 use Rattle.laws.proofs.Lists.{any-put-in}
 use Rattle.laws.proofs.Tables.{tested}
 use Rattle.calendar.specs.Dates.{leap, monthDays, yearStart, monthStart, dayNumber, weekday}
-use Rattle.calendar.specs.Holidays.{easter, nineOf, holidaysOf, years, holidays, working}
+use Rattle.calendar.specs.Holidays.{easter, nineOf, holidaysOf, years, holidays, working, sumsFrom}
 use Rattle.calendar.specs.Former.{formerHolidays, formerlyWorking, OneDayMoved}
 use Rattle.calendar.specs.Paper.{equalPairs, HolidayList}
 
@@ -65,3 +67,12 @@ others-stay d e = let p = rw e at (in-list d) in rw p refl
 
 pub one-day-moved : OneDayMoved
 one-day-moved = (in-list, worked, works-no-more, others-stay)
+
+-- ---- the mark: a turn of its sums takes the next day
+pub sums-turn : (a b i : ℕ) → i < length holidays → sumsFrom (a + getD holidays i 0) (b + (a + getD holidays i 0)) (drop (i + 1) holidays) ≡ sumsFrom a b (drop i holidays)
+unfolding sumsFrom
+sums-turn a b i h = rw (add-one, drop-cons holidays i 0 h)
+
+pub sums-end : (a b i : ℕ) → length holidays ≤ i → sumsFrom a b (drop i holidays) ≡ b
+unfolding sumsFrom
+sums-end a b i h = rw (drop-of-length-le holidays h)

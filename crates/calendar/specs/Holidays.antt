@@ -42,3 +42,11 @@ holidays = flatMap holidaysOf years
 -- Monday to Friday and not in the holiday list
 unfoldable pub working : ℕ → Bool
 working d = ltb (weekday d) 5 && not (any (eqb d) holidays)
+
+-- the mark of a list of days, by which it is told from another: the sum of its running sums, the first of which begins with 1
+unfoldable pub sumsFrom : ℕ → ℕ → List ℕ → ℕ
+sumsFrom a b [] = b
+sumsFrom a b (d ∷ l) = sumsFrom (a + d) (b + (a + d)) l
+
+abbrev pub markOf : List ℕ → ℕ
+markOf l = sumsFrom 1 0 l

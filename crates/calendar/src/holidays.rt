@@ -6,7 +6,7 @@ ghost use Prim.Native.Nat.{_<_};
 ghost use lib.Dec.{eqb};
 ghost use lib.ListN.{length, getD};
 ghost use Rattle.laws.specs.Lists.{any};
-ghost use Rattle.calendar.specs.Holidays.{holidays};
+ghost use Rattle.calendar.specs.Holidays.{holidays, markOf};
 
 // An entry of the list, which is lent: a constant table is laid down anew wherever it is named.
 fn holiday_at(list: &[u16; COUNT], i: usize) -> u16
@@ -36,4 +36,26 @@ pub fn is_holiday(day: u16) -> bool
         }
     }
     false
+}
+
+fn wide(day: u16) -> u64
+    ensures { λ r. ⌜ r ≡ day ⌝ }
+{
+    day as u64
+}
+
+// The mark of the list: with its length it tells the list from another, so that whoever keeps both knows which list was used.
+pub fn mark() -> u64
+    ensures { λ r. ⌜ r ≡ markOf holidays ⌝ }
+{
+    let list = HOLIDAYS;
+    let mut a: u64 = 1;
+    let mut b: u64 = 0;
+    let mut i: usize = 0;
+    while i < COUNT {
+        a += wide(holiday_at(&list, i));
+        b += a;
+        i += 1;
+    }
+    b
 }
