@@ -7,20 +7,22 @@ use mathlib.Core.List.{List, [], _∷_}
 use lib.ListN.{length, take}
 use Rattle.laws.specs.Lists.{sameLists}
 use Rattle.laws.specs.Split.{split}
+use Rattle.laws.specs.Told.{Told, told}
 use Rattle.records.specs.closing.Closing.{begins, closingText}
 use Rattle.records.specs.declared.names.kind.FileKind.{FileKind}
 use Rattle.records.specs.names.Kind.{hasClosing}
 use Rattle.faults.specs.declared.cause.Cause.the-variants.{Length, Closing, After}
 use Rattle.faults.specs.declared.cause.FaultPlace.{FaultPlace}
 use Rattle.faults.specs.declared.cause.RecordCheck.{RecordCheck}
+use Rattle.faults.specs.Cause.{faultTold}
 use Rattle.faults.specs.Record.{recordFault, endPos}
 use Rattle.files.specs.declared.judge.Judged.{Judged}
 use Rattle.files.specs.declared.judge.Judged.the-variants.{Records, Fault}
 
--- the paper's number of an answer
-abbrev pub judgedNumber : Judged → ℕ
-judgedNumber (Records n) = 0
-judgedNumber (Fault place cause) = 4
+-- what an answer tells: 0 with the count of the records, or 4 with the fault
+abbrev pub judgedTold : Judged → Told
+judgedTold (Records n) = told 0 (n ∷ [])
+judgedTold (Fault place cause) = faultTold place cause
 
 -- a field of the record i; the field 0 is none
 abbrev pub placeAt : ℕ → ℕ → FaultPlace

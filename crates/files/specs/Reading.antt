@@ -4,6 +4,8 @@ use mathlib.Core.Bool.{cond}
 use mathlib.Core.List.{List, []}
 use lib.Dec.{ltb}
 use lib.ListN.{getD}
+use Rattle.laws.specs.Told.{Told, told}
+use Rattle.faults.specs.Cause.{faultTold}
 use Rattle.records.specs.declared.names.kind.FileKind.{FileKind}
 use Rattle.files.specs.declared.judge.Judged.{Judged}
 use Rattle.files.specs.declared.judge.Judged.the-variants.{Records}
@@ -11,11 +13,11 @@ use Rattle.files.specs.declared.read.Found.{Found}
 use Rattle.files.specs.declared.read.Found.the-variants.{Record, Beyond}
 use Rattle.files.specs.Judged.{judgedFile, recordsOf}
 
--- the paper's number of an answer
-abbrev pub foundNumber : Found → ℕ
-foundNumber Record = 0
-foundNumber (Found.Fault place cause) = 4
-foundNumber Beyond = 7
+-- what an answer tells: 0, 4 with the fault, or 7
+abbrev pub foundTold : Found → Told
+foundTold Record = told 0 []
+foundTold (Found.Fault place cause) = faultTold place cause
+foundTold Beyond = told 7 []
 
 -- the place k of a file that was judged: a fault first, then a place beyond the records
 abbrev pub foundIn : Judged → ℕ → Found

@@ -8,3 +8,4 @@ pub mod Slots
 pub mod Digits
 pub mod Split
 pub mod Ended
+pub mod Told

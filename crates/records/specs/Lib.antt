@@ -1,3 +1,4 @@
 pub mod Record
+pub mod Worded
 pub mod closing
 pub mod names

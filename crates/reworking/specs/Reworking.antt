@@ -8,6 +8,7 @@ use lib.Dec.{leb}
 use lib.ListN.{length, getD, take}
 use Rattle.laws.specs.Lists.{table, keep}
 use Rattle.laws.specs.Overlay.{overlay}
+use Rattle.laws.specs.Told.{Told, told}
 use Rattle.fields.specs.declared.number.Number.{Number}
 use Rattle.entries.specs.declared.entry.Entry.{Entry}
 use Rattle.model.specs.Rules.{TableLine}
@@ -36,6 +37,11 @@ unfoldable pub changedLines : List Filed → List (TableLine Number) → List En
 changedLines files lines entries = places (zipWith (differs files) lines entries)
 
 -- ---- what reworking over the first n files answers, and what it leaves: over a store, or over none
+
+-- what an answer tells: 0 with the count of the entries that were others, or 44
+abbrev pub reworkedTold : Reworked → Told
+reworkedTold (Reworked.Changed n) = told 0 (n ∷ [])
+reworkedTold Reworked.Unreadable = told 44 []
 
 abbrev pub reworkAnswer : ℕ → Option Held → Reworked
 reworkAnswer n none = Reworked.Unreadable

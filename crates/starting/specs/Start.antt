@@ -1,12 +1,13 @@
 -- What starting answers, and what it leaves in the buffers. Assumes nothing: these are definitions.
 use mathlib.Core.Path.{_≡_}
 use mathlib.Core.Bool.{Bool, cond}
-use mathlib.Core.List.{List, [], _++_, map, flatMap}
+use mathlib.Core.List.{List, [], _∷_, _++_, map, flatMap}
 use mathlib.Core.Option.{Option, none, some}
 use Prim.Native.Nat.{ℕ, _*_}
 use lib.ListN.{length}
 use Rattle.laws.specs.Lists.{table}
 use Rattle.laws.specs.Overlay.{overlay, part}
+use Rattle.laws.specs.Told.{Told, told}
 use Rattle.laws.specs.Words.{lowFirst}
 use Rattle.store.specs.entry_slots.Entries.{entrySlot}
 use Rattle.store.specs.numbers.Lines.{lineSlot, lineAt}
@@ -18,11 +19,14 @@ use Rattle.starting.specs.tables.Given.{tableOf}
 use Rattle.starting.specs.declared.start.Started.{Started}
 use Rattle.starting.specs.declared.start.Started.the-variants.{Done, Short, BadTable}
 
--- the paper's number of each answer; 0 carries the count of the lines
+-- what an answer tells: 0 with the count of the lines, 44, or 6
+abbrev pub startedTold : Started → Told
+startedTold (Done n) = told 0 (n ∷ [])
+startedTold Short = told 44 []
+startedTold BadTable = told 6 []
+
 abbrev pub startNumber : Started → ℕ
-startNumber (Done n) = 0
-startNumber Short = 44
-startNumber BadTable = 6
+startNumber s = startedTold s .number
 
 -- the first entry of a line: holder the owner, no confirmed date, all places free
 abbrev pub firstOf : Line → Entry

@@ -1,11 +1,12 @@
 -- The figure: how many stored entries differ from those worked out from the journals. Assumes nothing: these are definitions.
 use mathlib.Core.Bool.{Bool, false, not, cond, _&&_}
-use mathlib.Core.List.{List, zipWith}
+use mathlib.Core.List.{List, [], _∷_, zipWith}
 use mathlib.Core.Option.{Option, none, some}
 use Prim.Native.Nat.{ℕ}
 use lib.Dec.{ltb}
 use lib.ListN.{length}
 use Rattle.laws.specs.Lists.{table, keep}
+use Rattle.laws.specs.Told.{Told, told}
 use Rattle.fields.specs.declared.number.Number.{Number}
 use Rattle.entries.specs.declared.entry.Entry.{Entry}
 use Rattle.entries.specs.comparing.Same.{sameEntry}
@@ -32,10 +33,10 @@ howMany l = length (keep (λ (b : Bool). b) l)
 unfoldable pub figureOf : List (TableLine Number) → List Filed → List Entry → ℕ
 figureOf lines files entries = howMany (zipWith (differs files) lines entries)
 
--- its number: 0 with the figure, or 44
-abbrev pub figureNumber : FigureAnswer → ℕ
-figureNumber (FigureAnswer.Differ n) = 0
-figureNumber FigureAnswer.Unreadable = 44
+-- what its answer tells: 0 with the figure, or 44
+abbrev pub figureTold : FigureAnswer → Told
+figureTold (FigureAnswer.Differ n) = told 0 (n ∷ [])
+figureTold FigureAnswer.Unreadable = told 44 []
 
 abbrev pub figureAsked : Option Held → FigureAnswer
 figureAsked none = FigureAnswer.Unreadable

@@ -1,13 +1,20 @@
--- The paper's number of each answer of filing. Assumes nothing: these are definitions.
+-- What each answer of filing tells: the paper's number, and the values that go with it. Assumes nothing: these are definitions.
 use Prim.Native.Nat.{ℕ}
+use mathlib.Core.List.{[], _∷_}
+use Rattle.laws.specs.Told.{Told, told}
+use Rattle.faults.specs.Cause.{faultTold}
 use Rattle.filing.specs.declared.checking.answer.Answer.{Answer}
 use Rattle.filing.specs.declared.checking.answer.Answer.the-variants.{Unreadable, NoCode, NoDay, FiledAlready, Fault, Full}
 
+-- 0 carries the count, 4 the fault
+abbrev pub answerTold : Answer → Told
+answerTold (Answer.Filed count) = told 0 (count ∷ [])
+answerTold Unreadable = told 44 []
+answerTold NoCode = told 1 []
+answerTold NoDay = told 2 []
+answerTold FiledAlready = told 3 []
+answerTold (Fault place cause) = faultTold place cause
+answerTold Full = told 5 []
+
 abbrev pub answerNumber : Answer → ℕ
-answerNumber (Answer.Filed count) = 0
-answerNumber Unreadable = 44
-answerNumber NoCode = 1
-answerNumber NoDay = 2
-answerNumber FiledAlready = 3
-answerNumber (Fault place cause) = 4
-answerNumber Full = 5
+answerNumber a = answerTold a .number
