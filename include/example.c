@@ -8,6 +8,9 @@ static uint8_t table[DAGSKIMRA_TABLE_LENGTH], files[DAGSKIMRA_FILES_LENGTH], reg
     corrections[DAGSKIMRA_CORRECTIONS_LENGTH], entries[DAGSKIMRA_ENTRIES_LENGTH];
 static int passed, failed;
 
+/* The mark of the holiday list with 31 October 2017: its days from the first on are added up, beginning with 1, and so are these sums. */
+#define MARK 697677027
+
 #define STORE table, sizeof table, files, sizeof files, regular, sizeof regular, corrections, sizeof corrections, entries, sizeof entries
 #define TEXT(s) (const uint8_t *)(s), strlen(s)
 
@@ -31,6 +34,9 @@ static void days(void) {
     same("31 October 2017", dagskimra_kind_of_day(dagskimra_day_of(2017, 10, 31)), 0);
     same("five after 2017-10-25", dagskimra_working_day_after(dagskimra_day_of(2017, 10, 25), 5), dagskimra_day_of(2017, 11, 2));
     same("one after the last day", dagskimra_working_day_after(DAGSKIMRA_LAST_DAY, 1), DAGSKIMRA_NO_DAY);
+    uint64_t mark = 7;
+    same("the holidays", dagskimra_holidays(&mark), DAGSKIMRA_HOLIDAYS);
+    same("their mark", mark, MARK);
 }
 
 static const char p_file[] = "3055501,,04032024,D002,D001,P\rZeilenanzahl:2,\r";
@@ -67,6 +73,13 @@ static void same_three(const char *what, const uint64_t *is, int more, int field
     same(what, is[2], cause);
 }
 
+/* What stands at a place of a file without a fault: nothing goes with it. */
+static void found(int kind, const char *text, int place, int answer) {
+    uint64_t told[3] = {7, 7, 7};
+    same(text, dagskimra_find(kind, TEXT(text), place, &told[0], &told[1], &told[2]), answer);
+    same_three(text, told, 0, 0, 0);
+}
+
 static void reading(void) {
     uint64_t told[3] = {7, 7, 7};
     same("judging a file", dagskimra_judge(DAGSKIMRA_DEFAULT, TEXT(p_file), &told[0], &told[1], &told[2]), 0);
@@ -75,10 +88,13 @@ static void reading(void) {
         const struct fault *f = &faults[i];
         same(f->text, dagskimra_judge(f->kind, TEXT(f->text), &told[0], &told[1], &told[2]), 4);
         same_three(f->text, told, f->place, f->field, f->cause);
+        told[0] = told[1] = told[2] = 7;
+        same(f->text, dagskimra_find(f->kind, TEXT(f->text), 0, &told[0], &told[1], &told[2]), 4);
+        same_three(f->text, told, f->place, f->field, f->cause);
     }
-    same("a record", dagskimra_find(DAGSKIMRA_DEFAULT, TEXT(p_file), 0), 0);
-    same("a place beyond", dagskimra_find(DAGSKIMRA_DEFAULT, TEXT(p_file), 1), 7);
-    same("a request", dagskimra_find(DAGSKIMRA_REQUEST, TEXT("D001,,\r"), 0), 0);
+    found(DAGSKIMRA_DEFAULT, p_file, 0, 0);
+    found(DAGSKIMRA_DEFAULT, p_file, 1, 7);
+    found(DAGSKIMRA_REQUEST, "D001,,\r", 0, 0);
     same("the end of a line", dagskimra_line_end(TEXT(p_file), 0), 29);
 }
 
@@ -92,13 +108,16 @@ static void writing(void) {
     same("its bytes", memcmp(out, p_file, strlen(p_file)), 0);
     same("the byte behind it", out[strlen(p_file)], 7);
     same("writing into less", dagskimra_write(DAGSKIMRA_DEFAULT, words, 6, out, strlen(p_file) - 1, &more), 41);
+    same("no length", more, 0);
     same("writing half a record", dagskimra_write(DAGSKIMRA_DEFAULT, words, 3, out, sizeof out, &more), 4);
+    same("the half record's place", more, 0);
 }
 
 static void starting(void) {
-    uint64_t more;
+    uint64_t more = 7;
     static const char lines[] = "3055501,,D001,02012024\n30600-30609,,D001,02012024\n";
     same("starting from no table", dagskimra_start(TEXT(lines), STORE, &more), 6);
+    same("no lines told", more, 0);
     same("starting with less room", dagskimra_start(TEXT("3055501,,D001,02012024\n"), table, 2, files, sizeof files, regular, sizeof regular, corrections, sizeof corrections, entries, sizeof entries, &more), 44);
     same("starting", dagskimra_start(TEXT("3055501,,D001,02012024\n3060000,3060009,D003,02012024\n"), STORE, &more), 0);
     same("its lines", more, 2);
@@ -111,6 +130,8 @@ static uint64_t filed(int kind, const char *publisher, int day, const char *text
     same(text, dagskimra_file(STORE, kind, TEXT(publisher), day, TEXT(text), &told[0], &told[1], &told[2]), answer);
     same("no field", told[1], 0);
     same("no cause", told[2], 0);
+    if (answer != 0)
+        same("nothing told of a refusal", told[0], 0);
     return told[0];
 }
 
@@ -134,7 +155,10 @@ static void filing(void) {
     same("the pair's L", two, 1);
     same("why of a block", dagskimra_why(STORE, TEXT("3060000"), TEXT("3060009"), &one, &two), 0);
     same("it has no pair", one, DAGSKIMRA_NOWHERE);
+    one = two = 7;
     same("why of another number", dagskimra_why(STORE, TEXT("1"), TEXT(""), &one, &two), 12);
+    same("no place", one, DAGSKIMRA_NOWHERE);
+    same("nor a second", two, DAGSKIMRA_NOWHERE);
     filed(DAGSKIMRA_DEFAULT, "D001", 9561, l_file, 3);
     filed(DAGSKIMRA_DEFAULT, "D00A", 9562, l_file, 1);
     filed(DAGSKIMRA_DEFAULT, "D001", DAGSKIMRA_LAST_DAY + 1, l_file, 2);
@@ -194,6 +218,7 @@ static void asking(void) {
     same("no pair any more", dagskimra_why(STORE, TEXT("3055501"), TEXT(""), &p, &d), 0);
     same("its place", p, DAGSKIMRA_NOWHERE);
     same("a place beyond", dagskimra_record(STORE, 0, 2, &p, &d, &at, &v), 7);
+    same("nothing told of it", p + d + at + v, 0);
     same("the record's length in its slot", regular[DAGSKIMRA_REPORT_SLOT], 29);
     same("its bytes", memcmp(regular + DAGSKIMRA_REPORT_SLOT + 1, l_file, 29), 0);
     same("the figure", dagskimra_figure(STORE, &p), 0);
@@ -204,7 +229,9 @@ static void asking(void) {
     reworking();
     regular[0] = 255;
     same("a damaged store", dagskimra_readable(STORE), 0);
+    p = 7;
     same("asking it", dagskimra_figure(STORE, &p), 44);
+    same("no figure", p, 0);
     same("reworking it", dagskimra_rework(STORE, (uint16_t[DAGSKIMRA_NUMBERS]){0}, DAGSKIMRA_NUMBERS, &p), 44);
     filed(DAGSKIMRA_DEFAULT, "D001", 9563, l_file, 44);
 }

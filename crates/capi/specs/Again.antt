@@ -3,30 +3,21 @@ use mathlib.Core.Path.{_≡_}
 use mathlib.Core.List.{List}
 use mathlib.Core.Option.{Option}
 use Prim.Native.Nat.{ℕ}
+use Rattle.laws.specs.Told.{valueAt}
 use Rattle.store.specs.Reads.{Buffers, Held}
 use Rattle.reworking.specs.declared.rework.Reworked.{Reworked}
-use Rattle.reworking.specs.declared.rework.Reworked.the-variants.{Changed, Unreadable}
-use Rattle.reworking.specs.Reworking.{reworkAnswer, entriesAfter, listAfter, withRoom}
+use Rattle.reworking.specs.Reworking.{reworkedTold, reworkAnswer, entriesAfter, listAfter, withRoom}
 
 -- as many files as a store takes: over the first so many of them is over all
 abbrev pub allFiles : ℕ
 allFiles = 1024
-
-abbrev pub reworkNumber : Reworked → ℕ
-reworkNumber (Changed n) = 0
-reworkNumber Unreadable = 44
-
--- beside the answer's number: how many entries were others
-abbrev pub reworkMore : Reworked → ℕ
-reworkMore (Changed n) = n
-reworkMore Unreadable = 0
 
 -- what reworking answers over all files of a store, where the list has room
 abbrev pub reworkOf : Option Held → Reworked
 reworkOf store = reworkAnswer allFiles store
 
 pub record ReworksAs (b : Buffers) (list : List ℕ) (answer more : ℕ) (entries listed : List ℕ) : Type 0 where
-  pub answers : answer ≡ reworkNumber (reworkOf (withRoom list b))
-  pub tells : more ≡ reworkMore (reworkOf (withRoom list b))
+  pub answers : answer ≡ reworkedTold (reworkOf (withRoom list b)) .number
+  pub tells : more ≡ valueAt 0 (reworkedTold (reworkOf (withRoom list b)))
   pub leaves : entries ≡ entriesAfter allFiles (withRoom list b) (b .entries)
   pub lists : listed ≡ listAfter allFiles (withRoom list b) list

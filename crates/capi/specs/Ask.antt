@@ -3,62 +3,37 @@ use mathlib.Core.Path.{_≡_}
 use mathlib.Core.Bool.{cond}
 use Prim.Native.Nat.{ℕ}
 use lib.Dec.{eqb}
+use Rattle.laws.specs.Told.{valueOr, valueAt}
 use Rattle.store.specs.declared.journals.records.Journal.{Journal}
 use Rattle.store.specs.declared.journals.records.Journal.the-variants.{Regular, Correction}
-use Rattle.verdict.specs.verdicts.Numbers.{numberOf}
 use Rattle.asking.specs.declared.record.Asked.{Asked}
 use Rattle.asking.specs.declared.pairs.WhyAnswer.{WhyAnswer}
-use Rattle.asking.specs.Numbers.{whyNumber, askedNumber}
-use Rattle.asking.specs.Why.{firstPlace, secondPlace}
+use Rattle.asking.specs.Numbers.{whyTold, askedTold}
 use Rattle.asking.specs.declared.answering.figure.FigureAnswer.{FigureAnswer}
+use Rattle.asking.specs.answering.Figure.{figureTold}
 
 -- the journals by number: 0 the regular one, any other the correction journal
 unfoldable pub journalBy : ℕ → Journal
 journalBy n = cond (eqb n 0) Regular Correction
 
--- ---- why: the places of the pair in the regular journal; 8192 where no pair is shown
+-- ---- why: the places of the pair in the regular journal; where no pair is shown, each is beyond all reports, since 0 is a place
+abbrev pub nowhere : ℕ
+nowhere = 8192
+
 pub record TellsWhy (right : WhyAnswer) (answer one two : ℕ) : Type 0 where
-  pub answers : answer ≡ whyNumber right
-  pub first : one ≡ firstPlace right
-  pub second : two ≡ secondPlace right
+  pub answers : answer ≡ whyTold right .number
+  pub first : one ≡ valueOr nowhere 0 (whyTold right)
+  pub second : two ≡ valueOr nowhere 1 (whyTold right)
 
 -- ---- a record: 0 for each part where none is shown
-abbrev pub publisherTold : Asked → ℕ
-publisherTold (Asked.Record x) = x .publisher .0
-publisherTold Asked.Beyond = 0
-publisherTold Asked.Unreadable = 0
-
-abbrev pub dayTold : Asked → ℕ
-dayTold (Asked.Record x) = x .day .0
-dayTold Asked.Beyond = 0
-dayTold Asked.Unreadable = 0
-
-abbrev pub placeTold : Asked → ℕ
-placeTold (Asked.Record x) = x .place
-placeTold Asked.Beyond = 0
-placeTold Asked.Unreadable = 0
-
-abbrev pub verdictTold : Asked → ℕ
-verdictTold (Asked.Record x) = numberOf (x .verdict)
-verdictTold Asked.Beyond = 0
-verdictTold Asked.Unreadable = 0
-
 pub record TellsRecord (right : Asked) (answer publisher day place verdict : ℕ) : Type 0 where
-  pub answers : answer ≡ askedNumber right
-  pub by : publisher ≡ publisherTold right
-  pub on : day ≡ dayTold right
-  pub at : place ≡ placeTold right
-  pub gets : verdict ≡ verdictTold right
+  pub answers : answer ≡ askedTold right .number
+  pub by : publisher ≡ valueAt 0 (askedTold right)
+  pub on : day ≡ valueAt 1 (askedTold right)
+  pub at : place ≡ valueAt 2 (askedTold right)
+  pub gets : verdict ≡ valueAt 3 (askedTold right)
 
 -- ---- the figure
-abbrev pub figureNumber : FigureAnswer → ℕ
-figureNumber (FigureAnswer.Differ n) = 0
-figureNumber FigureAnswer.Unreadable = 44
-
-abbrev pub figureMore : FigureAnswer → ℕ
-figureMore (FigureAnswer.Differ n) = n
-figureMore FigureAnswer.Unreadable = 0
-
 pub record TellsFigure (right : FigureAnswer) (answer more : ℕ) : Type 0 where
-  pub answers : answer ≡ figureNumber right
-  pub differ : more ≡ figureMore right
+  pub answers : answer ≡ figureTold right .number
+  pub differ : more ≡ valueAt 0 (figureTold right)

@@ -1,7 +1,6 @@
 pub mod Days
 pub mod Kinds
 pub mod Told
-pub mod Reading
 pub mod Writing
 pub mod Starting
 pub mod Offer

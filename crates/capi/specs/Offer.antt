@@ -4,17 +4,14 @@ use mathlib.Core.Bool.{cond}
 use mathlib.Core.List.{List}
 use Prim.Native.Nat.{ℕ}
 use lib.Dec.{eqb, leb}
+use Rattle.laws.specs.Told.{valueAt}
 use Rattle.store.specs.Reads.{Buffers, held}
 use Rattle.filing.specs.declared.entering.kind.Filable.{Filable}
 use Rattle.filing.specs.declared.entering.kind.Filable.the-variants.{Default, Correction}
 use Rattle.filing.specs.declared.checking.answer.Answer.{Answer}
-use Rattle.filing.specs.declared.checking.answer.Answer.the-variants.{Unreadable, NoCode, NoDay, FiledAlready, Full}
-use Rattle.filing.specs.checking.Answers.{answerNumber}
+use Rattle.filing.specs.checking.Answers.{answerTold}
 use Rattle.filing.specs.checking.Filing.{Decision, decide}
 use Rattle.filing.specs.Effect.{answerTo, buffersAfter}
-use Rattle.capi.specs.declared.told.Told.{Told}
-use Rattle.capi.specs.declared.told.Told.the-variants.{Count}
-use Rattle.capi.specs.Told.{toldMore, toldField, toldCause}
 
 -- the kinds that are filed by number: 0 default, any other correction
 unfoldable pub filableBy : ℕ → Filable
@@ -24,16 +21,6 @@ filableBy kind = cond (eqb kind 0) Default Correction
 unfoldable pub dayFor : ℕ → ℕ → ℕ
 dayFor kind day = cond (leb kind 1) day 65535
 
--- beside the answer's number: the count, or the first fault
-abbrev pub answerTold : Answer → Told
-answerTold (Answer.Filed n) = Count n
-answerTold Unreadable = Count 0
-answerTold NoCode = Count 0
-answerTold NoDay = Count 0
-answerTold FiledAlready = Count 0
-answerTold (Answer.Fault at cause) = Told.Fault at cause
-answerTold Full = Count 0
-
 -- what is decided of a file that is offered
 abbrev pub decided : Buffers → ℕ → List ℕ → ℕ → List ℕ → Decision
 decided b kind publisher day text = decide b (filableBy kind) publisher (dayFor kind day) text
@@ -42,9 +29,10 @@ decided b kind publisher day text = decide b (filableBy kind) publisher (dayFor 
 abbrev pub answered : Buffers → ℕ → List ℕ → ℕ → List ℕ → Answer
 answered b kind publisher day text = answerTo (held b .files) (decided b kind publisher day text)
 
+-- beside the number: the count, or the place of the faulty record, its faulty field and the cause
 pub record FilesAs (b : Buffers) (kind : ℕ) (publisher : List ℕ) (day : ℕ) (text : List ℕ) (answer more field cause : ℕ) (after : Buffers) : Type 0 where
-  pub answers : answer ≡ answerNumber (answered b kind publisher day text)
-  pub tells : more ≡ toldMore (answerTold (answered b kind publisher day text))
-  pub names : field ≡ toldField (answerTold (answered b kind publisher day text))
-  pub blames : cause ≡ toldCause (answerTold (answered b kind publisher day text))
+  pub answers : answer ≡ answerTold (answered b kind publisher day text) .number
+  pub tells : more ≡ valueAt 0 (answerTold (answered b kind publisher day text))
+  pub names : field ≡ valueAt 1 (answerTold (answered b kind publisher day text))
+  pub blames : cause ≡ valueAt 2 (answerTold (answered b kind publisher day text))
   pub leaves : after ≡ buffersAfter b (decided b kind publisher day text)

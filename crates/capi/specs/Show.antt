@@ -8,11 +8,11 @@ use lib.ListN.{length}
 use Rattle.laws.specs.Overlay.{overlay}
 use Rattle.store.specs.entry_slots.Entries.{entrySlot}
 use Rattle.asking.specs.declared.entry.EntryAnswer.{EntryAnswer}
-use Rattle.asking.specs.Numbers.{numberOf}
+use Rattle.asking.specs.Numbers.{entryTold}
 
 -- 41 where an entry is to be shown and there is no room for it
 unfoldable pub shownNumber : EntryAnswer → ℕ → ℕ
-shownNumber a room = cond (eqb (numberOf (a .answer)) 0) (cond (leb 100 room) 0 41) (numberOf (a .answer))
+shownNumber a room = cond (eqb (entryTold a .number) 0) (cond (leb 100 room) 0 41) (entryTold a .number)
 
 -- only 0 writes
 unfoldable pub shownInto : EntryAnswer → List ℕ → List ℕ

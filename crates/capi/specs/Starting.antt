@@ -2,18 +2,12 @@
 use mathlib.Core.Path.{_≡_}
 use mathlib.Core.List.{List}
 use Prim.Native.Nat.{ℕ}
+use Rattle.laws.specs.Told.{valueAt}
 use Rattle.store.specs.Reads.{Buffers}
-use Rattle.starting.specs.declared.start.Started.{Started}
-use Rattle.starting.specs.declared.start.Started.the-variants.{Done, Short, BadTable}
-use Rattle.starting.specs.Start.{startNumber, startAnswer, startBuffers}
+use Rattle.starting.specs.Start.{startedTold, startAnswer, startBuffers}
 
--- beside the answer's number: how many lines the table has
-abbrev pub startedMore : Started → ℕ
-startedMore (Done n) = n
-startedMore Short = 0
-startedMore BadTable = 0
-
+-- beside the number: how many lines the table has
 pub record StartsAs (text : List ℕ) (before : Buffers) (answer more : ℕ) (after : Buffers) : Type 0 where
-  pub answers : answer ≡ startNumber (startAnswer text before)
-  pub tells : more ≡ startedMore (startAnswer text before)
+  pub answers : answer ≡ startedTold (startAnswer text before) .number
+  pub tells : more ≡ valueAt 0 (startedTold (startAnswer text before))
   pub leaves : after ≡ startBuffers text before

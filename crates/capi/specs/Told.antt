@@ -1,20 +1,16 @@
--- What is told beside an answer's number, in three numbers. Assumes nothing: these are definitions.
+-- What an answer tells in plain numbers: its own, and the values that go with it. Assumes nothing: these are definitions.
+use mathlib.Core.Path.{_≡_}
 use Prim.Native.Nat.{ℕ}
-use Rattle.faults.specs.Cause.{causeNumber}
-use Rattle.capi.specs.declared.told.Told.{Told}
-use Rattle.capi.specs.declared.told.Told.the-variants.{Count, Fault}
+use Rattle.laws.specs.Told.{Told, valueOr, valueAt}
+use Rattle.capi.specs.declared.told.Numbers.{Numbers}
 
--- the count, or the place of the faulty record
-abbrev pub toldMore : Told → ℕ
-toldMore (Count n) = n
-toldMore (Fault at cause) = at .place
+-- four values at most; `none` stands where there is none
+abbrev pub inNumbers : ℕ → Told → Numbers
+inNumbers none t = record { number = t .number; first = valueOr none 0 t; second = valueOr none 1 t; third = valueOr none 2 t; fourth = valueOr none 3 t }
 
--- the faulty field; 0 where there is none
-abbrev pub toldField : Told → ℕ
-toldField (Count n) = 0
-toldField (Fault at cause) = at .field
-
--- the number of the cause; 0 where there is no fault
-abbrev pub toldCause : Told → ℕ
-toldCause (Count n) = 0
-toldCause (Fault at cause) = causeNumber cause
+-- what reading a file answers: beside the number the count or the place of the faulty record, its faulty field, the cause
+pub record Tells (right : Told) (answer more field cause : ℕ) : Type 0 where
+  pub answers : answer ≡ right .number
+  pub tells : more ≡ valueAt 0 right
+  pub names : field ≡ valueAt 1 right
+  pub blames : cause ≡ valueAt 2 right

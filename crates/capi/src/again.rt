@@ -1,26 +1,21 @@
 // Working out all entries of a store again, as when the holiday list has changed.
+use crate::told;
+use crate::told::Numbers;
 use reworking::rework;
 use reworking::rework::Reworked;
 use store::journals::files::FILES;
 ghost use mathlib.Core.Path.{_≡_};
 ghost use Rattle.store.specs.Reads.{lent};
-ghost use Rattle.capi.specs.Again.{reworkNumber, reworkMore, ReworksAs};
+ghost use Rattle.reworking.specs.Reworking.{reworkedTold};
+ghost use Rattle.capi.specs.Told.{inNumbers};
+ghost use Rattle.capi.specs.Again.{ReworksAs};
 
-fn number(r: Reworked) -> u8
-    ensures { λ n. ⌜ n ≡ reworkNumber r ⌝ }
+fn tell(r: Reworked) -> Numbers
+    ensures { λ n. ⌜ n ≡ inNumbers 0 (reworkedTold r) ⌝ }
 {
     match r {
-        Reworked::Changed(_) => 0,
-        Reworked::Unreadable => 44,
-    }
-}
-
-fn more_of(r: Reworked) -> u64
-    ensures { λ n. ⌜ n ≡ reworkMore r ⌝ }
-{
-    match r {
-        Reworked::Changed(n) => n as u64,
-        Reworked::Unreadable => 0,
+        Reworked::Changed(n) => told::with(0, n),
+        Reworked::Unreadable => told::alone(44),
     }
 }
 
@@ -39,6 +34,7 @@ pub extern "C" fn dagskimra_rework<'a>(
     ensures { λ r. ⌜ ReworksAs (lent (now (table .entry)) (now (files .entry)) (now (regular .entry)) (now (corrections .entry)) (now (entries .entry))) (now (list .entry)) r (now (more .exit)) (now (entries .exit)) (now (list .exit)) ⌝ }
 {
     let a = rework::rework(table, files, regular, corrections, entries, FILES, list);
-    *more = more_of(a);
-    number(a)
+    let t = tell(a);
+    *more = t.first;
+    t.number
 }

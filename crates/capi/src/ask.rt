@@ -1,52 +1,62 @@
 // Asking a whole store: 44 before all else.
+use crate::told;
+use crate::told::Numbers;
 use asking::answering::figure;
 use asking::answering::figure::FigureAnswer;
 use asking::answering::whole;
+use asking::pairs::Stored;
 use asking::pairs::WhyAnswer;
 use asking::record::Asked;
 use asking::record::AskedRecord;
 use store::journals::records::Journal;
-use store::journals::records::REPORTS;
 ghost use mathlib.Core.Path.{_≡_};
-ghost use Rattle.verdict.specs.verdicts.Numbers.{numberOf};
+ghost use mathlib.Core.List.{[], _∷_};
+ghost use Rattle.laws.specs.Told.{told};
 ghost use Rattle.store.specs.Reads.{lent, reads};
-ghost use Rattle.asking.specs.Numbers.{whyNumber, askedNumber};
-ghost use Rattle.asking.specs.Why.{firstPlace, secondPlace};
+ghost use Rattle.asking.specs.Numbers.{whyTold, recordValues, askedTold};
 ghost use Rattle.asking.specs.answering.Whole.{numberGiven, whyAsked, recordAsked};
-ghost use Rattle.asking.specs.answering.Figure.{figureAsked};
-ghost use Rattle.capi.specs.Ask.{journalBy, publisherTold, dayTold, placeTold, verdictTold, figureNumber, figureMore, TellsWhy, TellsRecord, TellsFigure};
+ghost use Rattle.asking.specs.answering.Figure.{figureAsked, figureTold};
+ghost use Rattle.capi.specs.Told.{inNumbers};
+ghost use Rattle.capi.specs.Ask.{journalBy, nowhere, TellsWhy, TellsRecord, TellsFigure};
 
 // ---- answers as numbers
-fn why_number(w: WhyAnswer) -> u8
-    ensures { λ r. ⌜ r ≡ whyNumber w ⌝ }
+// What stands for no place in the regular journal: it is beyond all reports.
+pub const NOWHERE: u64 = 8192;
+
+// 0, and the places of a pair.
+fn pair(a: Stored, b: Stored) -> Numbers
+    ensures { λ r. ⌜ r ≡ inNumbers nowhere (told 0 (a .place ∷ b .place ∷ [])) ⌝ }
 {
-    match w {
-        WhyAnswer::Pair(_, _) => 0,
-        WhyAnswer::Nothing => 0,
-        WhyAnswer::UnknownNumber => 12,
-        WhyAnswer::Unreadable => 44,
+    Numbers {
+        number: 0,
+        first: a.place as u64,
+        second: b.place as u64,
+        third: NOWHERE,
+        fourth: NOWHERE,
     }
 }
 
-fn first_place(w: WhyAnswer) -> u64
-    ensures { λ r. ⌜ r ≡ firstPlace w ⌝ }
+// A number with which no pair goes.
+fn no_pair(number: u8) -> Numbers
+    ensures { λ r. ⌜ r ≡ inNumbers nowhere (told number []) ⌝ }
 {
-    match w {
-        WhyAnswer::Pair(a, _) => a.place as u64,
-        WhyAnswer::Nothing => REPORTS as u64,
-        WhyAnswer::UnknownNumber => REPORTS as u64,
-        WhyAnswer::Unreadable => REPORTS as u64,
+    Numbers {
+        number,
+        first: NOWHERE,
+        second: NOWHERE,
+        third: NOWHERE,
+        fourth: NOWHERE,
     }
 }
 
-fn second_place(w: WhyAnswer) -> u64
-    ensures { λ r. ⌜ r ≡ secondPlace w ⌝ }
+fn tell_why(w: WhyAnswer) -> Numbers
+    ensures { λ r. ⌜ r ≡ inNumbers nowhere (whyTold w) ⌝ }
 {
     match w {
-        WhyAnswer::Pair(_, b) => b.place as u64,
-        WhyAnswer::Nothing => REPORTS as u64,
-        WhyAnswer::UnknownNumber => REPORTS as u64,
-        WhyAnswer::Unreadable => REPORTS as u64,
+        WhyAnswer::Pair(a, b) => pair(a, b),
+        WhyAnswer::Nothing => no_pair(0),
+        WhyAnswer::UnknownNumber => no_pair(12),
+        WhyAnswer::Unreadable => no_pair(44),
     }
 }
 
@@ -60,78 +70,35 @@ fn journal_by(journal: u8) -> Journal
     Journal::Correction
 }
 
-fn asked_number(r: Asked) -> u8
-    ensures { λ n. ⌜ n ≡ askedNumber r ⌝ }
-{
-    match r {
-        Asked::Record(_) => 0,
-        Asked::Beyond => 7,
-        Asked::Unreadable => 44,
-    }
-}
-
-fn publisher_of(r: Asked) -> u64
-    ensures { λ n. ⌜ n ≡ publisherTold r ⌝ }
-{
-    match r {
-        Asked::Record(x) => x.publisher.0 as u64,
-        Asked::Beyond => 0,
-        Asked::Unreadable => 0,
-    }
-}
-
-fn day_of(r: Asked) -> u64
-    ensures { λ n. ⌜ n ≡ dayTold r ⌝ }
-{
-    match r {
-        Asked::Record(x) => x.day.0 as u64,
-        Asked::Beyond => 0,
-        Asked::Unreadable => 0,
-    }
-}
-
-fn place_of(r: Asked) -> u64
-    ensures { λ n. ⌜ n ≡ placeTold r ⌝ }
-{
-    match r {
-        Asked::Record(x) => x.place as u64,
-        Asked::Beyond => 0,
-        Asked::Unreadable => 0,
-    }
-}
-
-fn verdict_in(x: AskedRecord) -> u64
-    ensures { λ n. ⌜ n ≡ numberOf (x .verdict) ⌝ }
+fn record_told(x: AskedRecord) -> Numbers
+    ensures { λ r. ⌜ r ≡ inNumbers 0 (told 0 (recordValues x)) ⌝ }
 {
     let v = x.verdict;
-    verdict::verdicts::number(v) as u64
+    Numbers {
+        number: 0,
+        first: x.publisher.0 as u64,
+        second: x.day.0 as u64,
+        third: x.place as u64,
+        fourth: verdict::verdicts::number(v) as u64,
+    }
 }
 
-fn verdict_of(r: Asked) -> u64
-    ensures { λ n. ⌜ n ≡ verdictTold r ⌝ }
+fn tell_record(r: Asked) -> Numbers
+    ensures { λ n. ⌜ n ≡ inNumbers 0 (askedTold r) ⌝ }
 {
     match r {
-        Asked::Record(x) => verdict_in(x),
-        Asked::Beyond => 0,
-        Asked::Unreadable => 0,
+        Asked::Record(x) => record_told(x),
+        Asked::Beyond => told::alone(7),
+        Asked::Unreadable => told::alone(44),
     }
 }
 
-fn figure_number(f: FigureAnswer) -> u8
-    ensures { λ r. ⌜ r ≡ figureNumber f ⌝ }
+fn tell_figure(f: FigureAnswer) -> Numbers
+    ensures { λ r. ⌜ r ≡ inNumbers 0 (figureTold f) ⌝ }
 {
     match f {
-        FigureAnswer::Differ(_) => 0,
-        FigureAnswer::Unreadable => 44,
-    }
-}
-
-fn figure_more(f: FigureAnswer) -> u64
-    ensures { λ r. ⌜ r ≡ figureMore f ⌝ }
-{
-    match f {
-        FigureAnswer::Differ(n) => n as u64,
-        FigureAnswer::Unreadable => 0,
+        FigureAnswer::Differ(n) => told::with(0, n),
+        FigureAnswer::Unreadable => told::alone(44),
     }
 }
 
@@ -154,9 +121,10 @@ pub extern "C" fn dagskimra_why<'a>(
 {
     let number = whole::given(first, last);
     let w = whole::why(table, files, regular, corrections, entries, number);
-    *one = first_place(w);
-    *two = second_place(w);
-    why_number(w)
+    let t = tell_why(w);
+    *one = t.first;
+    *two = t.second;
+    t.number
 }
 
 // The record at a place of a journal: 0, with its publisher, publication day, place in its file and verdict; 7 for a place beyond; 44.
@@ -178,11 +146,12 @@ pub extern "C" fn dagskimra_record<'a>(
 {
     let which = journal_by(journal);
     let x = whole::record(table, files, regular, corrections, entries, which, place);
-    *publisher = publisher_of(x);
-    *day = day_of(x);
-    *at = place_of(x);
-    *verdict = verdict_of(x);
-    asked_number(x)
+    let t = tell_record(x);
+    *publisher = t.first;
+    *day = t.second;
+    *at = t.third;
+    *verdict = t.fourth;
+    t.number
 }
 
 // The figure: 0, and how many stored entries differ from those worked out from the journals; 44.
@@ -198,6 +167,7 @@ pub extern "C" fn dagskimra_figure<'a>(
     ensures { λ r. ⌜ TellsFigure (figureAsked (reads (lent (now (table .entry)) (now (files .entry)) (now (regular .entry)) (now (corrections .entry)) (now (entries .entry))))) r (now (more .exit)) ⌝ }
 {
     let f = figure::figure(table, files, regular, corrections, entries);
-    *more = figure_more(f);
-    figure_number(f)
+    let t = tell_figure(f);
+    *more = t.first;
+    t.number
 }

@@ -1,29 +1,22 @@
 // Starting a store, and whether five buffers read as one.
+use crate::told;
+use crate::told::Numbers;
 use starting::start;
 use starting::start::Started;
 use store::readable;
 ghost use mathlib.Core.Path.{_≡_};
 ghost use Rattle.store.specs.Reads.{lent, isReadable};
-ghost use Rattle.starting.specs.Start.{startNumber};
-ghost use Rattle.capi.specs.Starting.{startedMore, StartsAs};
+ghost use Rattle.starting.specs.Start.{startedTold};
+ghost use Rattle.capi.specs.Told.{inNumbers};
+ghost use Rattle.capi.specs.Starting.{StartsAs};
 
-fn number(s: Started) -> u8
-    ensures { λ r. ⌜ r ≡ startNumber s ⌝ }
+fn tell(s: Started) -> Numbers
+    ensures { λ r. ⌜ r ≡ inNumbers 0 (startedTold s) ⌝ }
 {
     match s {
-        Started::Done(_) => 0,
-        Started::Short => 44,
-        Started::BadTable => 6,
-    }
-}
-
-fn more_of(s: Started) -> u64
-    ensures { λ r. ⌜ r ≡ startedMore s ⌝ }
-{
-    match s {
-        Started::Done(n) => n as u64,
-        Started::Short => 0,
-        Started::BadTable => 0,
+        Started::Done(n) => told::with(0, n),
+        Started::Short => told::alone(44),
+        Started::BadTable => told::alone(6),
     }
 }
 
@@ -41,8 +34,9 @@ pub extern "C" fn dagskimra_start(
     ensures { λ r. ⌜ StartsAs (now (text .entry)) (lent (now (table .entry)) (now (files .entry)) (now (regular .entry)) (now (corrections .entry)) (now (entries .entry))) r (now (more .exit)) (lent (now (table .exit)) (now (files .exit)) (now (regular .exit)) (now (corrections .exit)) (now (entries .exit))) ⌝ }
 {
     let s = start::start(text, table, files, regular, corrections, entries);
-    *more = more_of(s);
-    number(s)
+    let t = tell(s);
+    *more = t.first;
+    t.number
 }
 
 // Whether the buffers read as a store; where they don't, filing and asking answer 44.

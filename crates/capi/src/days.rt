@@ -4,12 +4,16 @@ use calendar::dates::CalendarDays;
 use calendar::dates::Date;
 use calendar::dates::Dated;
 use calendar::dates::Found;
+use calendar::holidays;
+use calendar::table::COUNT;
 use calendar::working_days;
 use calendar::working_days::DayKind;
 use calendar::working_days::Later;
 use calendar::working_days::WorkingDays;
 ghost use mathlib.Core.Path.{_≡_};
+ghost use lib.ListN.{length};
 ghost use Rattle.calendar.specs.Answers.{dayOf, dateOf, dayKind};
+ghost use Rattle.calendar.specs.Holidays.{holidays, markOf};
 ghost use Rattle.calendar.specs.WorkingDays.{workingDayAfter};
 ghost use Rattle.capi.specs.Days.{dayWord, spelt, dateWord, kindWord, laterWord};
 
@@ -91,4 +95,13 @@ pub extern "C" fn dagskimra_working_day_after(day: u16, count: u8) -> u16
     ensures { λ r. ⌜ r ≡ laterWord (workingDayAfter day count) ⌝ }
 {
     later_word(working_days::working_day_after(CalendarDays(day), WorkingDays(count)))
+}
+
+// How many days the holiday list has, and its mark: entries that were worked out with another list are to be worked out again.
+#[no_mangle]
+pub extern "C" fn dagskimra_holidays(mark: &mut u64) -> u64
+    ensures { λ r. ⌜ (r ≡ length holidays) × (now (mark .exit) ≡ markOf holidays) ⌝ }
+{
+    *mark = holidays::mark();
+    COUNT as u64
 }

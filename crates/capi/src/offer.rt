@@ -1,15 +1,16 @@
 // Filing a file.
 use crate::days::NO_DAY;
 use crate::told;
-use crate::told::Told;
+use crate::told::Numbers;
 use calendar::dates::CalendarDays;
-use filing::checking::answer;
 use filing::checking::answer::Answer;
 use filing::entering::kind::Filable;
 use filing::file;
 ghost use mathlib.Core.Path.{_≡_};
 ghost use Rattle.store.specs.Reads.{lent};
-ghost use Rattle.capi.specs.Offer.{filableBy, dayFor, answerTold, FilesAs};
+ghost use Rattle.filing.specs.checking.Answers.{answerTold};
+ghost use Rattle.capi.specs.Told.{inNumbers};
+ghost use Rattle.capi.specs.Offer.{filableBy, dayFor, FilesAs};
 
 // The kind that is filed: 0 default, any other number correction.
 fn filable_by(kind: u8) -> Filable
@@ -31,17 +32,17 @@ fn day_for(kind: u8, day: u16) -> u16
     NO_DAY
 }
 
-fn tell(a: Answer) -> Told
-    ensures { λ r. ⌜ r ≡ answerTold a ⌝ }
+fn tell(a: Answer) -> Numbers
+    ensures { λ r. ⌜ r ≡ inNumbers 0 (answerTold a) ⌝ }
 {
     match a {
-        Answer::Filed(n) => Told::Count(n),
-        Answer::Unreadable => Told::Count(0),
-        Answer::NoCode => Told::Count(0),
-        Answer::NoDay => Told::Count(0),
-        Answer::FiledAlready => Told::Count(0),
-        Answer::Fault(at, cause) => Told::Fault(at, cause),
-        Answer::Full => Told::Count(0),
+        Answer::Filed(n) => told::with(0, n),
+        Answer::Unreadable => told::alone(44),
+        Answer::NoCode => told::alone(1),
+        Answer::NoDay => told::alone(2),
+        Answer::FiledAlready => told::alone(3),
+        Answer::Fault(at, cause) => told::fault(at, cause),
+        Answer::Full => told::alone(5),
     }
 }
 
@@ -78,8 +79,8 @@ pub extern "C" fn dagskimra_file(
         text,
     );
     let t = tell(a);
-    *more = told::more_of(t);
-    *field = told::field_of(t);
-    *cause = told::cause_of(t);
-    answer::number(a)
+    *more = t.first;
+    *field = t.second;
+    *cause = t.third;
+    t.number
 }

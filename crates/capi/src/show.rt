@@ -5,12 +5,13 @@ use asking::entry::EntryAnswer;
 use store::entry_slots::entry;
 ghost use mathlib.Core.Path.{_≡_};
 ghost use Rattle.store.specs.Reads.{lent, reads};
-ghost use Rattle.asking.specs.Numbers.{numberOf};
+ghost use mathlib.Core.List.{[]};
+ghost use Rattle.asking.specs.Numbers.{shownTold};
 ghost use Rattle.asking.specs.answering.Whole.{numberGiven, entryAsked, beforeAsked};
 ghost use Rattle.capi.specs.Show.{ShowsEntry};
 
 fn number(a: Answer) -> u8
-    ensures { λ r. ⌜ r ≡ numberOf a ⌝ }
+    ensures { λ r. ⌜ r ≡ shownTold a [] .number ⌝ }
 {
     match a {
         Answer::Shown => 0,

@@ -1,41 +1,55 @@
-// What is told beside an answer's number, in three numbers.
+// What an answer tells in plain numbers: its own, and four values at most.
 use faults::cause::Cause;
 use faults::cause::FaultPlace;
 ghost use mathlib.Core.Path.{_≡_};
-ghost use Rattle.capi.specs.Told.{toldMore, toldField, toldCause};
+ghost use mathlib.Core.List.{[], _∷_};
+ghost use Rattle.laws.specs.Told.{told};
+ghost use Rattle.faults.specs.Cause.{faultTold};
+ghost use Rattle.capi.specs.Told.{inNumbers};
 
-// A count, or a fault.
-pub enum Told {
-    Count(usize),
-    Fault(FaultPlace, Cause),
+pub struct Numbers {
+    pub number: u8,
+    pub first: u64,
+    pub second: u64,
+    pub third: u64,
+    pub fourth: u64,
 }
 
-// The count, or the place of the faulty record.
-pub(crate) fn more_of(t: Told) -> u64
-    ensures { λ r. ⌜ r ≡ toldMore t ⌝ }
+// A number with which nothing goes.
+pub(crate) fn alone(number: u8) -> Numbers
+    ensures { λ r. ⌜ r ≡ inNumbers 0 (told number []) ⌝ }
 {
-    match t {
-        Told::Count(n) => n as u64,
-        Told::Fault(at, _) => at.place as u64,
+    Numbers {
+        number,
+        first: 0,
+        second: 0,
+        third: 0,
+        fourth: 0,
     }
 }
 
-// The faulty field; 0 where there is none.
-pub(crate) fn field_of(t: Told) -> u64
-    ensures { λ r. ⌜ r ≡ toldField t ⌝ }
+// A number, and one value.
+pub(crate) fn with(number: u8, value: usize) -> Numbers
+    ensures { λ r. ⌜ r ≡ inNumbers 0 (told number (value ∷ [])) ⌝ }
 {
-    match t {
-        Told::Count(_) => 0,
-        Told::Fault(at, _) => at.field as u64,
+    Numbers {
+        number,
+        first: value as u64,
+        second: 0,
+        third: 0,
+        fourth: 0,
     }
 }
 
-// The number of the cause; 0 where there is no fault.
-pub(crate) fn cause_of(t: Told) -> u64
-    ensures { λ r. ⌜ r ≡ toldCause t ⌝ }
+// 4, and the fault.
+pub(crate) fn fault(at: FaultPlace, cause: Cause) -> Numbers
+    ensures { λ r. ⌜ r ≡ inNumbers 0 (faultTold at cause) ⌝ }
 {
-    match t {
-        Told::Count(_) => 0,
-        Told::Fault(_, cause) => cause.number() as u64,
+    Numbers {
+        number: 4,
+        first: at.place as u64,
+        second: at.field as u64,
+        third: cause.number() as u64,
+        fourth: 0,
     }
 }

@@ -1,31 +1,24 @@
 // Writing files of each kind.
 use crate::kinds;
+use crate::told;
+use crate::told::Numbers;
 use composing::write;
 use records::names::written::Written;
 ghost use mathlib.Core.Path.{_≡_};
 ghost use lib.ListN.{length};
-ghost use Rattle.records.specs.names.Written.{writtenNumber};
+ghost use Rattle.records.specs.names.Written.{writtenTold};
 ghost use Rattle.files.specs.Writing.{fileOf, fileAnswer};
 ghost use Rattle.capi.specs.Kinds.{kindBy};
-ghost use Rattle.capi.specs.Writing.{writtenMore, Writes};
+ghost use Rattle.capi.specs.Told.{inNumbers};
+ghost use Rattle.capi.specs.Writing.{Writes};
 
-fn number(w: Written) -> u8
-    ensures { λ r. ⌜ r ≡ writtenNumber w ⌝ }
+fn tell(w: Written) -> Numbers
+    ensures { λ r. ⌜ r ≡ inNumbers 0 (writtenTold w) ⌝ }
 {
     match w {
-        Written::Length(_) => 0,
-        Written::Fault(_) => 4,
-        Written::Long => 41,
-    }
-}
-
-fn more_of(w: Written) -> u64
-    ensures { λ r. ⌜ r ≡ writtenMore w ⌝ }
-{
-    match w {
-        Written::Length(n) => n as u64,
-        Written::Fault(i) => i as u64,
-        Written::Long => 0,
+        Written::Length(n) => told::with(0, n),
+        Written::Fault(i) => told::with(4, i),
+        Written::Long => told::alone(41),
     }
 }
 
@@ -36,6 +29,7 @@ pub extern "C" fn dagskimra_write(kind: u8, words: &[u64], out: &mut [u8], more:
     ensures { λ r. ⌜ Writes (fileAnswer (kindBy kind) (now (words .entry)) (length (now (out .entry)))) (fileOf (kindBy kind) (now (words .entry))) (now (out .entry)) (now (out .exit)) r (now (more .exit)) ⌝ }
 {
     let w = write::write(kinds::kind_by(kind), words, out);
-    *more = more_of(w);
-    number(w)
+    let t = tell(w);
+    *more = t.first;
+    t.number
 }

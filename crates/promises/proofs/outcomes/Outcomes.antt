@@ -7,6 +7,7 @@ use mathlib.Core.List.{List}
 use Prim.Native.Nat.{ℕ, _+_}
 use native.Mathlib.Omega.{arith}
 use Rattle.laws.specs.Overlay.{Laid}
+use Rattle.laws.specs.Told.{Told}
 use Rattle.laws.proofs.Slots.{same-slots}
 use Rattle.fields.specs.declared.number.Number.{Number}
 use Rattle.entries.specs.declared.entry.Line.{Line}
@@ -25,7 +26,6 @@ use Rattle.working.specs.Working.{WorkedAfresh}
 use Rattle.filing.specs.renewing.Turns.{countTo, RecordRenewed}
 use Rattle.filing.specs.entering.Entering.{Joined}
 use Rattle.filing.proofs.entering.Joining.{joined-one}
-use Rattle.files.specs.declared.judge.Judged.{Judged}
 use Rattle.asking.specs.declared.entry.EntryAnswer.{EntryAnswer}
 use Rattle.asking.specs.declared.pairs.WhyAnswer.{WhyAnswer}
 use Rattle.asking.specs.declared.record.Asked.{Asked}
@@ -35,9 +35,9 @@ use Rattle.reworking.specs.Reworking.{Reworks}
 use Rattle.capi.specs.Again.{ReworksAs}
 use Rattle.capi.specs.Ask.{TellsWhy, TellsRecord, TellsFigure}
 use Rattle.capi.specs.Offer.{FilesAs}
-use Rattle.capi.specs.Reading.{Judges}
 use Rattle.capi.specs.Show.{ShowsEntry}
 use Rattle.capi.specs.Starting.{StartsAs}
+use Rattle.capi.specs.Told.{Tells}
 use Rattle.capi.specs.Writing.{Writes}
 
 -- at most one outcome meets the contract
@@ -105,8 +105,8 @@ figure-settles right x y p q = pair-settles _ _ x y (p .answers, p .differ) (q .
 pub rework-settles : (b : Buffers) (list : List ℕ) → Settles (λ (o : ℕ × ℕ × List ℕ × List ℕ). ReworksAs b list (o .0) (o .1) (o .2) (o .3))
 rework-settles b list x y p q = λ i. ((p .answers ∙ sym (q .answers)) i, (p .tells ∙ sym (q .tells)) i, (p .leaves ∙ sym (q .leaves)) i, (p .lists ∙ sym (q .lists)) i)
 
-pub judging-settles : (right : Judged) → Settles (λ (o : ℕ × ℕ × ℕ × ℕ). Judges right (o .0) (o .1) (o .2) (o .3))
-judging-settles right x y p q = λ i. ((p .answers ∙ sym (q .answers)) i, (p .tells ∙ sym (q .tells)) i, (p .names ∙ sym (q .names)) i, (p .blames ∙ sym (q .blames)) i)
+pub reading-settles : (right : Told) → Settles (λ (o : ℕ × ℕ × ℕ × ℕ). Tells right (o .0) (o .1) (o .2) (o .3))
+reading-settles right x y p q = λ i. ((p .answers ∙ sym (q .answers)) i, (p .tells ∙ sym (q .tells)) i, (p .names ∙ sym (q .names)) i, (p .blames ∙ sym (q .blames)) i)
 
 pub showing-settles : (a : EntryAnswer) (before : List ℕ) → Settles (λ (o : ℕ × List ℕ). ShowsEntry a before (o .0) (o .1))
 showing-settles a before x y p q = pair-settles _ _ x y (p .answers, p .leaves) (q .answers, q .leaves)

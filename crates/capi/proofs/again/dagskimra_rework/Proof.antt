@@ -6,11 +6,8 @@ use Rattle.capi.proofs.again.dagskimra_rework.Tie as tie
 rework-requires : tie.Need-rework-requires
 rework-requires c κs = search needs
 
-more-of-requires : tie.Need-more-of-requires
-more-of-requires c κs = search needs
-
-number-requires : tie.Need-number-requires
-number-requires c κs = search needs
+tell-requires : tie.Need-tell-requires
+tell-requires c κs = search needs
 
 same-length : tie.Need-same-length
 same-length c = search needs
@@ -19,13 +16,14 @@ same-length-2 : tie.Need-same-length-2
 same-length-2 c = search needs
 
 returns : tie.Need-returns
-returns c = let s = c .before .before .before .before .before .before .rework .ensures in
+returns c =
+    let s = c .before .before .before .before .before .rework .ensures in
     record {
-      answers = rw (c .number .ensures, s .answers);
-      tells = rw (c .before .more-of .ensures, s .answers);
+      answers = rw (c .tell .ensures, s .answers);
+      tells = rw (c .tell .ensures, s .answers);
       leaves = s .leaves;
       lists = s .lists;
     }
 
 pub dagskimra-rework-spec : {M : Type 1} → statement M
-dagskimra-rework-spec = tie.close (tie.spec rework-requires more-of-requires number-requires same-length same-length-2 returns)
+dagskimra-rework-spec = tie.close (tie.spec rework-requires tell-requires same-length same-length-2 returns)

@@ -6,18 +6,16 @@ use Rattle.capi.proofs.ask.dagskimra_figure.Tie as tie
 figure-requires : tie.Need-figure-requires
 figure-requires c κs = search needs
 
-figure-more-requires : tie.Need-figure-more-requires
-figure-more-requires c κs = search needs
-
-figure-number-requires : tie.Need-figure-number-requires
-figure-number-requires c κs = search needs
+tell-figure-requires : tie.Need-tell-figure-requires
+tell-figure-requires c κs = search needs
 
 returns : tie.Need-returns
-returns c = let e = c .before .before .figure .ensures in
+returns c =
+    let e = c .before .figure .ensures in
     record {
-      answers = rw (c .figure-number .ensures, e);
-      differ = rw (c .before .figure-more .ensures, e);
+      answers = rw (c .tell-figure .ensures, e);
+      differ = rw (c .tell-figure .ensures, e);
     }
 
 pub dagskimra-figure-spec : {M : Type 1} → statement M
-dagskimra-figure-spec = tie.close (tie.spec figure-requires figure-more-requires figure-number-requires returns)
+dagskimra-figure-spec = tie.close (tie.spec figure-requires tell-figure-requires returns)

@@ -9,24 +9,18 @@ given-requires c κs = search needs
 why-requires : tie.Need-why-requires
 why-requires c κs = search needs
 
-first-place-requires : tie.Need-first-place-requires
-first-place-requires c κs = search needs
-
-second-place-requires : tie.Need-second-place-requires
-second-place-requires c κs = search needs
-
-why-number-requires : tie.Need-why-number-requires
-why-number-requires c κs = search needs
+tell-why-requires : tie.Need-tell-why-requires
+tell-why-requires c κs = search needs
 
 returns : tie.Need-returns
-returns c = let w = c .before .before .before in
-    let e = w .why .ensures in
-    let g = w .before .given .ensures in
+returns c =
+    let e = c .before .why .ensures in
+    let g = c .before .before .given .ensures in
     record {
-      answers = rw (c .why-number .ensures, e, g);
-      first = rw (c .before .before .first-place .ensures, e, g);
-      second = rw (c .before .second-place .ensures, e, g);
+      answers = rw (c .tell-why .ensures, e, g);
+      first = rw (c .tell-why .ensures, e, g);
+      second = rw (c .tell-why .ensures, e, g);
     }
 
 pub dagskimra-why-spec : {M : Type 1} → statement M
-dagskimra-why-spec = tie.close (tie.spec given-requires why-requires first-place-requires second-place-requires why-number-requires returns)
+dagskimra-why-spec = tie.close (tie.spec given-requires why-requires tell-why-requires returns)

@@ -15,18 +15,6 @@ file-requires c κs = search needs
 tell-requires : tie.Need-tell-requires
 tell-requires c κs = search needs
 
-more-of-requires : tie.Need-more-of-requires
-more-of-requires c κs = search needs
-
-field-of-requires : tie.Need-field-of-requires
-field-of-requires c κs = search needs
-
-cause-of-requires : tie.Need-cause-of-requires
-cause-of-requires c κs = search needs
-
-number-requires : tie.Need-number-requires
-number-requires c κs = search needs
-
 same-length : tie.Need-same-length
 same-length c = search needs
 
@@ -40,34 +28,19 @@ same-length-4 : tie.Need-same-length-4
 same-length-4 c = search needs
 
 returns : tie.Need-returns
-returns c = let t = c .before .before .before .before in
-    let f = t .before .before .before .before .before .before .before .before .before in
+returns c =
+    let f = c .before .before .before .before .before .before .before .before .before in
     let d = f .before .before .before .before .before in
     let a = f .file .ensures .answers in
     let on = d .day-for .ensures in
     let which = d .before .filable-by .ensures in
     record {
-      answers = rw (c .number .ensures, a, on, which);
-      tells = rw (c .before .before .before .more-of .ensures, t .tell .ensures, a, on, which);
-      names = rw (c .before .before .field-of .ensures, t .tell .ensures, a, on, which);
-      blames = rw (c .before .cause-of .ensures, t .tell .ensures, a, on, which);
+      answers = rw (c .tell .ensures, a, on, which);
+      tells = rw (c .tell .ensures, a, on, which);
+      names = rw (c .tell .ensures, a, on, which);
+      blames = rw (c .tell .ensures, a, on, which);
       leaves = rw (← on, ← which) (f .file .ensures .leaves);
     }
 
 pub dagskimra-file-spec : {M : Type 1} → statement M
-dagskimra-file-spec =
-    tie.close
-    (tie.spec
-    filable-by-requires
-    day-for-requires
-    file-requires
-    tell-requires
-    more-of-requires
-    field-of-requires
-    cause-of-requires
-    number-requires
-    same-length
-    same-length-2
-    same-length-3
-    same-length-4
-    returns)
+dagskimra-file-spec = tie.close (tie.spec filable-by-requires day-for-requires file-requires tell-requires same-length same-length-2 same-length-3 same-length-4 returns)

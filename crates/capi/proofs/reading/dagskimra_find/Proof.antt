@@ -9,11 +9,19 @@ kind-by-requires c κs = search needs
 find-requires : tie.Need-find-requires
 find-requires c κs = search needs
 
-found-number-requires : tie.Need-found-number-requires
-found-number-requires c κs = search needs
+tell-found-requires : tie.Need-tell-found-requires
+tell-found-requires c κs = search needs
 
 returns : tie.Need-returns
-returns c = rw (c .found-number .ensures, c .before .find .ensures, c .before .before .kind-by .ensures)
+returns c =
+    let e = c .before .find .ensures in
+    let k = c .before .before .kind-by .ensures in
+    record {
+      answers = rw (c .tell-found .ensures, e, k);
+      tells = rw (c .tell-found .ensures, e, k);
+      names = rw (c .tell-found .ensures, e, k);
+      blames = rw (c .tell-found .ensures, e, k);
+    }
 
 pub dagskimra-find-spec : {M : Type 1} → statement M
-dagskimra-find-spec = tie.close (tie.spec kind-by-requires find-requires found-number-requires returns)
+dagskimra-find-spec = tie.close (tie.spec kind-by-requires find-requires tell-found-requires returns)

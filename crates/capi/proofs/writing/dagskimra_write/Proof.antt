@@ -9,23 +9,21 @@ kind-by-requires c κs = search needs
 write-requires : tie.Need-write-requires
 write-requires c κs = search needs
 
-more-of-requires : tie.Need-more-of-requires
-more-of-requires c κs = search needs
-
-number-requires : tie.Need-number-requires
-number-requires c κs = search needs
+tell-requires : tie.Need-tell-requires
+tell-requires c κs = search needs
 
 same-length : tie.Need-same-length
 same-length c = search needs
 
 returns : tie.Need-returns
-returns c = let w = c .before .before .before .before in
+returns c =
+    let w = c .before .before .before in
     let k = w .before .before .kind-by .ensures in
     record {
-      answers = rw (c .number .ensures, w .write .ensures .answer, k);
-      tells = rw (c .before .more-of .ensures, w .write .ensures .answer, k);
+      answers = rw (c .tell .ensures, w .write .ensures .answer, k);
+      tells = rw (c .tell .ensures, w .write .ensures .answer, k);
       bytes = rw (← k) (w .write .ensures .bytes);
     }
 
 pub dagskimra-write-spec : {M : Type 1} → statement M
-dagskimra-write-spec = tie.close (tie.spec kind-by-requires write-requires more-of-requires number-requires same-length returns)
+dagskimra-write-spec = tie.close (tie.spec kind-by-requires write-requires tell-requires same-length returns)
