@@ -32,12 +32,14 @@ use Rattle.store.specs.Reads.{tableLine}
 use Rattle.working.specs.Working.{recordIn}
 use Rattle.working.proofs.SlipLaws.{records-more, own-records, records-grow}
 use Rattle.asking.specs.declared.record.Asked.{Asked}
+use Rattle.asking.specs.declared.looks.LookedRecord.{LookedRecord}
 use Rattle.asking.specs.declared.record.AskedRecord.{AskedRecord}
 use Rattle.asking.specs.declared.record.Said.{Said}
 use Rattle.asking.specs.Items.{itemAt}
 use Rattle.asking.specs.Showable.{isShowable}
 use Rattle.asking.specs.Standing.{linesIn}
-use Rattle.asking.specs.Record.{kindOf, InFileAt, saidBy, pointVerdict, askedAs, askedOf, askedIn, recordShown}
+use Rattle.asking.specs.Record.{kindOf, InFileAt, saidBy, pointVerdict, askedAs, askedOf, askedIn}
+use Rattle.asking.specs.Looks.{recordLook, recordLooked}
 use Rattle.asking.proofs.Lines.{item-at, item-none, item-table, found-line, no-line}
 use Rattle.asking.proofs.Standings.{length-first}
 
@@ -160,7 +162,7 @@ module _ (f r c : List ℕ) (n kind place : ℕ) where
   unfolding firstFiles
   record-beyond h = item-none (journalOf kind (firstFiles n f r c)) place (omega (arith, journal-length (recordsAt r c) (fileAt f) kind n))
 
--- ---- the answers
+-- ---- what is shown
 module _ (t f r c : List ℕ) (files : List Filed) (k at : ℕ) (room : 2 + lineCount t * 14 ≤ length t) (s : Said) (said : s ≡ saidBy (recordIn f r c k at)) where
   -- what is shown of the record, with a verdict
   abbrev shownWith : Said → Verdict → AskedRecord
@@ -182,27 +184,29 @@ module _ (t f r c : List ℕ) (files : List Filed) (k at : ℕ) (room : 2 + line
       ∙ as-asked (some (tableLine (lineAt t i))) (found-line t (s .number) room i q)
 
 module _ (t f r c : List ℕ) (which : Journal) (place : ℕ) where
-  pub asked-unreadable : isShowable t f r c ≡ false → Asked.Unreadable ≡ recordShown t f r c which place
-  unfolding recordShown
-  asked-unreadable e = rw e
+  pub record-unshowable : isShowable t f r c ≡ false → LookedRecord.Unshowable ≡ recordLooked t f r c which place
+  unfolding recordLooked
+  record-unshowable e = rw e
 
   module _ (yes : isShowable t f r c ≡ true) (n : ℕ) (en : n ≡ fileCount f) where
     all-files : firstFiles n f r c ≡ readFiles f r c
     all-files = ap (λ (k : ℕ). firstFiles k f r c) en
 
-    pub asked-beyond : recordsOf (kindOf which) (table n (fileAt f)) ≤ place → Asked.Beyond ≡ recordShown t f r c which place
-    unfolding recordShown askedIn
+    pub asked-beyond : recordsOf (kindOf which) (table n (fileAt f)) ≤ place → LookedRecord.Beyond ≡ recordLooked t f r c which place
+    unfolding recordLooked askedIn
     asked-beyond h =
         rw yes
-        (sym (ap (λ (fs : List Filed). askedOf (linesIn t) (readFiles f r c) (itemAt (journalOf (kindOf which) fs) place)) (sym all-files)
-        ∙ ap (askedOf (linesIn t) (readFiles f r c)) (record-beyond f r c n (kindOf which) place h)))
+        (ap recordLook
+        (sym (ap (λ (fs : List Filed). askedOf (linesIn t) (readFiles f r c) which place (itemAt (journalOf (kindOf which) fs) place)) (sym all-files)
+        ∙ ap (askedOf (linesIn t) (readFiles f r c) which place) (record-beyond f r c n (kindOf which) place h))))
 
     pub asked-record : (k at : ℕ) (a : AskedRecord) → InFileAt (fileAt f) n (kindOf which) place k at → a ≡ askedAs (linesIn t) (take n (readFiles f r c)) (recordIn f r c k at)
-        → Asked.Record a ≡ recordShown t f r c which place
-    unfolding recordShown askedIn
+        → LookedRecord.Record which place a ≡ recordLooked t f r c which place
+    unfolding recordLooked askedIn
     asked-record k at a w ea =
         rw yes
-        (ap Asked.Record ea
-        ∙ ap (λ (fs : List Filed). Asked.Record (askedAs (linesIn t) fs (recordIn f r c k at))) (take-all n (readFiles f r c) (omega (arith, length-first (fileCount f) f r c)))
-        ∙ sym (ap (λ (fs : List Filed). askedOf (linesIn t) (readFiles f r c) (itemAt (journalOf (kindOf which) fs) place)) (sym all-files)
-        ∙ ap (askedOf (linesIn t) (readFiles f r c)) (record-located f r c n (kindOf which) place k at w)))
+        (ap recordLook
+        (ap (Asked.Record which place) ea
+        ∙ ap (λ (fs : List Filed). Asked.Record which place (askedAs (linesIn t) fs (recordIn f r c k at))) (take-all n (readFiles f r c) (omega (arith, length-first (fileCount f) f r c)))
+        ∙ sym (ap (λ (fs : List Filed). askedOf (linesIn t) (readFiles f r c) which place (itemAt (journalOf (kindOf which) fs) place)) (sym all-files)
+        ∙ ap (askedOf (linesIn t) (readFiles f r c) which place) (record-located f r c n (kindOf which) place k at w))))

@@ -25,11 +25,13 @@ use Rattle.store.specs.numbers.Lines.{lineAt, lineCount, linesOf}
 use Rattle.store.specs.numbers.Find.{foundLine}
 use Rattle.store.specs.declared.numbers.find.FoundLine.the-variants.{At, Unknown}
 use Rattle.store.specs.Reads.{tableLine}
-use Rattle.asking.specs.declared.answer.Answer.the-variants.{Shown, UnknownNumber, Unreadable}
-use Rattle.asking.specs.declared.stand.Stood.{Stood}
+use Rattle.asking.specs.declared.answer.Answer.the-variants.{Shown, UnknownNumber}
+use Rattle.asking.specs.declared.looks.Look.{Look}
+use Rattle.asking.specs.declared.looks.LookedStanding.{LookedStanding}
 use Rattle.asking.specs.declared.entry.EntryAnswer.{EntryAnswer}
 use Rattle.asking.specs.Items.{itemAt}
-use Rattle.asking.specs.Standing.{linesIn, notStood, stoodAt, stoodOn, notHeld, heldAs, entryIn, entryBefore, hasEntries}
+use Rattle.asking.specs.Standing.{linesIn, notHeld, heldAs, entryIn, entryBefore, hasEntries}
+use Rattle.asking.specs.Looks.{notStood, stoodOn, stoodAt}
 use Rattle.asking.proofs.Lines.{item-table, item-beyond, found-line, no-line, found-entry, no-entry}
 
 -- an answer where the test of the buffers holds
@@ -65,17 +67,17 @@ among-files f r c n m e = ap (λ (k : ℕ). take k (readFiles f r c)) e ∙ take
 
 -- ---- where a line stands
 module _ (t : List ℕ) (files : List Filed) (n i : ℕ) where
-  pub stood-beyond : lineCount t ≤ i → notStood UnknownNumber ≡ stoodAt (linesIn t) files n i
+  pub stood-beyond : lineCount t ≤ i → notStood Look.UnknownNumber ≡ stoodAt (linesIn t) files n i
   unfolding stoodAt linesOf
   stood-beyond h =
       sym
       (ap (stoodOn (take n files))
       (ap (λ l. itemAt l i) (map-table tableLine (lineCount t) (lineAt t)) ∙ item-beyond (lineCount t) i (λ (j : ℕ). tableLine (lineAt t j)) h))
 
-  pub stood-here : (s : Standing) → i < lineCount t → s ≡ entryOver standings (take n files) (tableLine (lineAt t i)) → _≡_ {A = Stood} (record { answer = Shown; standing = s }) (stoodAt (linesIn t) files n i)
+  pub stood-here : (s : Standing) → i < lineCount t → s ≡ entryOver standings (take n files) (tableLine (lineAt t i)) → _≡_ {A = LookedStanding} (record { look = Look.Shown; standing = s }) (stoodAt (linesIn t) files n i)
   unfolding stoodAt linesOf
   stood-here s h e =
-      (λ k. record { answer = Shown; standing = e k })
+      (λ k. record { look = Look.Shown; standing = e k })
       ∙ sym
       (ap (stoodOn (take n files))
       (ap (λ l. itemAt l i) (map-table tableLine (lineCount t) (lineAt t)) ∙ item-table (lineCount t) i (λ (j : ℕ). tableLine (lineAt t j)) h))

@@ -1,4 +1,4 @@
--- The answer on why, put together from what the code found. Assumes nothing.
+-- The look at why, put together from what the code found. Assumes nothing.
 use mathlib.Core.Path.{_≡_, refl, sym, ap, _∙_}
 use mathlib.Core.Bool.{Bool, true, false, cond}
 use mathlib.Core.List.{List}
@@ -17,38 +17,41 @@ use Rattle.store.specs.numbers.Lines.{lineAt, lineCount}
 use Rattle.store.specs.numbers.Find.{foundLine}
 use Rattle.store.specs.declared.numbers.find.FoundLine.the-variants.{At, Unknown}
 use Rattle.store.specs.Reads.{tableLine}
-use Rattle.asking.specs.declared.pairs.WhyAnswer.{WhyAnswer}
-use Rattle.asking.specs.declared.pairs.WhyAnswer.the-variants.{UnknownNumber, Unreadable}
+use Rattle.asking.specs.declared.looks.LookedWhy.{LookedWhy}
+use Rattle.asking.specs.declared.looks.LookedWhy.the-variants.{UnknownNumber, Unshowable}
 use Rattle.asking.specs.Showable.{isShowable}
 use Rattle.asking.specs.Standing.{linesIn}
 use Rattle.asking.specs.pairs.Pairs.{listedPair}
-use Rattle.asking.specs.Why.{pairOf, whyOn, whyIn, whyShown}
+use Rattle.asking.specs.Why.{pairOf, whyOn, whyIn}
+use Rattle.asking.specs.Looks.{whyLook, whyLooked}
 use Rattle.asking.proofs.Lines.{found-line, no-line}
 use Rattle.asking.proofs.Showing.{showable}
 use Rattle.asking.proofs.Standings.{length-first}
 use Rattle.asking.proofs.Starts.{pair-files}
 
 module _ (t f r c : List ℕ) (x : Number) where
-  pub why-unreadable : isShowable t f r c ≡ false → Unreadable ≡ whyShown t f r c x
-  unfolding whyShown
-  why-unreadable e = rw e
+  pub why-unshowable : isShowable t f r c ≡ false → Unshowable ≡ whyLooked t f r c x
+  unfolding whyLooked
+  why-unshowable e = rw e
 
   module _ (yes : isShowable t f r c ≡ true) where
     room : 2 + lineCount t * 14 ≤ length t
     room = let s = showable t f r c yes in omega (arith, s .long-table, s .few-lines)
 
-    pub why-unknown : Unknown ≡ foundLine t x → UnknownNumber ≡ whyShown t f r c x
-    unfolding whyShown whyIn
+    pub why-unknown : Unknown ≡ foundLine t x → UnknownNumber ≡ whyLooked t f r c x
+    unfolding whyLooked whyIn
     why-unknown q = rw (yes, no-line t x room q)
 
-    pub why-pair : (i n : ℕ) (s : Standing) (a : WhyAnswer) → At i ≡ foundLine t x → n ≡ fileCount f → s ≡ entryOver standings (take n (readFiles f r c)) (tableLine (lineAt t i))
-        → a ≡ listedPair (table n (fileAt f)) (s .why) → a ≡ whyShown t f r c x
-    unfolding whyShown whyIn
+    pub why-pair : (i n : ℕ) (s : Standing) (a : LookedWhy) → At i ≡ foundLine t x → n ≡ fileCount f → s ≡ entryOver standings (take n (readFiles f r c)) (tableLine (lineAt t i))
+        → a ≡ whyLook (listedPair (table n (fileAt f)) (s .why)) → a ≡ whyLooked t f r c x
+    unfolding whyLooked whyIn
     why-pair i n s a q en es ea =
         let all : take n (readFiles f r c) ≡ readFiles f r c = take-all n (readFiles f r c) (omega (arith, length-first (fileCount f) f r c)) in
         let stands : s ≡ entryOver standings (readFiles f r c) (tableLine (lineAt t i)) = es ∙ ap (λ (l : List Filed). entryOver standings l (tableLine (lineAt t i))) all in
-        ea ∙ ap (λ (k : ℕ). listedPair (table k (fileAt f)) (s .why)) en
+        ea
+        ∙ ap whyLook
+        (ap (λ (k : ℕ). listedPair (table k (fileAt f)) (s .why)) en
         ∙ pair-files (fileCount f) f r c (s .why)
         ∙ ap (λ (u : Standing). pairOf (readFiles f r c) (u .why)) stands
-        ∙ ap (whyOn (readFiles f r c)) (sym (found-line t x room i q))
-        ∙ ap (λ (b : Bool). cond b (whyOn (readFiles f r c) (lineOf rules (linesIn t) x)) Unreadable) (sym yes)
+        ∙ ap (whyOn (readFiles f r c)) (sym (found-line t x room i q)))
+        ∙ ap (λ (b : Bool). cond b (whyLook (whyOn (readFiles f r c) (lineOf rules (linesIn t) x))) Unshowable) (sym yes)

@@ -4,5 +4,6 @@ pub mod Items
 pub mod Standing
 pub mod Why
 pub mod Record
+pub mod Looks
 pub mod answering
 pub mod pairs

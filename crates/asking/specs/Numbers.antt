@@ -32,6 +32,6 @@ abbrev pub recordValues : AskedRecord → List ℕ
 recordValues a = a .publisher .0 ∷ a .day .0 ∷ a .place ∷ numberOf (a .verdict) ∷ []
 
 abbrev pub askedTold : Asked → Told
-askedTold (Asked.Record a) = told 0 (recordValues a)
+askedTold (Asked.Record which place a) = told 0 (recordValues a)
 askedTold Asked.Beyond = told 7 []
 askedTold Asked.Unreadable = told 44 []

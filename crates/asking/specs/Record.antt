@@ -1,6 +1,5 @@
 -- A filed record by journal and place (paper 01, "Verdicts on reports", the last paragraph). Assumes nothing: these are definitions.
 use mathlib.Core.Path.{_≡_}
-use mathlib.Core.Bool.{cond}
 use mathlib.Core.List.{List}
 use mathlib.Core.Option.{Option, none, some}
 use Prim.Native.Nat.{ℕ, _+_, _≤_, _<_}
@@ -14,7 +13,7 @@ use Rattle.verdict.specs.Step.{verdictOn}
 use Rattle.model.specs.Rules.{TableLine, Event}
 use Rattle.model.specs.Model.{Filed, journalOf, numberOf, history, worked, before, lineOf}
 use Rattle.store.specs.journals.Files.{recordsOf}
-use Rattle.store.specs.journals.Reads.{readFiles}
+use Rattle.store.specs.journals.Records.{shownIn}
 use Rattle.store.specs.declared.journals.files.File.{File}
 use Rattle.store.specs.declared.journals.records.Journal.{Journal}
 use Rattle.store.specs.declared.journals.records.Journal.the-variants.{Regular, Correction}
@@ -24,8 +23,6 @@ use Rattle.asking.specs.declared.record.AskedRecord.{AskedRecord}
 use Rattle.asking.specs.declared.record.Located.{Located}
 use Rattle.asking.specs.declared.record.Said.{Said}
 use Rattle.asking.specs.Items.{itemAt}
-use Rattle.asking.specs.Showable.{isShowable}
-use Rattle.asking.specs.Standing.{linesIn}
 
 -- the kind of the files whose records a journal holds
 abbrev pub kindOf : Journal → ℕ
@@ -51,22 +48,29 @@ askedAs lines files e = record {
   verdict = pointVerdict files e (recordOf e) (lineOf rules lines (numberOf rules e));
 }
 
-abbrev pub askedOf : List (TableLine Number) → List Filed → Option Event → Asked
-askedOf lines files none = Asked.Beyond
-askedOf lines files (some e) = Asked.Record (askedAs lines files e)
+abbrev pub askedOf : List (TableLine Number) → List Filed → Journal → ℕ → Option Event → Asked
+askedOf lines files which place none = Asked.Beyond
+askedOf lines files which place (some e) = Asked.Record which place (askedAs lines files e)
 
+-- the one at a place of a journal
 unfoldable pub askedIn : List (TableLine Number) → List Filed → Journal → ℕ → Asked
-askedIn lines files which place = askedOf lines files (itemAt (journalOf (kindOf which) files) place)
+askedIn lines files which place = askedOf lines files which place (itemAt (journalOf (kindOf which) files) place)
 
--- ---- what is shown from any bytes
-unfoldable pub recordShown : List ℕ → List ℕ → List ℕ → List ℕ → Journal → ℕ → Asked
-recordShown t f r c which place = cond (isShowable t f r c) (askedIn (linesIn t) (readFiles f r c) which place) Asked.Unreadable
+-- ---- its bytes
+-- the journal and the place that an answer shows; where it shows no record, the place is beyond all records
+abbrev pub journalShown : Asked → Journal
+journalShown (Asked.Record which place a) = which
+journalShown Asked.Beyond = Regular
+journalShown Asked.Unreadable = Regular
 
--- the part of the journal that an answer shows is the record's bytes; where it shows no record, the part is empty
-abbrev pub countShown : Asked → ℕ
-countShown (Asked.Record a) = 8192
-countShown Asked.Beyond = 0
-countShown Asked.Unreadable = 0
+abbrev pub placeShown : Asked → ℕ
+placeShown (Asked.Record which place a) = place
+placeShown Asked.Beyond = 8192
+placeShown Asked.Unreadable = 8192
+
+-- the part of that journal at that place; beyond all records it is empty
+abbrev pub partShown : List ℕ → List ℕ → Asked → List ℕ
+partShown regular corrections answer = shownIn (journalShown answer) regular corrections 8192 (placeShown answer)
 
 -- ---- where a record stands: in the file k, of that kind, at a place of it; those of the files before it come before it in the journal
 pub record InFileAt (file : ℕ → File) (n kind place k at : ℕ) : Type 0 where

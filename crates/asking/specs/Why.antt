@@ -11,14 +11,11 @@ use Rattle.entries.specs.Report.{publisherOf}
 use Rattle.verdict.specs.declared.step.Why.{Why}
 use Rattle.model.specs.Rules.{TableLine}
 use Rattle.model.specs.Model.{Filed, entryOver, lineOf}
-use Rattle.store.specs.journals.Reads.{readFiles}
 use Rattle.store.specs.journals.Records.{recordIn}
 use Rattle.rules.specs.Rules.{rules, standings}
 use Rattle.asking.specs.declared.pairs.Stored.{Stored}
 use Rattle.asking.specs.declared.pairs.WhyAnswer.{WhyAnswer}
-use Rattle.asking.specs.declared.pairs.WhyAnswer.the-variants.{UnknownNumber, Unreadable}
-use Rattle.asking.specs.Showable.{isShowable}
-use Rattle.asking.specs.Standing.{linesIn}
+use Rattle.asking.specs.declared.pairs.WhyAnswer.the-variants.{UnknownNumber}
 
 -- ---- over the model's files
 -- the default file of a publisher and a day
@@ -54,10 +51,7 @@ whyOn files (some line) = pairOf files (entryOver standings files line .why)
 unfoldable pub whyIn : List (TableLine Number) → List Filed → Number → WhyAnswer
 whyIn lines files number = whyOn files (lineOf rules lines number)
 
--- ---- what is shown from any bytes
-unfoldable pub whyShown : List ℕ → List ℕ → List ℕ → List ℕ → Number → WhyAnswer
-whyShown t f r c number = cond (isShowable t f r c) (whyIn (linesIn t) (readFiles f r c) number) Unreadable
-
+-- ---- the two reports
 -- the places of the pair; where an answer shows no pair, each is beyond all reports
 abbrev pub firstPlace : WhyAnswer → ℕ
 firstPlace (WhyAnswer.Pair a b) = a .place

@@ -1,4 +1,5 @@
 // The two reports of a confirmed pair, as the regular journal holds them.
+use crate::looks::LookedWhy;
 use calendar::dates::CalendarDays;
 use entries::entry::Place;
 use entries::report;
@@ -13,6 +14,7 @@ ghost use lib.ListN.{length};
 ghost use Rattle.laws.specs.Lists.{table as tabled};
 ghost use Rattle.store.specs.journals.Files.{fileAt, recordsOf};
 ghost use Rattle.asking.specs.pairs.Pairs.{isListedOf, startBy, listedAs, listedPair};
+ghost use Rattle.asking.specs.Looks.{whyLook};
 
 // A stored report: its place in the regular journal, its publisher and its publication day.
 pub struct Stored {
@@ -72,18 +74,18 @@ fn stored_of(files: &[u8], n: usize, p: Place) -> Stored
     }
 }
 
-// The stored reports of a pair.
-pub(crate) fn pair_in(files: &[u8], n: usize, w: Why) -> WhyAnswer
+// The stored reports of a pair, as a look shows them.
+pub(crate) fn pair_in(files: &[u8], n: usize, w: Why) -> LookedWhy
     requires { ⌜ (2 + n * 8 ≤ length (now files)) × (n < 65536) ⌝ }
     requires { ⌜ recordsOf 0 (tabled n (fileAt (now files))) ≤ 8192 ⌝ }
-    ensures { λ r. ⌜ r ≡ listedPair (tabled n (fileAt (now (files .entry)))) w ⌝ }
+    ensures { λ r. ⌜ r ≡ whyLook (listedPair (tabled n (fileAt (now (files .entry)))) w) ⌝ }
 {
     match w {
-        Why::Nothing => WhyAnswer::Nothing,
+        Why::Nothing => LookedWhy::Nothing,
         Why::Pair(a, b) => {
             let first = stored_of(files, n, a);
             let second = stored_of(files, n, b);
-            WhyAnswer::Pair(first, second)
+            LookedWhy::Pair(first, second)
         }
     }
 }

@@ -1,4 +1,5 @@
 // A filed record by journal and place: its file, its verdict at its own point of the history, and its bytes as a part of its journal.
+use crate::looks::LookedRecord;
 use crate::showable;
 use calendar::dates::CalendarDays;
 use entries::entry::Line;
@@ -25,12 +26,12 @@ ghost use lib.ListN.{length, take};
 ghost use Rattle.entries.specs.declared.entry.Listed.the-variants.{With};
 ghost use Rattle.store.specs.journals.Files.{fileAt};
 ghost use Rattle.store.specs.journals.Reads.{readFiles};
-ghost use Rattle.store.specs.journals.Records.{shownIn};
 ghost use Rattle.store.specs.numbers.Lines.{lineCount, lineAt};
 ghost use Rattle.store.specs.Reads.{tableLine};
 ghost use Rattle.working.specs.Working.{Sound, recordIn};
 ghost use Rattle.asking.specs.Standing.{linesIn};
-ghost use Rattle.asking.specs.Record.{kindOf, Locates, saidBy, pointVerdict, askedAs, recordShown, countShown};
+ghost use Rattle.asking.specs.Record.{kindOf, Locates, saidBy, pointVerdict, askedAs, journalShown, placeShown, partShown};
+ghost use Rattle.asking.specs.Looks.{recordLooked};
 
 // A filed record: its publisher, its publication day, its place in its file, its verdict.
 pub struct AskedRecord {
@@ -40,9 +41,9 @@ pub struct AskedRecord {
     pub verdict: Verdict,
 }
 
-// The record; its place is beyond the journal's records; the buffers do not read.
+// The record, with its journal and its place there; its place is beyond the journal's records; the buffers do not read.
 pub enum Asked {
-    Record(AskedRecord),
+    Record(Journal, usize, AskedRecord),
     Beyond,
     Unreadable,
 }
@@ -192,52 +193,58 @@ fn asked_at<'a>(
     }
 }
 
-// The record at a place of a journal, for any bytes.
-pub fn record<'a>(
+// The record at a place of a journal: a look.
+pub fn look<'a>(
     table: &[u8],
     files: &'a [u8],
     regular: &'a [u8],
     corrections: &'a [u8],
     which: Journal,
     place: usize,
-) -> Asked
-    ensures { λ r. ⌜ r ≡ recordShown (now (table .entry)) (now (files .entry)) (now (regular .entry)) (now (corrections .entry)) which place ⌝ }
+) -> LookedRecord
+    ensures { λ r. ⌜ r ≡ recordLooked (now (table .entry)) (now (files .entry)) (now (regular .entry)) (now (corrections .entry)) which place ⌝ }
 {
     if !showable::showable(table, files, regular, corrections) {
-        return Asked::Unreadable;
+        return LookedRecord::Unshowable;
     }
     let n = files::file_count(files);
     let found = locate(files, n, kind_of(which), place);
     match found {
         Located::In(k, at) => {
             let r = asked_at(table, files, n, regular, corrections, k, at);
-            Asked::Record(r)
+            LookedRecord::Record(which, place, r)
         }
-        Located::Nowhere => Asked::Beyond,
+        Located::Nowhere => LookedRecord::Beyond,
     }
 }
 
-// How many records a part is shown of: none where the answer shows no record.
-fn count_shown(answer: Asked) -> usize
-    ensures { λ r. ⌜ r ≡ countShown answer ⌝ }
+// The journal of the record that an answer shows; where it shows none, the regular one.
+fn journal_shown(answer: Asked) -> Journal
+    ensures { λ r. ⌜ r ≡ journalShown answer ⌝ }
 {
     match answer {
-        Asked::Record(_) => REPORTS,
-        Asked::Beyond => 0,
-        Asked::Unreadable => 0,
+        Asked::Record(which, _, _) => which,
+        Asked::Beyond => Journal::Regular,
+        Asked::Unreadable => Journal::Regular,
+    }
+}
+
+// Its place there; where the answer shows no record, one beyond all records.
+fn place_shown(answer: Asked) -> usize
+    ensures { λ r. ⌜ r ≡ placeShown answer ⌝ }
+{
+    match answer {
+        Asked::Record(_, place, _) => place,
+        Asked::Beyond => REPORTS,
+        Asked::Unreadable => REPORTS,
     }
 }
 
 // The bytes of the record that an answer shows, a part of its journal; empty where it shows none.
-pub fn part<'a>(
-    regular: &'a [u8],
-    corrections: &'a [u8],
-    which: Journal,
-    place: usize,
-    answer: Asked,
-) -> &'a [u8]
-    ensures { λ r. ⌜ now r ≡ shownIn which (now (regular .entry)) (now (corrections .entry)) (countShown answer) place ⌝ }
+pub fn part<'a>(regular: &'a [u8], corrections: &'a [u8], answer: Asked) -> &'a [u8]
+    ensures { λ r. ⌜ now r ≡ partShown (now (regular .entry)) (now (corrections .entry)) answer ⌝ }
 {
-    let count = count_shown(answer);
-    records::record_bytes(regular, corrections, which, count, place)
+    let which = journal_shown(answer);
+    let place = place_shown(answer);
+    records::record_bytes(regular, corrections, which, REPORTS, place)
 }

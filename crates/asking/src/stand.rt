@@ -1,5 +1,6 @@
 // Where a line of the number table stands over the first files, worked out afresh.
-use crate::answer::Answer;
+use crate::looks::Look;
+use crate::looks::LookedStanding;
 use crate::showable;
 use entries::entry;
 use entries::entry::Line;
@@ -21,24 +22,16 @@ ghost use Rattle.store.specs.numbers.Lines.{lineAt};
 ghost use Rattle.store.specs.Reads.{tableLine};
 ghost use Rattle.rules.specs.Rules.{standings};
 ghost use Rattle.working.specs.Working.{Sound};
-ghost use Rattle.asking.specs.declared.answer.Answer.the-variants.{Unreadable};
-ghost use Rattle.asking.specs.Showable.{isShowable};
-ghost use Rattle.asking.specs.Standing.{linesIn, notStood, stoodAt};
-
-// Where a line stands, or why nothing is shown: the table has no such line, or the buffers do not read.
-pub struct Stood {
-    pub answer: Answer,
-    pub standing: Standing,
-}
+ghost use Rattle.asking.specs.Looks.{notStood, standingLooked};
 
 // Nothing is shown.
-fn not_stood(answer: Answer) -> Stood
-    ensures { λ r. ⌜ r ≡ notStood answer ⌝ }
+fn not_stood(look: Look) -> LookedStanding
+    ensures { λ r. ⌜ r ≡ notStood look ⌝ }
 {
     let none = entry::line_in(Listed::Missing);
     let s = step::first(none);
-    Stood {
-        answer: answer,
+    LookedStanding {
+        look: look,
         standing: s,
     }
 }
@@ -80,27 +73,27 @@ pub(crate) fn standing_at<'a>(
     w.standing
 }
 
-// Where the line i stands over the first n files, for any bytes.
-pub fn standing<'a>(
+// Where the line i stands over the first n files: a look.
+pub fn look<'a>(
     table: &[u8],
     files: &'a [u8],
     n: usize,
     regular: &'a [u8],
     corrections: &'a [u8],
     i: usize,
-) -> Stood
-    ensures { λ s. ⌜ s ≡ cond (isShowable (now (table .entry)) (now (files .entry)) (now (regular .entry)) (now (corrections .entry))) (stoodAt (linesIn (now (table .entry))) (readFiles (now (files .entry)) (now (regular .entry)) (now (corrections .entry))) n i) (notStood Unreadable) ⌝ }
+) -> LookedStanding
+    ensures { λ s. ⌜ s ≡ standingLooked (now (table .entry)) (now (files .entry)) (now (regular .entry)) (now (corrections .entry)) n i ⌝ }
 {
     if !showable::showable(table, files, regular, corrections) {
-        return not_stood(Answer::Unreadable);
+        return not_stood(Look::Unshowable);
     }
     if lines::line_count(table) <= i {
-        return not_stood(Answer::UnknownNumber);
+        return not_stood(Look::UnknownNumber);
     }
     let m = files_among(files, n);
     let s = standing_at(table, files, m, regular, corrections, i);
-    Stood {
-        answer: Answer::Shown,
+    LookedStanding {
+        look: Look::Shown,
         standing: s,
     }
 }

@@ -1,4 +1,5 @@
 // Why a number stands where it does: the two stored reports of its last confirmed pair.
+use crate::looks::LookedWhy;
 use crate::pairs::WhyAnswer;
 use crate::showable;
 use crate::stand;
@@ -10,20 +11,21 @@ use store::journals::records::REPORTS;
 use store::numbers::find;
 use store::numbers::find::FoundLine;
 ghost use mathlib.Core.Path.{_≡_};
-ghost use Rattle.asking.specs.Why.{whyShown, firstPlace, secondPlace, partAt};
+ghost use Rattle.asking.specs.Why.{firstPlace, secondPlace, partAt};
+ghost use Rattle.asking.specs.Looks.{whyLooked};
 
-// Why a number stands where it does, for any bytes.
-pub fn why<'a>(
+// Why a number stands where it does: a look.
+pub fn look<'a>(
     table: &[u8],
     files: &'a [u8],
     regular: &'a [u8],
     corrections: &'a [u8],
     number: Number,
-) -> WhyAnswer
-    ensures { λ r. ⌜ r ≡ whyShown (now (table .entry)) (now (files .entry)) (now (regular .entry)) (now (corrections .entry)) number ⌝ }
+) -> LookedWhy
+    ensures { λ r. ⌜ r ≡ whyLooked (now (table .entry)) (now (files .entry)) (now (regular .entry)) (now (corrections .entry)) number ⌝ }
 {
     if !showable::showable(table, files, regular, corrections) {
-        return WhyAnswer::Unreadable;
+        return LookedWhy::Unshowable;
     }
     let found = find::find_line(table, number);
     match found {
@@ -33,7 +35,7 @@ pub fn why<'a>(
             let w = s.why;
             crate::pairs::pair_in(files, n, w)
         }
-        FoundLine::Unknown => WhyAnswer::UnknownNumber,
+        FoundLine::Unknown => LookedWhy::UnknownNumber,
     }
 }
 

@@ -87,7 +87,7 @@ fn tell_record(r: Asked) -> Numbers
     ensures { λ n. ⌜ n ≡ inNumbers 0 (askedTold r) ⌝ }
 {
     match r {
-        Asked::Record(x) => record_told(x),
+        Asked::Record(_, _, x) => record_told(x),
         Asked::Beyond => told::alone(7),
         Asked::Unreadable => told::alone(44),
     }

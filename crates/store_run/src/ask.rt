@@ -3,6 +3,8 @@ use crate::line;
 use crate::print;
 use asking::answering::figure;
 use asking::answering::figure::FigureAnswer;
+use asking::looks::LookedRecord;
+use asking::looks::LookedWhy;
 use asking::pairs::Stored;
 use asking::pairs::WhyAnswer;
 use asking::record;
@@ -11,6 +13,7 @@ use asking::stand;
 use asking::why;
 use entries::entry::Last;
 use fields::number::Number;
+use reworking::rework::ALL_FILES;
 use store::journals::records::Journal;
 use store::numbers::lines;
 
@@ -26,23 +29,23 @@ fn stored(w: &[u8], bytes: &[u8], s: Stored) {
 }
 
 fn why<'a>(w: &[u8], t: &[u8], f: &'a [u8], r: &'a [u8], c: &'a [u8], number: Number) {
-    let a = why::why(t, f, r, c, number);
-    match a {
-        WhyAnswer::Pair(one, two) => {
+    match why::look(t, f, r, c, number) {
+        LookedWhy::Pair(one, two) => {
+            let a = WhyAnswer::Pair(one, two);
             print::word(w, print::PAIR);
             stored(w, why::first_part(r, c, a), one);
             print::word(w, print::AND);
             stored(w, why::second_part(r, c, a), two);
         }
-        WhyAnswer::Nothing => print::word(w, print::NO_PAIR),
-        WhyAnswer::UnknownNumber => print::word(w, print::NO_NUMBER),
-        WhyAnswer::Unreadable => print::word(w, print::NO_STORE),
+        LookedWhy::Nothing => print::word(w, print::NO_PAIR),
+        LookedWhy::UnknownNumber => print::word(w, print::NO_NUMBER),
+        LookedWhy::Unshowable => print::word(w, print::NO_STORE),
     }
 }
 
 // Where the line i stands over the first n files.
 fn standing<'a>(w: &[u8], t: &[u8], f: &'a [u8], n: usize, r: &'a [u8], c: &'a [u8], i: usize) {
-    let s = stand::standing(t, f, n, r, c, i);
+    let s = stand::look(t, f, n, r, c, i);
     let st = s.standing;
     let e = st.entry;
     let last = e.last;
@@ -56,10 +59,10 @@ fn standing<'a>(w: &[u8], t: &[u8], f: &'a [u8], n: usize, r: &'a [u8], c: &'a [
 // about;I: the line I of the table, over the first two files and over all; nothing where there is none.
 pub fn about<'a>(line: &[u8], w: &[u8], t: &[u8], f: &'a [u8], r: &'a [u8], c: &'a [u8]) {
     let i = line::number(line, 1);
-    if t.len() < 14338 {
+    if t.len() < lines::TABLE_LENGTH {
         return;
     }
-    if 1024 <= i {
+    if lines::NUMBERS <= i {
         return;
     }
     if lines::line_count(t) <= i {
@@ -72,7 +75,7 @@ pub fn about<'a>(line: &[u8], w: &[u8], t: &[u8], f: &'a [u8], r: &'a [u8], c: &
     print::word(w, print::TWO_FILES);
     standing(w, t, f, 2, r, c, i);
     print::word(w, print::NOW);
-    standing(w, t, f, 1024, r, c, i);
+    standing(w, t, f, ALL_FILES, r, c, i);
     why(w, t, f, r, c, number);
     print::end();
 }
@@ -88,17 +91,16 @@ pub fn record<'a>(
     c: &'a [u8],
 ) {
     let place = line::number(line, 1);
-    let a = record::record(t, f, r, c, j, place);
-    let Asked::Record(x) = a else {
+    let LookedRecord::Record(which, at, x) = record::look(t, f, r, c, j, place) else {
         return;
     };
     let v = x.verdict;
-    print::number(place);
+    print::number(at);
     from(w, x.publisher.0, x.day.0);
     print::count(w, print::AT, x.place);
     print::count(w, print::GETS, verdict::verdicts::number(v) as usize);
     print::word(w, print::SAYING);
-    print::text(record::part(r, c, j, place, a));
+    print::text(record::part(r, c, Asked::Record(which, at, x)));
     print::end();
 }
 

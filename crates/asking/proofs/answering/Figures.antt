@@ -3,14 +3,12 @@
 --     figure-nothing        in a reached store it is 0
 --     changed-at            a place counts exactly if the two entries there are not equal
 use mathlib.Core.Path.{_≡_, refl, sym, ap, _∙_}
-use mathlib.Core.Bool.{Bool, true, false, cond, not, _&&_, true≢false}
+use mathlib.Core.Bool.{Bool, true, false, cond, not, true≢false}
 use mathlib.Core.List.{List, [], _∷_, _++_, map, zipWith}
 use mathlib.Core.Option.{Option, none, some}
 use Prim.Native.Nat.{ℕ, zero, suc, _+_, _≤_, _<_}
 use native.Mathlib.Numerals.{add-one}
 use native.Mathlib.Omega.{arith}
-use borrow.Author.Tests.{lt-ltb, le-ltb}
-use lib.Dec.{ltb}
 use lib.ListN.{length, take}
 use lib.Seq.{take-all}
 use Rattle.laws.specs.Lists.{table, keep}
@@ -31,11 +29,10 @@ use Rattle.store.specs.numbers.Lines.{lineCount, lineAt, linesOf}
 use Rattle.store.specs.entry_slots.Entries.{entryAt}
 use Rattle.store.specs.Reads.{Buffers, Held, tableLine, lent, held, isReadable, reads}
 use Rattle.store.proofs.Checks.{reads-some, reads-none}
-use Rattle.asking.specs.Showable.{isShowable}
-use Rattle.asking.specs.Standing.{linesIn, hasEntries}
+use Rattle.asking.specs.Standing.{linesIn}
 use Rattle.asking.proofs.Standings.{length-first}
 use Rattle.asking.specs.declared.answering.figure.FigureAnswer.{FigureAnswer}
-use Rattle.asking.specs.answering.Figure.{differs, howMany, figureOf, figureAsked, differsShown, differing}
+use Rattle.asking.specs.answering.Figure.{differs, howMany, figureOf, figureAsked, differing}
 
 -- ---- one entry
 pub differs-found : (files : List Filed) (line : TableLine Number) (held : Entry) (s : Standing) (stored : Entry) (same : Bool) → s ≡ entryOver standings files line → stored ≡ held → same ≡ sameEntry stored (s .entry)
@@ -96,26 +93,6 @@ module _ (t f r c e : List ℕ) where
       ∙ ap (λ (fs : List Filed). differing fs t e (lineCount t)) (take-all n (readFiles f r c) (omega (arith, length-first (fileCount f) f r c)))
       ∙ figure-counted (readFiles f r c) t e)
       ∙ ap figureAsked (sym (reads-some (lent t f r c e) h))
-
-  module _ (i : ℕ) where
-    pub differ-unshown : isShowable t f r c ≡ false → false ≡ differsShown (lent t f r c e) i
-    unfolding differsShown
-    differ-unshown h = rw h
-
-    pub differ-short : isShowable t f r c ≡ true → hasEntries t e ≡ false → false ≡ differsShown (lent t f r c e) i
-    unfolding differsShown
-    differ-short h g = rw (h, g)
-
-    pub differ-beyond : isShowable t f r c ≡ true → hasEntries t e ≡ true → lineCount t ≤ i → false ≡ differsShown (lent t f r c e) i
-    unfolding differsShown
-    differ-beyond h g k = rw (h, g, le-ltb i (lineCount t) k)
-
-    pub differ-shown : isShowable t f r c ≡ true → hasEntries t e ≡ true → i < lineCount t → (n : ℕ) (d : Bool) → n ≡ fileCount f
-        → d ≡ differs (take n (readFiles f r c)) (tableLine (lineAt t i)) (entryAt e i) → d ≡ differsShown (lent t f r c e) i
-    unfolding differsShown
-    differ-shown h g k n d en ed =
-        rw (h, g, lt-ltb i (lineCount t) k)
-        (ed ∙ ap (λ (fs : List Filed). differs fs (tableLine (lineAt t i)) (entryAt e i)) (take-all n (readFiles f r c) (omega (arith, length-first (fileCount f) f r c))))
 
 -- ---- what the figure shows
 -- two entries are not equal

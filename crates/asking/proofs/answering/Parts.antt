@@ -1,10 +1,11 @@
 -- A part that is shown is the bytes of its record as the journal holds them. Assumes nothing.
---     part-bytes      the part at a place of a journal is the bytes of the record there
+--     part-bytes        the part at a place of a journal is the bytes of the record there
+--     record-promise    the part that an answer shows is the bytes of the record whose verdict it shows
 use mathlib.Core.Path.{_≡_, refl, sym, ap, _∙_}
 use mathlib.Core.Logic.{⊎-elim}
-use mathlib.Core.Bool.{true}
+use mathlib.Core.Bool.{Bool, true, false}
 use mathlib.Core.List.{List}
-use mathlib.Core.Option.{none, some, Option·none-ne-some, Option·some-injective}
+use mathlib.Core.Option.{Option, none, some, Option·none-ne-some, Option·some-injective}
 use Prim.Native.Nat.{ℕ, zero, suc, _+_, _-_, _*_, _≤_, _<_}
 use native.Mathlib.Omega.{arith}
 use lib.ListN.{length}
@@ -19,13 +20,19 @@ use Rattle.store.specs.declared.journals.files.File.{File}
 use Rattle.store.specs.declared.journals.records.Journal.{Journal}
 use Rattle.store.specs.declared.journals.records.Journal.the-variants.{Regular, Correction}
 use Rattle.store.proofs.journals.Places.{within}
+use Rattle.store.specs.Reads.{Buffers, Held, lent, held, isReadable, reads}
+use Rattle.store.proofs.Checks.{reads-some, reads-none}
 use Rattle.working.specs.Working.{recordIn}
 use Rattle.working.proofs.SlipLaws.{records-more}
 use Rattle.asking.specs.Items.{itemAt}
 use Rattle.asking.specs.Showable.{isShowable}
-use Rattle.asking.specs.Record.{kindOf, InFileAt}
+use Rattle.asking.specs.declared.record.Asked.{Asked}
+use Rattle.asking.specs.Numbers.{askedNumber}
+use Rattle.asking.specs.Record.{kindOf, InFileAt, askedAs, askedOf, askedIn, partShown}
+use Rattle.asking.specs.answering.Whole.{recordAsked}
 use Rattle.asking.proofs.Records.{located, located-start, record-located, record-beyond}
 use Rattle.asking.proofs.Showing.{Showable, showable}
+use Rattle.asking.proofs.answering.Readables.{showing}
 
 -- ---- each place of a journal is in a file
 somewhere : (file : ℕ → File) (kind n place : ℕ) → place < recordsOf kind (table n file) → (k : ℕ) × (at : ℕ) × InFileAt file n kind place k at
@@ -67,3 +74,39 @@ module _ (t f r c : List ℕ) (yes : isShowable t f r c ≡ true) where
       few which place h ∙ sym (bytes-in (w .0) (w .1) (kindOf which) place (w .2))
       ∙ ap (λ (d : Event). d .bytes) (Option·some-injective (recordIn f r c (w .0) (w .1)) e (sym (record-located f r c (fileCount f) (kindOf which) place (w .0) (w .1) (w .2)) ∙ q)))
       (le-or-lt (recordsOf (kindOf which) (table (fileCount f) (fileAt f))) place)
+
+-- ---- what an answer shows of a record: the record at that place of that journal, its verdict, its bytes
+pub record RecordShown (b : Buffers) (which : Journal) (place : ℕ) (answer : Asked) : Type 0 where
+  pub event : Event
+  pub stored : itemAt (journalOf (kindOf which) (held b .files)) place ≡ some event
+  pub shown : answer ≡ Asked.Record which place (askedAs (held b .lines) (held b .files) event)
+  pub part : partShown (b .regular) (b .corrections) answer ≡ event .bytes
+
+module _ (t f r c e : List ℕ) (which : Journal) (place : ℕ) where
+  -- the buffers, and what is answered
+  abbrev b : Buffers
+  b = lent t f r c e
+
+  abbrev answer : Asked
+  answer = recordAsked (reads b) which place
+
+  answer-by : isReadable b ≡ true → (o : Option Event) → itemAt (journalOf (kindOf which) (held b .files)) place ≡ o → answer ≡ askedOf (held b .lines) (held b .files) which place o
+  unfolding askedIn
+  answer-by whole o q = ap (λ (h : Option Held). recordAsked h which place) (reads-some b whole) ∙ ap (askedOf (held b .lines) (held b .files) which place) q
+
+  record-at : isReadable b ≡ true → askedNumber answer ≡ 0 → (o : Option Event) → itemAt (journalOf (kindOf which) (held b .files)) place ≡ o → RecordShown b which place answer
+  record-at whole h none q = absurd (omega (arith, sym (ap askedNumber (answer-by whole none q)) ∙ h))
+  record-at whole h (some d) q = record {
+    event = d;
+    stored = q;
+    shown = answer-by whole (some d) q;
+    part = ap (partShown r c) (answer-by whole (some d) q) ∙ (unfold held in part-bytes t f r c (showing t f r c e whole) which place d q);
+  }
+
+  -- an answer 0 shows a record, and its part is the bytes of that record
+  pub record-promise : askedNumber answer ≡ 0 → RecordShown b which place answer
+  record-promise h = go (isReadable b) refl
+    where
+      go : (w : Bool) → isReadable b ≡ w → RecordShown b which place answer
+      go true whole = record-at whole h (itemAt (journalOf (kindOf which) (held b .files)) place) refl
+      go false not = absurd (omega (arith, sym (ap (λ (s : Option Held). askedNumber (recordAsked s which place)) (reads-none b not)) ∙ h))

@@ -1,10 +1,11 @@
 -- What is promised of the answers, in every store reached from a start. Assumes nothing.
---     why-promise            a pair that is shown is that of the last record that was confirmed; both reports are stored at the places shown and match; the
+--     why-promise            a pair that is shown is that of the last record that was confirmed; both reports are stored at the places shown, the one
+--                            processed first coming first, and match; the
 --                            holder is their gaining network. Where none is shown, no record of the number was confirmed, and the holder is the owner
 --     none-exactly           none is said exactly if no pair has been confirmed
 --     verdict-promise        the verdict shown is the model's, at the record's own point of the history
 --     figure-promise         whatever was written over the entries, the figure is the number of those that were changed
---     figure-of-changes, figure-nothing, changed-at (`Figures`), part-bytes (`Parts`)
+--     figure-of-changes, figure-nothing, changed-at (`Figures`), part-bytes, record-promise (`Parts`)
 use mathlib.Core.Path.{_≡_, refl, sym, ap, subst, _∙_}
 use mathlib.Core.Logic.{_⊎_, inl, inr, ⊎-elim}
 use mathlib.Core.Bool.{Bool, true, false, not, _&&_, true≢false}
@@ -40,11 +41,12 @@ use Rattle.asking.specs.Why.{storedAs, pairOf, whyOn, whyIn}
 use Rattle.asking.specs.Record.{pointVerdict, askedAs}
 use Rattle.store.specs.Reads.{Held}
 use Rattle.asking.specs.declared.answering.figure.FigureAnswer.{FigureAnswer}
-use Rattle.asking.specs.answering.Confirmed.{confirms, noneConfirms}
+use Rattle.asking.specs.answering.Confirmed.{processedBefore, confirms, noneConfirms}
 use Rattle.asking.specs.answering.Figure.{figureOf, figureAsked}
 use Rattle.asking.proofs.answering.Figures.{changes, figure-of-changes}
 use Rattle.asking.proofs.answering.Latest.{standing, Latest, latest, pair-made}
 use Rattle.asking.proofs.answering.Roots.{Root, Rooted, RootedPair, rooted-along, rooted-first}
+use Rattle.asking.proofs.answering.Order.{first-processed}
 use Rattle.asking.proofs.answering.Stored.{stored-root}
 
 -- the records of a line's number in processing order
@@ -64,6 +66,8 @@ pub record PairShown (s : Store rules) (number : Number) (line : TableLine Numbe
   pub second-record : Root (lineBy line .owner) (recordsOn s line) second
   pub first-stored : itemAt (journalOf 0 (s .files)) (storedAs (s .files) first .place) ≡ some (first-record .event)
   pub second-stored : itemAt (journalOf 0 (s .files)) (storedAs (s .files) second .place) ≡ some (second-record .event)
+  -- the report processed first comes first
+  pub in-order : processedBefore (first-record .event) (second-record .event) ≡ true
   -- they match
   pub pairing : Pairing first second
   -- and the stored entry has their gaining network as holder, and their date
@@ -150,10 +154,11 @@ module _ {s : Store rules} (reached : Reached rules s) (number : Number) (line :
         shown = shows (Why.Pair a b) e;
         last-confirmed = confirmed a b e;
         its-pair = sym (confirmed a b e .why) ∙ e;
-        first-record = roots .0;
-        second-record = roots .1;
-        first-stored = stored-root (s .files) (reached-once rules reached) (own .owner) (line .number) a (roots .0);
-        second-stored = stored-root (s .files) (reached-once rules reached) (own .owner) (line .number) b (roots .1);
+        first-record = roots .first;
+        second-record = roots .second;
+        first-stored = stored-root (s .files) (reached-once rules reached) (own .owner) (line .number) a (roots .first);
+        second-stored = stored-root (s .files) (reached-once rules reached) (own .owner) (line .number) b (roots .second);
+        in-order = first-processed (s .files) (reached-once rules reached) (own .owner) (line .number) a b roots (rw e at (explained .pair));
         pairing = rw e at (explained .pair);
         entry = worked;
         held = held-worked;

@@ -1,4 +1,4 @@
--- A store that reads can be shown from, and then both say the same. Assumes nothing.
+-- A store that reads can be shown from, and what a look shows of it is its answer. Assumes nothing.
 use mathlib.Core.Path.{_≡_, refl, sym, ap, _∙_}
 use mathlib.Core.Bool.{Bool, true, false, cond}
 use mathlib.Core.List.{List}
@@ -20,12 +20,37 @@ use Rattle.asking.specs.declared.answer.Answer.{Answer}
 use Rattle.asking.specs.declared.entry.EntryAnswer.{EntryAnswer}
 use Rattle.asking.specs.declared.pairs.WhyAnswer.{WhyAnswer}
 use Rattle.asking.specs.declared.record.Asked.{Asked}
+use Rattle.asking.specs.declared.looks.Look.{Look}
+use Rattle.asking.specs.declared.looks.LookedEntry.{LookedEntry}
+use Rattle.asking.specs.declared.looks.LookedWhy.{LookedWhy}
+use Rattle.asking.specs.declared.looks.LookedRecord.{LookedRecord}
 use Rattle.asking.specs.Showable.{isShowable}
 use Rattle.asking.specs.Standing.{linesIn, hasEntries, entryIn, entryBefore, notHeld}
-use Rattle.asking.specs.Why.{whyIn, whyShown}
-use Rattle.asking.specs.Record.{askedIn, recordShown}
+use Rattle.asking.specs.Why.{whyIn}
+use Rattle.asking.specs.Record.{askedIn}
+use Rattle.asking.specs.Looks.{notSeen, lookBy, answerBy, entryLook, whyLook, recordLook, entryAnswer, whyAnswer, recordAnswer, entryLooked, beforeLooked, whyLooked, recordLooked}
 use Rattle.asking.proofs.Showing.{Showable, showable-true}
 use Rattle.asking.specs.answering.Whole.{entryAsked, beforeAsked, whyAsked, recordAsked}
+
+-- ---- a look that shows what an answer shows is turned into that answer
+answer-back : (a : Answer) → answerBy (lookBy a) ≡ a
+answer-back Answer.Shown = refl
+answer-back Answer.UnknownNumber = refl
+answer-back Answer.Unreadable = refl
+
+entry-back : (a : EntryAnswer) → entryAnswer (entryLook a) ≡ a
+entry-back a = λ k. record { answer = answer-back (a .answer) k; entry = a .entry }
+
+why-back : (a : WhyAnswer) → whyAnswer (whyLook a) ≡ a
+why-back (WhyAnswer.Pair a b) = refl
+why-back WhyAnswer.Nothing = refl
+why-back WhyAnswer.UnknownNumber = refl
+why-back WhyAnswer.Unreadable = refl
+
+record-back : (a : Asked) → recordAnswer (recordLook a) ≡ a
+record-back (Asked.Record which place a) = refl
+record-back Asked.Beyond = refl
+record-back Asked.Unreadable = refl
 
 module _ (t f r c e : List ℕ) where
   -- the buffers
@@ -65,21 +90,29 @@ module _ (t f r c e : List ℕ) where
     read = reads-some b whole
 
     -- ---- the answers of a store that reads
-    pub entry-asked : (x : Number) (a : EntryAnswer) → a ≡ cond (hasEntries t e) (entryIn (linesIn t) (table (lineCount t) (entryAt e)) x) (notHeld Answer.Unreadable) → a ≡ entryAsked (reads b) (NumberRead.Number x)
-    unfolding held
-    entry-asked x a q = q ∙ ap (λ (u : Bool). cond u (entryIn (linesIn t) (table (lineCount t) (entryAt e)) x) (notHeld Answer.Unreadable)) entries-too ∙ ap (λ (h : Option Held). entryAsked h (NumberRead.Number x)) (sym read)
+    pub entry-asked : (x : Number) (l : LookedEntry) (a : EntryAnswer) → l ≡ entryLooked t e x → a ≡ entryAnswer l → a ≡ entryAsked (reads b) (NumberRead.Number x)
+    unfolding held entryLooked
+    entry-asked x l a q p =
+        p ∙ ap entryAnswer (q ∙ ap (λ (u : Bool). cond u (entryLook (entryIn (linesIn t) (table (lineCount t) (entryAt e)) x)) (notSeen Look.Unshowable)) entries-too)
+        ∙ entry-back (entryIn (linesIn t) (table (lineCount t) (entryAt e)) x) ∙ ap (λ (h : Option Held). entryAsked h (NumberRead.Number x)) (sym read)
 
-    pub before-asked : (n : ℕ) (x : Number) (a : EntryAnswer) → a ≡ cond (isShowable t f r c) (entryBefore (linesIn t) (readFiles f r c) n x) (notHeld Answer.Unreadable) → a ≡ beforeAsked (reads b) n (NumberRead.Number x)
-    unfolding held
-    before-asked n x a q = q ∙ ap (λ (u : Bool). cond u (entryBefore (linesIn t) (readFiles f r c) n x) (notHeld Answer.Unreadable)) showing ∙ ap (λ (h : Option Held). beforeAsked h n (NumberRead.Number x)) (sym read)
+    pub before-asked : (n : ℕ) (x : Number) (l : LookedEntry) (a : EntryAnswer) → l ≡ beforeLooked t f r c n x → a ≡ entryAnswer l → a ≡ beforeAsked (reads b) n (NumberRead.Number x)
+    unfolding held beforeLooked
+    before-asked n x l a q p =
+        p ∙ ap entryAnswer (q ∙ ap (λ (u : Bool). cond u (entryLook (entryBefore (linesIn t) (readFiles f r c) n x)) (notSeen Look.Unshowable)) showing)
+        ∙ entry-back (entryBefore (linesIn t) (readFiles f r c) n x) ∙ ap (λ (h : Option Held). beforeAsked h n (NumberRead.Number x)) (sym read)
 
-    pub why-asked : (x : Number) (a : WhyAnswer) → a ≡ whyShown t f r c x → a ≡ whyAsked (reads b) (NumberRead.Number x)
-    unfolding held whyShown
-    why-asked x a q = q ∙ ap (λ (u : Bool). cond u (whyIn (linesIn t) (readFiles f r c) x) WhyAnswer.Unreadable) showing ∙ ap (λ (h : Option Held). whyAsked h (NumberRead.Number x)) (sym read)
+    pub why-asked : (x : Number) (l : LookedWhy) (a : WhyAnswer) → l ≡ whyLooked t f r c x → a ≡ whyAnswer l → a ≡ whyAsked (reads b) (NumberRead.Number x)
+    unfolding held whyLooked
+    why-asked x l a q p =
+        p ∙ ap whyAnswer (q ∙ ap (λ (u : Bool). cond u (whyLook (whyIn (linesIn t) (readFiles f r c) x)) LookedWhy.Unshowable) showing)
+        ∙ why-back (whyIn (linesIn t) (readFiles f r c) x) ∙ ap (λ (h : Option Held). whyAsked h (NumberRead.Number x)) (sym read)
 
-    pub record-asked : (which : Journal) (place : ℕ) (a : Asked) → a ≡ recordShown t f r c which place → a ≡ recordAsked (reads b) which place
-    unfolding held recordShown
-    record-asked which place a q = q ∙ ap (λ (u : Bool). cond u (askedIn (linesIn t) (readFiles f r c) which place) Asked.Unreadable) showing ∙ ap (λ (h : Option Held). recordAsked h which place) (sym read)
+    pub record-asked : (which : Journal) (place : ℕ) (l : LookedRecord) (a : Asked) → l ≡ recordLooked t f r c which place → a ≡ recordAnswer l → a ≡ recordAsked (reads b) which place
+    unfolding held recordLooked
+    record-asked which place l a q p =
+        p ∙ ap recordAnswer (q ∙ ap (λ (u : Bool). cond u (recordLook (askedIn (linesIn t) (readFiles f r c) which place)) LookedRecord.Unshowable) showing)
+        ∙ record-back (askedIn (linesIn t) (readFiles f r c) which place) ∙ ap (λ (h : Option Held). recordAsked h which place) (sym read)
 
     -- a malformed number
     pub entry-fault : notHeld Answer.UnknownNumber ≡ entryAsked (reads b) NumberRead.Fault

@@ -1,5 +1,5 @@
 -- Where the reports of a number's open places and of its last confirmed pair come from: each is a record of its history, published by the network that
--- has to. Assumes nothing.
+-- has to; of a pair, the first one stands before the second. Assumes nothing.
 use mathlib.Core.Path.{_≡_, refl, sym, ap, subst, _∙_}
 use mathlib.Core.Logic.{_⊎_, inl, inr, ⊎-elim}
 use mathlib.Core.Bool.{Bool, true, false, cond, not, true≢false}
@@ -82,15 +82,28 @@ pub record Root (owner : Code) (es : List Event) (p : Place) : Type 0 where
   pub placed : p ≡ placedAs (recordOf event) (meantBy owner report)
   pub publisher : record { 0 = event .publisher } ≡ publisherOf (p .report)
 
+-- of these records, one stands somewhere before the other
+pub record StandsBefore (es : List Event) (one other : Event) : Type 0 where
+  pub earlier : List Event
+  pub later : List Event
+  pub split : es ≡ earlier ++ (other ∷ later)
+  pub among : List·Memᴰ one earlier
+
+-- a pair's reports are, the first one standing before the second
+pub record Roots (owner : Code) (es : List Event) (a b : Place) : Type 0 where
+  pub first : Root owner es a
+  pub second : Root owner es b
+  pub apart : StandsBefore es (first .event) (second .event)
+
 abbrev pub RootedPair : Code → List Event → Why → Type 0
 RootedPair owner es Why.Nothing = Unit {0}
-RootedPair owner es (Why.Pair a b) = Root owner es a × Root owner es b
+RootedPair owner es (Why.Pair a b) = Roots owner es a b
 
 pub record Rooted (owner : Code) (es : List Event) (s : Standing) : Type 0 where
   pub places : (p : Place) → List·Memᴰ p (s .entry .places) → Root owner es p ⊎ (p ≡ freePlace)
   pub pair : RootedPair owner es (s .why)
 
-root-more : (owner : Code) (es more : List Event) (p : Place) → Root owner es p → Root owner (es ++ more) p
+abbrev root-more : (owner : Code) (es more : List Event) (p : Place) → Root owner es p → Root owner (es ++ more) p
 root-more owner es more p w = record {
   event = w .event;
   member = mem-more es more (w .member);
@@ -102,7 +115,16 @@ root-more owner es more p w = record {
 
 pair-more : (owner : Code) (es more : List Event) (w : Why) → RootedPair owner es w → RootedPair owner (es ++ more) w
 pair-more owner es more Why.Nothing h = tt
-pair-more owner es more (Why.Pair a b) h = (root-more owner es more a (h .0), root-more owner es more b (h .1))
+pair-more owner es more (Why.Pair a b) h = record {
+  first = root-more owner es more a (h .first);
+  second = root-more owner es more b (h .second);
+  apart = record {
+    earlier = h .apart .earlier;
+    later = h .apart .later ++ more;
+    split = ap (λ (l : List Event). l ++ more) (h .apart .split) ∙ append-assoc (h .apart .earlier) (h .second .event ∷ h .apart .later) more;
+    among = h .apart .among;
+  };
+}
 
 -- ---- what the table of reports says of a verdict 10 or 11
 module _ (line : Line) (e : Entry) (from : Code) (day : CalendarDays) (r : Report) where
@@ -170,9 +192,9 @@ root-by line es s e (Says.Reported p) q x h = go (eqb (numberOf w) 10) (eqb (num
         let z = mem-map (lapsed (r .date)) (s .entry .places) m in
         ⊎-elim (λ k. inr (z .2 ∙ k)) (λ k. ⊎-elim (λ u. inl (subst (Root (line .owner) (es ++ (e ∷ []))) (sym (z .2 ∙ k)) u)) (λ u. inr (z .2 ∙ k ∙ u)) (old (z .0) (z .1))) (lapsed-or (r .date) (z .0))
 
-    partner-root : eqb (numberOf w) 11 ≡ true → Pairing partner second → Root (line .owner) (es ++ (e ∷ [])) partner
+    partner-root : eqb (numberOf w) 11 ≡ true → Pairing partner second → Root (line .owner) es partner
     partner-root g m =
-        ⊎-elim (λ k. ⊎-elim (λ u. u) (λ u. absurd (not-free line (s .entry) (recordOf e .publisher) (recordOf e .day) r partner g u (m .matching))) (old partner k))
+        ⊎-elim (λ k. ⊎-elim (λ u. u) (λ u. absurd (not-free line (s .entry) (recordOf e .publisher) (recordOf e .day) r partner g u (m .matching))) (h .places partner k))
         (λ u. absurd (not-free line (s .entry) (recordOf e .publisher) (recordOf e .day) r partner g u (m .matching)))
         (mem-getD (s .entry .places) (partnerAt r (s .entry .places)) freePlace)
 
@@ -185,7 +207,11 @@ root-by line es s e (Says.Reported p) q x h = go (eqb (numberOf w) 10) (eqb (num
     }
     go false true f g m = record {
       places = lapsed-old;
-      pair = (partner-root g m, new (from-11 line (s .entry) (recordOf e .publisher) (recordOf e .day) r g));
+      pair = record {
+        first = root-more (line .owner) es (e ∷ []) partner (partner-root g m);
+        second = new (from-11 line (s .entry) (recordOf e .publisher) (recordOf e .day) r g);
+        apart = record { earlier = es; later = []; split = refl; among = partner-root g m .member };
+      };
     }
     go false false f g m = record { places = old; pair = pair-more (line .owner) es (e ∷ []) (s .why) (h .pair) }
 root-by line es s e (Says.Corrected c) q x h = go (eqb (numberOf (correctionVerdict (With line) (s .entry) (recordOf e .publisher) c)) 30)

@@ -1,4 +1,4 @@
--- Which records of a number's history are confirmed. Assumes nothing: these are definitions.
+-- Which records of a number's history are confirmed, and which of two is processed first. Assumes nothing: these are definitions.
 use mathlib.Core.Bool.{Bool, true, not, _&&_}
 use mathlib.Core.List.{List, [], _∷_}
 use lib.Dec.{eqb}
@@ -8,7 +8,12 @@ use Rattle.entries.specs.declared.entry.Listed.the-variants.{With}
 use Rattle.verdict.specs.verdicts.Numbers.{numberOf}
 use Rattle.verdict.specs.Step.{verdictOn, entryAfter}
 use Rattle.model.specs.Rules.{Event}
-use Rattle.rules.specs.Rules.{recordOf}
+use Rattle.model.specs.Model.{notLater}
+use Rattle.rules.specs.Rules.{rules, recordOf}
+
+-- d is processed before e: the test by which `before` leaves out the others
+abbrev pub processedBefore : Event → Event → Bool
+processedBefore d e = not (notLater rules e d)
 
 -- a record gets 11 on an entry
 abbrev pub confirms : Line → Entry → Event → Bool

@@ -1,9 +1,8 @@
 -- The figure: how many stored entries differ from those worked out from the journals. Assumes nothing: these are definitions.
-use mathlib.Core.Bool.{Bool, false, not, cond, _&&_}
+use mathlib.Core.Bool.{Bool, not}
 use mathlib.Core.List.{List, [], _∷_, zipWith}
 use mathlib.Core.Option.{Option, none, some}
 use Prim.Native.Nat.{ℕ}
-use lib.Dec.{ltb}
 use lib.ListN.{length}
 use Rattle.laws.specs.Lists.{table, keep}
 use Rattle.laws.specs.Told.{Told, told}
@@ -13,13 +12,10 @@ use Rattle.entries.specs.comparing.Same.{sameEntry}
 use Rattle.model.specs.Rules.{TableLine}
 use Rattle.model.specs.Model.{Filed, entryOver}
 use Rattle.rules.specs.Rules.{rules}
-use Rattle.store.specs.journals.Reads.{readFiles}
-use Rattle.store.specs.numbers.Lines.{lineCount, lineAt}
+use Rattle.store.specs.numbers.Lines.{lineAt}
 use Rattle.store.specs.entry_slots.Entries.{entryAt}
-use Rattle.store.specs.Reads.{Buffers, Held, tableLine}
+use Rattle.store.specs.Reads.{Held, tableLine}
 use Rattle.asking.specs.declared.answering.figure.FigureAnswer.{FigureAnswer}
-use Rattle.asking.specs.Showable.{isShowable}
-use Rattle.asking.specs.Standing.{hasEntries}
 
 -- an entry differs from the one that the line's records lead to
 unfoldable pub differs : List Filed → TableLine Number → Entry → Bool
@@ -42,14 +38,6 @@ abbrev pub figureAsked : Option Held → FigureAnswer
 figureAsked none = FigureAnswer.Unreadable
 figureAsked (some h) = FigureAnswer.Differ (figureOf (h .lines) (h .files) (h .entries))
 
--- ---- from any bytes
--- the entry of the line i differs; where there is none to compare it does not
-unfoldable pub differsShown : Buffers → ℕ → Bool
-differsShown b i =
-    cond (isShowable (b .table) (b .files) (b .regular) (b .corrections) && hasEntries (b .table) (b .entries) && ltb i (lineCount (b .table)))
-    (differs (readFiles (b .files) (b .regular) (b .corrections)) (tableLine (lineAt (b .table) i)) (entryAt (b .entries) i))
-    false
-
--- how many of the first m do
+-- ---- as it is counted: how many of the first m entries differ
 unfoldable pub differing : List Filed → List ℕ → List ℕ → ℕ → ℕ
 differing files t e m = howMany (table m (λ (i : ℕ). differs files (tableLine (lineAt t i)) (entryAt e i)))

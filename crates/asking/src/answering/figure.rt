@@ -1,7 +1,4 @@
-// The figure: how many stored entries differ from those worked out from the journals, and which.
-use crate::entry;
-use crate::showable;
-use crate::stand;
+// The figure: how many stored entries differ from those worked out from the journals.
 use store::journals::files;
 use store::numbers::lines;
 use store::readable;
@@ -12,13 +9,12 @@ ghost use Prim.Native.Nat.{_+_, _*_, _≤_, _<_};
 ghost use lib.ListN.{length, take};
 ghost use mathlib.Core.Bool.{cond, not};
 ghost use Rattle.store.specs.journals.Reads.{readFiles};
-ghost use Rattle.store.specs.numbers.Lines.{lineAt};
 ghost use Rattle.store.specs.entry_slots.Entries.{entryAt};
-ghost use Rattle.store.specs.Reads.{tableLine, lent, reads};
+ghost use Rattle.store.specs.Reads.{lent, reads};
 ghost use Rattle.working.specs.Working.{Sound};
 ghost use Rattle.entries.specs.comparing.Same.{sameEntry};
 ghost use Rattle.working.specs.indexing.Index.{Wanted, Indexed};
-ghost use Rattle.asking.specs.answering.Figure.{differs, differsShown, differing, figureAsked};
+ghost use Rattle.asking.specs.answering.Figure.{differing, figureAsked};
 
 // How many entries differ, or that the buffers do not read.
 pub enum FigureAnswer {
@@ -34,27 +30,6 @@ fn is_other(entries: &[u8], i: usize, s: Standing) -> bool
     let worked = s.entry;
     let stored = store::entry_slots::entry::entry_at(entries, i);
     !entries::comparing::same_entry(stored, worked)
-}
-
-// Whether the entry of the line i differs from the one worked out.
-fn differs_at<'a>(
-    table: &[u8],
-    files: &'a [u8],
-    n: usize,
-    regular: &'a [u8],
-    corrections: &'a [u8],
-    entries: &[u8],
-    i: usize,
-) -> bool
-    requires { ⌜ Sound n (now files) (now regular) (now corrections) ⌝ }
-    requires { ⌜ (2 + i * 14 + 14 ≤ length (now table)) × (i * 100 + 100 ≤ length (now entries)) ⌝ }
-    ensures { λ r. ⌜ r ≡ differs (take n (readFiles (now (files .entry)) (now (regular .entry)) (now (corrections .entry)))) (tableLine (lineAt (now (table .entry)) i)) (entryAt (now (entries .entry)) i) ⌝ }
-{
-    is_other(
-        entries,
-        i,
-        stand::standing_at(table, files, n, regular, corrections, i),
-    )
 }
 
 // What an entry adds to the figure.
@@ -151,30 +126,6 @@ fn differing_among<'a>(
         c,
         &mut room,
     )
-}
-
-// Whether the entry of the line i differs from the one worked out, for any bytes: where there is none to compare, it does not.
-pub fn differs<'a>(
-    table: &[u8],
-    files: &'a [u8],
-    regular: &'a [u8],
-    corrections: &'a [u8],
-    entries: &[u8],
-    i: usize,
-) -> bool
-    ensures { λ r. ⌜ r ≡ differsShown (lent (now (table .entry)) (now (files .entry)) (now (regular .entry)) (now (corrections .entry)) (now (entries .entry))) i ⌝ }
-{
-    if !showable::showable(table, files, regular, corrections) {
-        return false;
-    }
-    if !entry::has_entries(table, entries) {
-        return false;
-    }
-    if lines::line_count(table) <= i {
-        return false;
-    }
-    let n = files::file_count(files);
-    differs_at(table, files, n, regular, corrections, entries, i)
 }
 
 // The figure of a store; 44 before all else.

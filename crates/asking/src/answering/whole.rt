@@ -2,6 +2,10 @@
 use crate::answer::Answer;
 use crate::entry;
 use crate::entry::EntryAnswer;
+use crate::looks::Look;
+use crate::looks::LookedEntry;
+use crate::looks::LookedRecord;
+use crate::looks::LookedWhy;
 use crate::pairs::WhyAnswer;
 use crate::record;
 use crate::record::Asked;
@@ -15,6 +19,7 @@ use store::readable;
 ghost use mathlib.Core.Path.{_≡_};
 ghost use Rattle.store.specs.Reads.{lent, reads};
 ghost use Rattle.asking.specs.answering.Whole.{numberGiven, entryAsked, beforeAsked, whyAsked, recordAsked};
+ghost use Rattle.asking.specs.Looks.{answerBy, entryAnswer, whyAnswer, recordAnswer};
 
 // The number that two fields give.
 pub fn given(first: &[u8], last: &[u8]) -> NumberRead
@@ -27,6 +32,51 @@ pub fn given(first: &[u8], last: &[u8]) -> NumberRead
     }
 }
 
+// ---- a look at a store that reads, turned into its answer
+fn answer_by(look: Look) -> Answer
+    ensures { λ r. ⌜ r ≡ answerBy look ⌝ }
+{
+    match look {
+        Look::Shown => Answer::Shown,
+        Look::UnknownNumber => Answer::UnknownNumber,
+        Look::Unshowable => Answer::Unreadable,
+    }
+}
+
+fn entry_answer(looked: LookedEntry) -> EntryAnswer
+    ensures { λ r. ⌜ r ≡ entryAnswer looked ⌝ }
+{
+    let look = looked.look;
+    let entry = looked.entry;
+    let answer = answer_by(look);
+    EntryAnswer {
+        answer: answer,
+        entry: entry,
+    }
+}
+
+fn why_answer(looked: LookedWhy) -> WhyAnswer
+    ensures { λ r. ⌜ r ≡ whyAnswer looked ⌝ }
+{
+    match looked {
+        LookedWhy::Pair(first, second) => WhyAnswer::Pair(first, second),
+        LookedWhy::Nothing => WhyAnswer::Nothing,
+        LookedWhy::UnknownNumber => WhyAnswer::UnknownNumber,
+        LookedWhy::Unshowable => WhyAnswer::Unreadable,
+    }
+}
+
+fn record_answer(looked: LookedRecord) -> Asked
+    ensures { λ r. ⌜ r ≡ recordAnswer looked ⌝ }
+{
+    match looked {
+        LookedRecord::Record(which, place, shown) => Asked::Record(which, place, shown),
+        LookedRecord::Beyond => Asked::Beyond,
+        LookedRecord::Unshowable => Asked::Unreadable,
+    }
+}
+
+// ---- the questions
 // The stored entry of a number.
 pub fn entry<'a>(
     table: &[u8],
@@ -42,7 +92,7 @@ pub fn entry<'a>(
         return entry::not_held(Answer::Unreadable);
     }
     match number {
-        NumberRead::Number(x) => entry::held(table, entries, x),
+        NumberRead::Number(x) => entry_answer(entry::look(table, entries, x)),
         NumberRead::Fault => entry::not_held(Answer::UnknownNumber),
     }
 }
@@ -63,7 +113,10 @@ pub fn before<'a>(
         return entry::not_held(Answer::Unreadable);
     }
     match number {
-        NumberRead::Number(x) => entry::before(table, files, n, regular, corrections, x),
+        NumberRead::Number(x) => {
+            let looked = entry::look_before(table, files, n, regular, corrections, x);
+            entry_answer(looked)
+        }
         NumberRead::Fault => entry::not_held(Answer::UnknownNumber),
     }
 }
@@ -83,7 +136,7 @@ pub fn why<'a>(
         return WhyAnswer::Unreadable;
     }
     match number {
-        NumberRead::Number(x) => why::why(table, files, regular, corrections, x),
+        NumberRead::Number(x) => why_answer(why::look(table, files, regular, corrections, x)),
         NumberRead::Fault => WhyAnswer::UnknownNumber,
     }
 }
@@ -103,5 +156,6 @@ pub fn record<'a>(
     if !readable::readable(table, files, regular, corrections, entries) {
         return Asked::Unreadable;
     }
-    record::record(table, files, regular, corrections, which, place)
+    let looked = record::look(table, files, regular, corrections, which, place);
+    record_answer(looked)
 }

@@ -3,14 +3,11 @@ use borrow.Author.Needs.{needs}
 use Rattle.asking.proofs.entry.not_held.Statement.{statement}
 use Rattle.asking.proofs.entry.not_held.Tie as tie
 
-line-in-requires : tie.Need-line-in-requires
-line-in-requires c κs = search needs
-
-first-requires : tie.Need-first-requires
-first-requires c κs = search needs
+no-entry-requires : tie.Need-no-entry-requires
+no-entry-requires c κs = search needs
 
 returns : tie.Need-returns
-returns c = rw (c .first .ensures, c .before .line-in .ensures)
+returns c = rw (c .no-entry .ensures)
 
 pub not-held-spec : {M : Type 1} → statement M
-not-held-spec = tie.close (tie.spec line-in-requires first-requires returns)
+not-held-spec = tie.close (tie.spec no-entry-requires returns)

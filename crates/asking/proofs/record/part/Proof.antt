@@ -3,14 +3,17 @@ use borrow.Author.Needs.{needs}
 use Rattle.asking.proofs.record.part.Statement.{statement}
 use Rattle.asking.proofs.record.part.Tie as tie
 
-count-shown-requires : tie.Need-count-shown-requires
-count-shown-requires c κs = search needs
+journal-shown-requires : tie.Need-journal-shown-requires
+journal-shown-requires c κs = search needs
+
+place-shown-requires : tie.Need-place-shown-requires
+place-shown-requires c κs = search needs
 
 record-bytes-requires : tie.Need-record-bytes-requires
 record-bytes-requires c κs = search needs
 
 returns : tie.Need-returns
-returns c = rw (← c .before .count-shown .ensures) (c .record-bytes .ensures)
+returns c = rw (← c .before .before .journal-shown .ensures, ← c .before .place-shown .ensures) (c .record-bytes .ensures)
 
 pub part-spec : {M : Type 1} → statement M
-part-spec = tie.close (tie.spec count-shown-requires record-bytes-requires returns)
+part-spec = tie.close (tie.spec journal-shown-requires place-shown-requires record-bytes-requires returns)

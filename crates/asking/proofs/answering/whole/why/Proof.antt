@@ -18,18 +18,21 @@ returns c =
 enum-known-number : tie.Need-enum-known-number
 enum-known-number c = search needs
 
-why-requires : tie.Need-why-requires
-why-requires c κs = search needs
+look-requires : tie.Need-look-requires
+look-requires c κs = search needs
+
+why-answer-requires : tie.Need-why-answer-requires
+why-answer-requires c κs = search needs
 
 enum-told : tie.Need-enum-told
 enum-told c = search needs
 
 returns-2 : tie.Need-returns-2
 returns-2 c =
-    let fit = c .before .before .before .before in
+    let fit = c .before .before .before .before .before in
     let a = fit .before .before .before .before .before .before .before .args in
-    let x = c .before .before .number .given in
-    rw (x .1) (why-asked (now (a .table)) (now (a .files)) (now (a .regular)) (now (a .corrections)) (now (a .entries)) (sym (fit .before .readable .ensures) ∙ not-false _ (fit .if1 .left)) (x .0 .0) (c .why .result) (c .why .ensures))
+    let x = c .before .before .before .number .given in
+    rw (x .1) (why-asked (now (a .table)) (now (a .files)) (now (a .regular)) (now (a .corrections)) (now (a .entries)) (sym (fit .before .readable .ensures) ∙ not-false _ (fit .if1 .left)) (x .0 .0) (c .before .look .result) (c .why-answer .result) (c .before .look .ensures) (c .why-answer .ensures))
 
 returns-3 : tie.Need-returns-3
 returns-3 c =
@@ -44,7 +47,8 @@ why-spec =
     readable-requires
     returns
     enum-known-number
-    why-requires
+    look-requires
+    why-answer-requires
     enum-told
     returns-2
     returns-3)

@@ -1,13 +1,13 @@
--- `asking::record::record` meets its contract: the tests, the file that was found, and the record in it (`Records`). Assumes nothing.
+-- `asking::record::look` meets its contract: the tests, the file that was found, and the record in it (`Records`). Assumes nothing.
 use denote.Ref.{now}
 use mathlib.Core.Path.{sym, _∙_}
 use native.Mathlib.Omega.{arith}
 use borrow.Author.Tests.{not-true, not-false}
 use Rattle.asking.proofs.Showing.{showable, sound}
-use Rattle.asking.proofs.Records.{asked-unreadable, asked-beyond, asked-record}
+use Rattle.asking.proofs.Records.{record-unshowable, asked-beyond, asked-record}
 use borrow.Author.Needs.{needs}
-use Rattle.asking.proofs.record.record.Statement.{statement}
-use Rattle.asking.proofs.record.record.Tie as tie
+use Rattle.asking.proofs.record.look.Statement.{statement}
+use Rattle.asking.proofs.record.look.Tie as tie
 
 showable-requires : tie.Need-showable-requires
 showable-requires c κs = search needs
@@ -15,7 +15,7 @@ showable-requires c κs = search needs
 returns : tie.Need-returns
 returns c =
     let a = c .before .before .before .before .before .before .args in
-    asked-unreadable (now (a .table)) (now (a .files)) (now (a .regular)) (now (a .corrections)) (a .which) (a .place) (sym (c .before .showable .ensures) ∙ not-true _ (c .if1 .taken))
+    record-unshowable (now (a .table)) (now (a .files)) (now (a .regular)) (now (a .corrections)) (a .which) (a .place) (sym (c .before .showable .ensures) ∙ not-true _ (c .if1 .taken))
 
 file-count-requires : tie.Need-file-count-requires
 file-count-requires c κs =
@@ -65,8 +65,8 @@ returns-3 c =
     let w = rw (c .enum-told .given .1, c .before .before .before .kind-of .ensures) at (c .before .before .locate .ensures) in
     asked-beyond (now (a .table)) (now (a .files)) (now (a .regular)) (now (a .corrections)) (a .which) (a .place) (sym (fit .before .showable .ensures) ∙ not-false _ (fit .if1 .left)) (n .result) (n .ensures .0) w
 
-pub record-spec : {M : Type 1} → statement M
-record-spec =
+pub look-spec : {M : Type 1} → statement M
+look-spec =
     tie.close
     (tie.spec
     showable-requires

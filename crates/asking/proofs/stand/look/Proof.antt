@@ -1,4 +1,4 @@
--- `asking::stand::standing` meets its contract. Assumes nothing.
+-- `asking::stand::look` meets its contract. Assumes nothing.
 use denote.Ref.{now}
 use mathlib.Core.Path.{sym, ap, _∙_}
 use native.Mathlib.Omega.{arith}
@@ -11,11 +11,12 @@ use Rattle.store.specs.journals.Files.{fileCount}
 use Rattle.store.specs.numbers.Lines.{lineAt}
 use Rattle.store.specs.Reads.{tableLine}
 use Rattle.rules.specs.Rules.{standings}
+use Rattle.asking.specs.Looks.{standingLooked}
 use Rattle.asking.proofs.Showing.{showable, sound}
 use Rattle.asking.proofs.Standings.{shows, among-below, among-files, stood-beyond, stood-here}
 use borrow.Author.Needs.{needs}
-use Rattle.asking.proofs.stand.standing.Statement.{statement}
-use Rattle.asking.proofs.stand.standing.Tie as tie
+use Rattle.asking.proofs.stand.look.Statement.{statement}
+use Rattle.asking.proofs.stand.look.Tie as tie
 
 showable-requires : tie.Need-showable-requires
 showable-requires c κs = search needs
@@ -24,6 +25,7 @@ not-stood-requires : tie.Need-not-stood-requires
 not-stood-requires c κs = search needs
 
 returns : tie.Need-returns
+unfolding standingLooked
 returns c = passes _ _ _ _ (sym (c .before .before .showable .ensures) ∙ not-true _ (c .before .if1 .taken)) (c .not-stood .ensures)
 
 line-count-requires : tie.Need-line-count-requires
@@ -36,6 +38,7 @@ not-stood-requires-2 : tie.Need-not-stood-requires-2
 not-stood-requires-2 c κs = search needs
 
 returns-2 : tie.Need-returns-2
+unfolding standingLooked
 returns-2 c =
     let fit = c .before .before .before in
     let a = fit .before .before .before .before .before .before .args in
@@ -59,6 +62,7 @@ standing-at-requires c κs =
     )
 
 returns-3 : tie.Need-returns-3
+unfolding standingLooked
 returns-3 c =
     let fit = c .before .before .before .before in
     let a = fit .before .before .before .before .before .before .args in
@@ -67,8 +71,8 @@ returns-3 c =
     (stood-here (now (a .table)) fs (a .n) (a .i) (c .standing-at .result) (omega (arith, c .before .before .before .line-count .ensures .0, c .before .before .if2 .left))
     (c .standing-at .ensures ∙ ap (λ (l : List Filed). entryOver standings l (tableLine (lineAt (now (a .table)) (a .i)))) (among-files (now (a .files)) (now (a .regular)) (now (a .corrections)) (a .n) (c .before .files-among .result) (c .before .files-among .ensures))))
 
-pub standing-spec : {M : Type 1} → statement M
-standing-spec =
+pub look-spec : {M : Type 1} → statement M
+look-spec =
     tie.close
     (tie.spec
     showable-requires

@@ -1,4 +1,4 @@
--- `asking::why::why` meets its contract: the tests, the line that was found, and where it stands (`Whys`). Assumes nothing.
+-- `asking::why::look` meets its contract: the tests, the line that was found, and where it stands (`Whys`). Assumes nothing.
 use denote.Ref.{now}
 use mathlib.Core.Path.{sym, ap, _∙_}
 use Prim.Native.Nat.{ℕ}
@@ -6,10 +6,10 @@ use native.Mathlib.Omega.{arith}
 use borrow.Author.Tests.{not-true, not-false}
 use Rattle.asking.proofs.Lines.{found-below}
 use Rattle.asking.proofs.Showing.{showable, sound, reports-first}
-use Rattle.asking.proofs.Whys.{why-unreadable, why-unknown, why-pair}
+use Rattle.asking.proofs.Whys.{why-unshowable, why-unknown, why-pair}
 use borrow.Author.Needs.{needs}
-use Rattle.asking.proofs.why.why.Statement.{statement}
-use Rattle.asking.proofs.why.why.Tie as tie
+use Rattle.asking.proofs.why.look.Statement.{statement}
+use Rattle.asking.proofs.why.look.Tie as tie
 
 showable-requires : tie.Need-showable-requires
 showable-requires c κs = search needs
@@ -17,7 +17,7 @@ showable-requires c κs = search needs
 returns : tie.Need-returns
 returns c =
     let a = c .before .before .before .before .before .before .args in
-    why-unreadable (now (a .table)) (now (a .files)) (now (a .regular)) (now (a .corrections)) (a .number) (sym (c .before .showable .ensures) ∙ not-true _ (c .if1 .taken))
+    why-unshowable (now (a .table)) (now (a .files)) (now (a .regular)) (now (a .corrections)) (a .number) (sym (c .before .showable .ensures) ∙ not-true _ (c .if1 .taken))
 
 find-line-requires : tie.Need-find-line-requires
 find-line-requires c κs = search needs
@@ -69,8 +69,8 @@ returns-3 c =
     let a = fit .before .before .before .before .before .before .args in
     why-unknown (now (a .table)) (now (a .files)) (now (a .regular)) (now (a .corrections)) (a .number) (sym (fit .before .showable .ensures) ∙ not-false _ (fit .if1 .left)) (sym (c .enum-told .given .1) ∙ c .before .before .find-line .ensures)
 
-pub why-spec : {M : Type 1} → statement M
-why-spec =
+pub look-spec : {M : Type 1} → statement M
+look-spec =
     tie.close
     (tie.spec
     showable-requires
