@@ -6,11 +6,7 @@ use Prim.Native.Nat.{ℕ}
 use Rattle.laws.specs.Told.{valueAt}
 use Rattle.store.specs.Reads.{Buffers, Held}
 use Rattle.reworking.specs.declared.rework.Reworked.{Reworked}
-use Rattle.reworking.specs.Reworking.{reworkedTold, reworkAnswer, entriesAfter, listAfter, withRoom}
-
--- as many files as a store takes: over the first so many of them is over all
-abbrev pub allFiles : ℕ
-allFiles = 1024
+use Rattle.reworking.specs.Reworking.{allFiles, reworkedTold, reworkAnswer, entriesAfter, listAfter, withRoom}
 
 -- what reworking answers over all files of a store, where the list has room
 abbrev pub reworkOf : Option Held → Reworked

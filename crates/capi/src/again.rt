@@ -2,8 +2,8 @@
 use crate::told;
 use crate::told::Numbers;
 use reworking::rework;
+use reworking::rework::ALL_FILES;
 use reworking::rework::Reworked;
-use store::journals::files::FILES;
 ghost use mathlib.Core.Path.{_≡_};
 ghost use Rattle.store.specs.Reads.{lent};
 ghost use Rattle.reworking.specs.Reworking.{reworkedTold};
@@ -33,7 +33,7 @@ pub extern "C" fn dagskimra_rework<'a>(
 ) -> u8
     ensures { λ r. ⌜ ReworksAs (lent (now (table .entry)) (now (files .entry)) (now (regular .entry)) (now (corrections .entry)) (now (entries .entry))) (now (list .entry)) r (now (more .exit)) (now (entries .exit)) (now (list .exit)) ⌝ }
 {
-    let a = rework::rework(table, files, regular, corrections, entries, FILES, list);
+    let a = rework::rework(table, files, regular, corrections, entries, ALL_FILES, list);
     let t = tell(a);
     *more = t.first;
     t.number

@@ -1,24 +1,27 @@
 -- What reworking promises. Assumes nothing.
 --     reworked-reads       after answer 0 the buffers read as the same table and files, and every entry is the one worked out over the first n files
 --     listed-exactly       a line is listed exactly if its stored entry was not the one worked out
+--     figure-listed        the figure is how many lines are listed
+--     all-files            over the first `allFiles` files of a store is over all
 --     none-again           a second time, nothing is listed
 --     none-in-a-reached    nor, over all files, in a store that starting and filing lead to
-use mathlib.Core.Path.{_≡_, refl, sym, ap, ap₂, _∙_}
+use mathlib.Core.Path.{_≡_, refl, sym, ap, ap₂, subst, _∙_}
 use mathlib.Core.Bool.{Bool, true, false, not}
 use mathlib.Core.List.{List, [], _∷_, map, flatMap, zipWith, _++_, List·Memᴰ, List·Memᴰ·head, Memᴰ·append-left, Memᴰ·append-right}
 use mathlib.Core.Logic.{⊎-elim}
-use mathlib.Core.Option.{some}
+use mathlib.Core.Option.{some, Option·none-ne-some, Option·some-injective}
 use Prim.Native.Nat.{ℕ, zero, suc, _+_, _*_, _≤_, _<_}
 use native.Mathlib.Nat.{eq-or-lt-of-le}
 use native.Mathlib.Omega.{arith}
-use lib.ListN.{length, getD, take}
+use lib.ListN.{length, getD, take, length-map}
+use lib.Seq.{take-all}
 use Rattle.laws.specs.Lists.{table, keep, all}
 use Rattle.laws.specs.Overlay.{overlay}
 use Rattle.laws.specs.Slots.{slotAt}
-use Rattle.laws.proofs.Lists.{keep-none, keep-mem, keep-passes, mem-below, mem-keep, zip-map, zip-at}
+use Rattle.laws.proofs.Lists.{keep-none, keep-mem, keep-passes, keep-map, mem-below, mem-keep, zip-map, zip-at}
 use Rattle.laws.proofs.Overlay.{length-overlay}
 use Rattle.laws.proofs.Slots.{slot-laid}
-use Rattle.laws.proofs.Tables.{length-table, getD-table, table-cong, map-table, all-each}
+use Rattle.laws.proofs.Tables.{length-table, getD-table, table-cong, table-self, map-table, all-each}
 use Rattle.fields.specs.declared.number.Number.{Number}
 use Rattle.entries.specs.declared.entry.Entry.{Entry}
 use Rattle.entries.proofs.comparing.SameLaws.{same-entry-refl}
@@ -26,16 +29,18 @@ use Rattle.model.specs.Rules.{TableLine}
 use Rattle.model.specs.Model.{Filed, Store, Reached, entryOver}
 use Rattle.rules.specs.Rules.{rules}
 use Rattle.rules.proofs.Promises.{entries-worked-afresh}
+use Rattle.store.specs.journals.Files.{fileCount}
 use Rattle.store.specs.journals.Reads.{readFiles}
 use Rattle.store.specs.numbers.Lines.{lineCount, lineAt, linesOf}
 use Rattle.store.specs.entry_slots.Entries.{entrySlot, entryOf, entryAt, goodEntry}
 use Rattle.store.proofs.entry_slots.Back.{length-entry, entry-back, entry-fine}
-use Rattle.store.specs.Reads.{Buffers, lent, tableLine, held, longEnough, isReadable, reads}
-use Rattle.store.proofs.Checks.{long, few-lines, read-entries, reads-some}
+use Rattle.store.specs.Reads.{Buffers, Held, lent, tableLine, held, longEnough, isReadable, reads}
+use Rattle.store.proofs.Checks.{long, few-lines, few-files, read-entries, reads-some, reads-none}
 use Rattle.store.proofs.Whole.{whole-long, whole-table, whole-files, whole-records}
 use Rattle.filing.proofs.fitting.Worked.{worked-fits}
-use Rattle.asking.specs.answering.Figure.{differs}
-use Rattle.reworking.specs.Reworking.{workedSlot, reworkedEntries, places, changedLines, reworkAnswer, withRoom, lineOf}
+use Rattle.asking.specs.answering.Figure.{differs, howMany, figureOf}
+use Rattle.asking.proofs.Standings.{length-first}
+use Rattle.reworking.specs.Reworking.{workedSlot, reworkedEntries, places, changedLines, allFiles, reworkAnswer, withRoom, lineOf}
 use Rattle.reworking.specs.declared.rework.Reworked.{Reworked}
 use Rattle.reworking.proofs.Answers.{with-room}
 
@@ -150,6 +155,35 @@ listed-exactly files lines entries line entry i h k =
       λ m. sym at ∙ exact .0 m .1,
       λ e. exact .1 (zip-below (differs files) lines entries i h k) (at ∙ e),
     )
+
+-- as many are listed as tests hold
+places-many : (tests : List Bool) → howMany tests ≡ length (places tests)
+unfolding places
+places-many tests =
+    let at : ℕ → Bool = λ (i : ℕ). getD tests i false in
+    let all : List ℕ = table (length tests) (λ (i : ℕ). i) in
+    ap howMany (sym (map-table at (length tests) (λ (i : ℕ). i) ∙ table-self tests false (length tests) refl))
+    ∙ ap length (sym (keep-map at (λ (b : Bool). b) at all (λ x m. refl)))
+    ∙ length-map (keep at all) at
+
+-- the number that is printed and the lines that are listed agree
+pub figure-listed : (lines : List (TableLine Number)) (files : List Filed) (entries : List Entry) → figureOf lines files entries ≡ length (changedLines files lines entries)
+unfolding figureOf changedLines
+figure-listed lines files entries = places-many (zipWith (differs files) lines entries)
+
+-- ---- all files
+all-held : (b : Buffers) → isReadable b ≡ true → take allFiles (held b .files) ≡ held b .files
+unfolding held
+all-held b whole =
+    take-all 1024 (readFiles (b .files) (b .regular) (b .corrections))
+    (omega (arith, length-first (fileCount (b .files)) (b .files) (b .regular) (b .corrections), few-files (b .files) (whole-files b whole)))
+
+pub all-files : (b : Buffers) (h : Held) → reads b ≡ some h → take allFiles (h .files) ≡ h .files
+all-files b h q = go (isReadable b) refl
+  where
+    go : (w : Bool) → isReadable b ≡ w → take allFiles (h .files) ≡ h .files
+    go true whole = subst (λ (g : Held). take allFiles (g .files) ≡ g .files) (Option·some-injective (held b) h (sym (reads-some b whole) ∙ q)) (all-held b whole)
+    go false unread = absurd (Option·none-ne-some h (sym (reads-none b unread) ∙ q))
 
 never-holds : {A : Type 0} (l : List A) (i : ℕ) → getD (map (λ (x : A). false) l) i false ≡ false
 never-holds [] i = refl

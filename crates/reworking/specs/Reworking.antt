@@ -36,6 +36,10 @@ places tests = keep (λ (i : ℕ). getD tests i false) (table (length tests) (λ
 unfoldable pub changedLines : List Filed → List (TableLine Number) → List Entry → List ℕ
 changedLines files lines entries = places (zipWith (differs files) lines entries)
 
+-- as many files as a store takes: over the first so many of them is over all (`all-files`)
+abbrev pub allFiles : ℕ
+allFiles = 1024
+
 -- ---- what reworking over the first n files answers, and what it leaves: over a store, or over none
 
 -- what an answer tells: 0 with the count of the entries that were others, or 44

@@ -13,6 +13,9 @@ ghost use Rattle.working.specs.Working.{Sound};
 ghost use Rattle.working.specs.indexing.Index.{Wanted, Indexed};
 ghost use Rattle.reworking.specs.Reworking.{Fitting, LineReworked, Noted, LinesReworked, Reworks};
 
+// As many files as a store takes: over the first so many of them is over all.
+pub const ALL_FILES: usize = store::journals::files::FILES;
+
 // How many entries changed, or that the buffers do not read or the list has no room.
 pub enum Reworked {
     Changed(usize),
