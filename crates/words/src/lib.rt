@@ -7,6 +7,7 @@ mod span;
 mod wrong;
 
 use libc::STDERR_FILENO;
+ghost use mathlib.Core.Path.{_≡_};
 
 pub fn text(bytes: &[u8]) {
     io::write_all(STDERR_FILENO, bytes);
@@ -32,7 +33,9 @@ pub fn failed(what: &[u8]) {
 }
 
 // What a store wants whose entries were worked out with another holiday list. The status is 2.
-pub fn wants_rework(folder: &[u8]) -> u8 {
+pub fn wants_rework(folder: &[u8]) -> u8
+    ensures { λ r. ⌜ r ≡ 2 ⌝ }
+{
     text(b"dagskimra: ");
     text(folder);
     text(
@@ -44,7 +47,9 @@ pub fn wants_rework(folder: &[u8]) -> u8 {
 }
 
 // A wrong command line: what is wrong, and the command's usage. The status is 2.
-pub fn usage(wrong: &[u8], line: &[u8]) -> u8 {
+pub fn usage(wrong: &[u8], line: &[u8]) -> u8
+    ensures { λ r. ⌜ r ≡ 2 ⌝ }
+{
     text(b"dagskimra: ");
     text(wrong);
     text(b"\nusage: dagskimra ");
