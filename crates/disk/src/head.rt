@@ -9,30 +9,48 @@ use crate::sum::summed;
 use desk::copy_in;
 use desk::same;
 use desk::within;
+ghost use mathlib.Core.Path.{_≡_};
+ghost use mathlib.Core.Bool.{cond};
+ghost use mathlib.Core.List.{_++_};
+ghost use lib.Dec.{eqb};
+ghost use Rattle.laws.specs.Overlay.{overlay};
+ghost use Rattle.disk.specs.Head.{hex, isFirst, headText, headOver};
 
 // 18 bytes of name and version, twice sixteen hexadecimal digits, and a line end. The line of the list follows.
 pub const HEAD: usize = 51;
 
 // Whether a head is of version 1, which has no line of the list: its entries were worked out with the list of 468 days.
-pub fn is_first(head: &[u8]) -> bool {
+pub fn is_first(head: &[u8]) -> bool
+    ensures { λ r. ⌜ r ≡ isFirst (now (head .entry)) ⌝ }
+{
     let n = within(18, head);
     same(&head[..n], b"dagskimra store 1\n")
 }
 
 // Of a head over as many bytes of the list's line.
-fn version(n: usize) -> u8 {
+fn version(n: usize) -> u8
+    ensures { λ r. ⌜ r ≡ cond (eqb n 0) 49 50 ⌝ }
+{
     if n == 0 { b'1' } else { b'2' }
 }
 
-fn spelled(version: u8, sum: Sum) -> [u8; HEAD] {
-    let mut head = [b'\n'; HEAD];
+// Puts sixteen hexadecimal digits into a buffer from `at` on.
+pub(crate) fn put_hex(out: &mut [u8], at: usize, n: u64)
+    ensures { λ _. ⌜ now (out .exit) ≡ overlay (now (out .entry)) at (hex n) ⌝ }
+{
     let mut digits = [0u8; 16];
+    let k = io::hex(n, 16, &mut digits);
+    copy_in(out, at, &digits[..k]);
+}
+
+fn spelled(version: u8, sum: Sum) -> [u8; HEAD]
+    ensures { λ r. ⌜ r ≡ headText version sum ⌝ }
+{
+    let mut head = [b'\n'; HEAD];
     copy_in(&mut head, 0, b"dagskimra store ");
     head[16] = version;
-    let n = io::hex(sum.a, 16, &mut digits);
-    copy_in(&mut head, 18, &digits[..n]);
-    let m = io::hex(sum.b, 16, &mut digits);
-    copy_in(&mut head, 34, &digits[..m]);
+    put_hex(&mut head, 18, sum.a);
+    put_hex(&mut head, 34, sum.b);
     head
 }
 
@@ -43,7 +61,9 @@ pub fn head_of(
     files: &[u8; FILES],
     regular: &[u8; REGULAR],
     corrections: &[u8; CORRECTIONS],
-) -> [u8; HEAD] {
+) -> [u8; HEAD]
+    ensures { λ r. ⌜ r ≡ headOver (now (line .entry)) (now (table .entry) ++ (now (files .entry) ++ (now (regular .entry) ++ now (corrections .entry)))) ⌝ }
+{
     let mut sum = Sum { a: 1, b: 0 };
     sum = summed(sum, line);
     sum = summed(sum, table);

@@ -9,6 +9,10 @@ use crate::parts::Found;
 use desk::place;
 use words::complain;
 use words::failed;
+ghost use mathlib.Core.Path.{_≡_};
+ghost use Rattle.disk.specs.declared.saved.Loaded.the-variants.{Missing};
+ghost use Rattle.store.specs.Reads.{lent};
+ghost use Rattle.disk.specs.Saved.{Loads};
 
 pub enum Loaded {
     Ready,
@@ -20,7 +24,9 @@ pub enum Loaded {
     Damaged,
 }
 
-fn missing(folder: &[u8]) -> Loaded {
+fn missing(folder: &[u8]) -> Loaded
+    ensures { λ r. ⌜ r ≡ Missing ⌝ }
+{
     failed(folder);
     complain(
         folder,
@@ -29,6 +35,7 @@ fn missing(folder: &[u8]) -> Loaded {
     Loaded::Missing
 }
 
+// Reads the store of a folder, and judges it last: what is said to be loaded reads as a store.
 pub fn load(
     folder: &[u8],
     table: &mut [u8; TABLE],
@@ -36,7 +43,9 @@ pub fn load(
     regular: &mut [u8; REGULAR],
     corrections: &mut [u8; CORRECTIONS],
     entries: &mut [u8; ENTRIES],
-) -> Loaded {
+) -> Loaded
+    ensures { λ r. ⌜ Loads r (lent (now (table .exit)) (now (files .exit)) (now (regular .exit)) (now (corrections .exit)) (now (entries .exit))) ⌝ }
+{
     let fd = place::open_read(folder, b"store");
     if fd < 0 {
         return missing(folder);

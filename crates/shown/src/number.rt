@@ -6,6 +6,9 @@ use fields::number::Number;
 use fields::number::NumberRead;
 use page::Page;
 use page::ROOM;
+ghost use mathlib.Core.Path.{_≡_};
+ghost use Rattle.fields.specs.Number.{digitsFieldOf};
+ghost use Rattle.shown.specs.Named.{besideFirst, numberNamed};
 
 // All bytes but the first.
 fn behind_first(p: Page, room: &mut [u8; ROOM], bytes: &[u8]) -> Page {
@@ -34,7 +37,9 @@ pub fn number(p: Page, room: &mut [u8; ROOM], n: Number) -> Page {
 }
 
 // Two fields as a number; a first field of no digits is none.
-fn of_fields(first: &[u8], last: &[u8]) -> NumberRead {
+fn of_fields(first: &[u8], last: &[u8]) -> NumberRead
+    ensures { λ r. ⌜ r ≡ besideFirst (digitsFieldOf (now (first .entry))) (now (last .entry)) ⌝ }
+{
     let DigitsRead::Digits(d) = Digits::read(first) else {
         return NumberRead::Fault;
     };
@@ -45,7 +50,9 @@ fn of_fields(first: &[u8], last: &[u8]) -> NumberRead {
 }
 
 // The number that a word of the command line names.
-pub fn read(word: &[u8]) -> NumberRead {
+pub fn read(word: &[u8]) -> NumberRead
+    ensures { λ r. ⌜ r ≡ numberNamed (now (word .entry)) ⌝ }
+{
     let end = text::field_end(word, 0, b'-');
     if word.len() <= end {
         return of_fields(word, &word[0..0]);
