@@ -3,14 +3,13 @@
 --     last-stays          the last confirmed date does not fall
 --     tidy-stays          eight places, and no two open reports are equal
 --     explained-stays     the pair is one, and says who the holder is and what the last confirmed date is
-use mathlib.Core.Path.{_≡_, refl, sym, _∙_}
-use mathlib.Core.Bool.{Bool, true, false, cond, not, _||_, true≢false}
+use mathlib.Core.Path.{_≡_, refl, ap, _∙_}
+use mathlib.Core.Bool.{Bool, true, false, cond, _||_}
 use Prim.Native.Nat.{_≤_}
-use native.Mathlib.Omega.{arith}
 use native.Mathlib.Nat.{le-refl}
-use borrow.Author.Tests.{eqb-true, ltb-false}
-use lib.Dec.{eqb, lit≤}
-use lib.ListN.{getD, length-set, length-map}
+use borrow.Author.Tests.{ltb-false}
+use lib.Dec.{lit≤}
+use lib.ListN.{length-set, length-map}
 use Rattle.laws.specs.Lists.{any}
 use Rattle.laws.proofs.Lines.{line-passed, line-applied}
 use Rattle.calendar.specs.declared.dates.CalendarDays.{CalendarDays}
@@ -25,42 +24,58 @@ use Rattle.entries.specs.declared.entry.Last.the-variants.{Never, On}
 use Rattle.entries.specs.declared.entry.Line.{Line}
 use Rattle.entries.specs.declared.entry.Listed.{Listed}
 use Rattle.entries.specs.declared.entry.Listed.the-variants.{With}
-use Rattle.verdict.specs.declared.correction_rules.Named.{Named}
+use Rattle.entries.specs.declared.report.Published.{Published}
 use Rattle.verdict.specs.declared.step.Says.{Says}
-use Rattle.verdict.specs.declared.step.Says.the-variants.{Reported, Corrected}
+use Rattle.verdict.specs.declared.step.Says.the-variants.{Reported, Objected, Other}
 use Rattle.verdict.specs.declared.step.Record.{Record}
-use Rattle.verdict.specs.declared.step.Why.the-variants.{Pair}
 use Rattle.verdict.specs.declared.step.Standing.{Standing}
-use Rattle.verdict.specs.verdicts.Numbers.{numberOf}
+use Rattle.verdict.specs.declared.verdicts.Doing.{Doing}
+use Rattle.verdict.specs.verdicts.Does.{keeps, confirms, lapses, doesBy}
 use Rattle.entries.specs.Report.{meantBy}
 use Rattle.entries.specs.Entry.{freePlace}
 use Rattle.entries.specs.places.Places.{isOpen, lowestFree, lapsed}
 use Rattle.verdict.specs.report_tests.Tests.{beforeLast, partnerOpen, zedOpen}
 use Rattle.verdict.specs.report_rules.Reports.{reportTable, reportVerdict}
-use Rattle.verdict.specs.effects.Reports.{kept, confirmed, partnerAt}
-use Rattle.verdict.specs.effects.Corrections.{namedAt, withoutNamed}
-use Rattle.verdict.specs.Step.{placedAs, verdictBy, effectBy, whyBy, verdictOn, entryAfter, standOn}
-use Rattle.verdict.specs.Sound.{isDiscarded, NotAfter, Tidy, Explained}
+use Rattle.verdict.specs.correction_rules.Corrections.{objectionVerdict}
+use Rattle.verdict.specs.effects.Reports.{kept, confirmed, reportEffect}
+use Rattle.verdict.specs.effects.Corrections.{namedAt, withoutNamed, objectionEffect}
+use Rattle.verdict.specs.Step.{placedAs, verdictBy, effectBy, effectOn, pairAfter, whyBy, verdictOn, entryAfter, standOn}
+use Rattle.verdict.specs.Sound.{Discarded, NotAfter, Tidy, Explained}
 use Rattle.entries.proofs.places.PlaceLaws.{thinned-set, thinned-map, apart-thinned, apart-kept}
 use Rattle.verdict.proofs.PairLaws.{partner-pairs}
 
--- ---- a verdict has one number
-not-both : (v : Verdict) → eqb (numberOf v) 10 ≡ true → eqb (numberOf v) 11 ≡ true → ⊥
-not-both v s t = omega (arith, eqb-true (numberOf v) 10 s, eqb-true (numberOf v) 11 t)
+-- ---- a verdict does what its number says
+keeps-by : (v : Verdict) → doesBy v ≡ Doing.Keeps → keeps v ≡ true
+keeps-by v = go (keeps v) (confirms v) (lapses v)
+  where
+    go : (k c l : Bool) → cond k Doing.Keeps (cond c Doing.Confirms (cond l Doing.Lapses Doing.Nothing)) ≡ Doing.Keeps → k ≡ true
+    go true c l q = refl
+    go false true l q = cc
+    go false false true q = cc
+    go false false false q = cc
 
--- ---- what the table of reports says of 10 and 11
+pub confirms-by : (v : Verdict) → doesBy v ≡ Doing.Confirms → confirms v ≡ true
+confirms-by v = go (keeps v) (confirms v) (lapses v)
+  where
+    go : (k c l : Bool) → cond k Doing.Keeps (cond c Doing.Confirms (cond l Doing.Lapses Doing.Nothing)) ≡ Doing.Confirms → c ≡ true
+    go k true l q = refl
+    go true false l q = cc
+    go false false true q = cc
+    go false false false q = cc
+
+-- ---- what the table of reports says of a report that is kept or confirmed
 module _ (n : Listed) (e : Entry) (from : Code) (day : CalendarDays) (r : Report) where
-  not-open : eqb (numberOf (reportVerdict n e from day r)) 10 ≡ true → isOpen (r .kind) r (e .places) ≡ false
+  not-open : keeps (reportVerdict n e from day r) ≡ true → isOpen (r .kind) r (e .places) ≡ false
   unfolding any
-  not-open h = line-passed (λ v. eqb (numberOf v) 10) 8 (false, Kept) (reportTable n e from day r) Kept (lit≤ tt) refl h
+  not-open h = line-passed keeps 8 (false, Kept) (reportTable n e from day r) Kept (lit≤ tt) refl h
 
-  not-before : eqb (numberOf (reportVerdict n e from day r)) 11 ≡ true → beforeLast (r .date) (e .last) ≡ false
+  not-before : confirms (reportVerdict n e from day r) ≡ true → beforeLast (r .date) (e .last) ≡ false
   unfolding any
-  not-before h = line-passed (λ v. eqb (numberOf v) 11) 5 (false, Kept) (reportTable n e from day r) Kept (lit≤ tt) refl h
+  not-before h = line-passed confirms 5 (false, Kept) (reportTable n e from day r) Kept (lit≤ tt) refl h
 
-  partnered : eqb (numberOf (reportVerdict n e from day r)) 11 ≡ true → (partnerOpen r (e .places) || zedOpen r (e .places)) ≡ true
+  partnered : confirms (reportVerdict n e from day r) ≡ true → (partnerOpen r (e .places) || zedOpen r (e .places)) ≡ true
   unfolding any
-  partnered h = either (partnerOpen r (e .places)) (zedOpen r (e .places)) (line-applied (λ v. eqb (numberOf v) 11) (reportTable n e from day r) Kept refl h)
+  partnered h = either (partnerOpen r (e .places)) (zedOpen r (e .places)) (line-applied confirms (reportTable n e from day r) Kept refl h)
     where
       either : (a b : Bool) → (a || (b || false)) ≡ true → (a || b) ≡ true
       either true b e = refl
@@ -68,24 +83,14 @@ module _ (n : Listed) (e : Entry) (from : Code) (day : CalendarDays) (r : Report
       either false false e = e
 
 -- ---- discarded
-no-effect : (v : Verdict) (line : Line) (e : Entry) (rec : Record) (says : Says) → isDiscarded v ≡ true → effectBy v line e rec says ≡ e
-no-effect v line e rec (Reported p) h = go (eqb (numberOf v) 10) (eqb (numberOf v) 11) (eqb (numberOf v) 30) h
-  where
-    go : (s t u : Bool) → not (s || t || u) ≡ true → cond s (kept e (placedAs rec (meantBy (line .owner) p))) (cond t (confirmed e (meantBy (line .owner) p)) e) ≡ e
-    go true t u h = absurd (true≢false (sym h))
-    go false true u h = absurd (true≢false (sym h))
-    go false false u h = refl
-no-effect v line e rec (Corrected c) h = go (eqb (numberOf v) 10) (eqb (numberOf v) 11) (eqb (numberOf v) 30) h
-  where
-    go : (s t u : Bool) → not (s || t || u) ≡ true → cond u (withoutNamed e (line .owner) (c .named)) e ≡ e
-    go true t u h = absurd (true≢false (sym h))
-    go false true u h = absurd (true≢false (sym h))
-    go false false true h = absurd (true≢false (sym h))
-    go false false false h = refl
+no-effect : (line : Line) (e : Entry) (rec : Record) (says : Says) → effectBy Doing.Nothing line e rec says ≡ e
+no-effect line e rec (Reported p) = refl
+no-effect line e rec (Objected o) = refl
+no-effect line e rec Other = refl
 
-pub discarded-stays : (line : Line) (e : Entry) (rec : Record) → isDiscarded (verdictOn (With line) e rec) ≡ true → entryAfter line e rec ≡ e
+pub discarded-stays : (line : Line) (e : Entry) (rec : Record) → Discarded (verdictOn (With line) e rec) → entryAfter line e rec ≡ e
 unfolding entryAfter
-discarded-stays line e rec h = no-effect (verdictOn (With line) e rec) line e rec (rec .says) h
+discarded-stays line e rec h = ap (λ (d : Doing). effectOn d line e rec) h ∙ no-effect line e rec (rec .says)
 
 -- ---- the last confirmed date
 pub not-after-refl : (l : Last) → NotAfter l l
@@ -96,8 +101,8 @@ date-not-after : (d : CalendarDays) (l : Last) → beforeLast d l ≡ false → 
 date-not-after d Never h = tt
 date-not-after d (On l) h = ltb-false (d .0) (l .0) h
 
-last-by : (line : Line) (e : Entry) (rec : Record) (says : Says) → NotAfter (e .last) (effectBy (verdictBy (With line) e (rec .publisher) (rec .day) says) line e rec says .last)
-last-by line e rec (Reported p) = go (eqb (numberOf v) 10) (eqb (numberOf v) 11) refl
+last-by : (line : Line) (e : Entry) (rec : Record) (says : Says) → NotAfter (e .last) (effectBy (doesBy (verdictBy (With line) e (rec .publisher) (rec .day) says)) line e rec says .last)
+last-by line e rec (Reported p) = go (doesBy v) refl
   where
     r : Report
     r = meantBy (line .owner) p
@@ -105,15 +110,19 @@ last-by line e rec (Reported p) = go (eqb (numberOf v) 10) (eqb (numberOf v) 11)
     v : Verdict
     v = reportVerdict (With line) e (rec .publisher) (rec .day) r
 
-    go : (s t : Bool) → eqb (numberOf v) 11 ≡ t → NotAfter (e .last) (cond s (kept e (placedAs rec r)) (cond t (confirmed e r) e) .last)
-    go true t h = not-after-refl (e .last)
-    go false true h = date-not-after (r .date) (e .last) (not-before (With line) e (rec .publisher) (rec .day) r h)
-    go false false h = not-after-refl (e .last)
-last-by line e rec (Corrected c) = go (eqb (numberOf (verdictBy (With line) e (rec .publisher) (rec .day) (Corrected c))) 30)
+    go : (d : Doing) → doesBy v ≡ d → NotAfter (e .last) (reportEffect d e (placedAs rec r) .last)
+    go Doing.Keeps q = not-after-refl (e .last)
+    go Doing.Confirms q = date-not-after (r .date) (e .last) (not-before (With line) e (rec .publisher) (rec .day) r (confirms-by v q))
+    go Doing.Lapses q = not-after-refl (e .last)
+    go Doing.Nothing q = not-after-refl (e .last)
+last-by line e rec (Objected o) = go (doesBy (objectionVerdict (With line) e (rec .publisher) o))
   where
-    go : (t : Bool) → NotAfter (e .last) (cond t (withoutNamed e (line .owner) (c .named)) e .last)
-    go true = not-after-refl (e .last)
-    go false = not-after-refl (e .last)
+    go : (d : Doing) → NotAfter (e .last) (objectionEffect d e (line .owner) (o .named) .last)
+    go Doing.Keeps = not-after-refl (e .last)
+    go Doing.Confirms = not-after-refl (e .last)
+    go Doing.Lapses = not-after-refl (e .last)
+    go Doing.Nothing = not-after-refl (e .last)
+last-by line e rec Other = not-after-refl (e .last)
 
 pub last-stays : (line : Line) (e : Entry) (rec : Record) → NotAfter (e .last) (entryAfter line e rec .last)
 unfolding entryAfter
@@ -132,14 +141,14 @@ confirmed-tidy e r h = record {
   apart = apart-thinned (thinned-map (r .date) (e .places)) (h .apart);
 }
 
-without-tidy : (e : Entry) (owner : Code) (named : Named) → Tidy e → Tidy (withoutNamed e owner named)
+without-tidy : (e : Entry) (owner : Code) (named : Published) → Tidy e → Tidy (withoutNamed e owner named)
 without-tidy e owner named h = record {
   eight = length-set (e .places) (namedAt owner named (e .places)) freePlace ∙ h .eight;
   apart = apart-thinned (thinned-set (e .places) (namedAt owner named (e .places))) (h .apart);
 }
 
-tidy-by : (line : Line) (e : Entry) (rec : Record) (says : Says) → Tidy e → Tidy (effectBy (verdictBy (With line) e (rec .publisher) (rec .day) says) line e rec says)
-tidy-by line e rec (Reported p) h = go (eqb (numberOf v) 10) (eqb (numberOf v) 11) refl
+tidy-by : (line : Line) (e : Entry) (rec : Record) (says : Says) → Tidy e → Tidy (effectBy (doesBy (verdictBy (With line) e (rec .publisher) (rec .day) says)) line e rec says)
+tidy-by line e rec (Reported p) h = go (doesBy v) refl
   where
     r : Report
     r = meantBy (line .owner) p
@@ -147,23 +156,28 @@ tidy-by line e rec (Reported p) h = go (eqb (numberOf v) 10) (eqb (numberOf v) 1
     v : Verdict
     v = reportVerdict (With line) e (rec .publisher) (rec .day) r
 
-    go : (s t : Bool) → eqb (numberOf v) 10 ≡ s → Tidy (cond s (kept e (placedAs rec r)) (cond t (confirmed e r) e))
-    go true t s = kept-tidy e (placedAs rec r) refl (not-open (With line) e (rec .publisher) (rec .day) r s) h
-    go false true s = confirmed-tidy e r h
-    go false false s = h
-tidy-by line e rec (Corrected c) h = go (eqb (numberOf (verdictBy (With line) e (rec .publisher) (rec .day) (Corrected c))) 30)
+    go : (d : Doing) → doesBy v ≡ d → Tidy (reportEffect d e (placedAs rec r))
+    go Doing.Keeps q = kept-tidy e (placedAs rec r) refl (not-open (With line) e (rec .publisher) (rec .day) r (keeps-by v q)) h
+    go Doing.Confirms q = confirmed-tidy e r h
+    go Doing.Lapses q = h
+    go Doing.Nothing q = h
+tidy-by line e rec (Objected o) h = go (doesBy (objectionVerdict (With line) e (rec .publisher) o))
   where
-    go : (t : Bool) → Tidy (cond t (withoutNamed e (line .owner) (c .named)) e)
-    go true = without-tidy e (line .owner) (c .named) h
-    go false = h
+    go : (d : Doing) → Tidy (objectionEffect d e (line .owner) (o .named))
+    go Doing.Keeps = h
+    go Doing.Confirms = h
+    go Doing.Lapses = without-tidy e (line .owner) (o .named) h
+    go Doing.Nothing = h
+tidy-by line e rec Other h = h
 
 pub tidy-stays : (line : Line) (e : Entry) (rec : Record) → Tidy e → Tidy (entryAfter line e rec)
 unfolding entryAfter
 tidy-stays line e rec h = tidy-by line e rec (rec .says) h
 
 -- ---- the pair
-explained-by : (line : Line) (s : Standing) (rec : Record) (says : Says) → Explained line s → Explained line (record { entry = effectBy (verdictBy (With line) (s .entry) (rec .publisher) (rec .day) says) line (s .entry) rec says; why = whyBy (verdictBy (With line) (s .entry) (rec .publisher) (rec .day) says) (line .owner) (s .entry .places) (s .why) rec says })
-explained-by line s rec (Reported p) h = go (eqb (numberOf v) 10) (eqb (numberOf v) 11) refl refl
+explained-by : (line : Line) (s : Standing) (rec : Record) (says : Says) → Explained line s
+    → Explained line (record { entry = effectBy (doesBy (verdictBy (With line) (s .entry) (rec .publisher) (rec .day) says)) line (s .entry) rec says; why = whyBy (doesBy (verdictBy (With line) (s .entry) (rec .publisher) (rec .day) says)) (line .owner) (s .entry .places) (s .why) rec says })
+explained-by line s rec (Reported p) h = go (doesBy v) refl
   where
     r : Report
     r = meantBy (line .owner) p
@@ -174,21 +188,21 @@ explained-by line s rec (Reported p) h = go (eqb (numberOf v) 10) (eqb (numberOf
     v : Verdict
     v = reportVerdict (With line) e (rec .publisher) (rec .day) r
 
-    partner : Place
-    partner = getD (e .places) (partnerAt r (e .places)) freePlace
-
-    go : (a b : Bool) → eqb (numberOf v) 10 ≡ a → eqb (numberOf v) 11 ≡ b → Explained line (record { entry = cond a (kept e (placedAs rec r)) (cond b (confirmed e r) e); why = cond b (Pair partner (placedAs rec r)) (s .why) })
-    go true true f g = absurd (not-both v f g)
-    go true false f g = record { holder = h .holder; last = h .last; pair = h .pair }
-    go false true f g =
-        let m = partner-pairs r (e .places) (partnered (With line) e (rec .publisher) (rec .day) r g) in
+    go : (d : Doing) → doesBy v ≡ d → Explained line (record { entry = reportEffect d e (placedAs rec r); why = pairAfter d (e .places) (placedAs rec r) (s .why) })
+    go Doing.Keeps q = record { holder = h .holder; last = h .last; pair = h .pair }
+    go Doing.Confirms q =
+        let m = partner-pairs r (e .places) (partnered (With line) e (rec .publisher) (rec .day) r (confirms-by v q)) in
         record { holder = refl; last = refl; pair = record { kinds = m .0; matching = m .1 } }
-    go false false f g = record { holder = h .holder; last = h .last; pair = h .pair }
-explained-by line s rec (Corrected c) h = go (eqb (numberOf (verdictBy (With line) (s .entry) (rec .publisher) (rec .day) (Corrected c))) 30)
+    go Doing.Lapses q = record { holder = h .holder; last = h .last; pair = h .pair }
+    go Doing.Nothing q = record { holder = h .holder; last = h .last; pair = h .pair }
+explained-by line s rec (Objected o) h = go (doesBy (objectionVerdict (With line) (s .entry) (rec .publisher) o))
   where
-    go : (t : Bool) → Explained line (record { entry = cond t (withoutNamed (s .entry) (line .owner) (c .named)) (s .entry); why = s .why })
-    go true = record { holder = h .holder; last = h .last; pair = h .pair }
-    go false = record { holder = h .holder; last = h .last; pair = h .pair }
+    go : (d : Doing) → Explained line (record { entry = objectionEffect d (s .entry) (line .owner) (o .named); why = s .why })
+    go Doing.Keeps = record { holder = h .holder; last = h .last; pair = h .pair }
+    go Doing.Confirms = record { holder = h .holder; last = h .last; pair = h .pair }
+    go Doing.Lapses = record { holder = h .holder; last = h .last; pair = h .pair }
+    go Doing.Nothing = record { holder = h .holder; last = h .last; pair = h .pair }
+explained-by line s rec Other h = record { holder = h .holder; last = h .last; pair = h .pair }
 
 pub explained-stays : (line : Line) (s : Standing) (rec : Record) → Explained line s → Explained line (standOn line s rec)
 unfolding standOn

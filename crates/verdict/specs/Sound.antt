@@ -1,8 +1,7 @@
 -- What holds at every point of a number's history. Assumes nothing: these are definitions.
 use mathlib.Core.Path.{_≡_}
-use mathlib.Core.Bool.{Bool, true, false, not, _||_}
+use mathlib.Core.Bool.{Bool, true, false}
 use Prim.Native.Nat.{_≤_}
-use lib.Dec.{eqb}
 use lib.ListN.{length}
 use Rattle.fields.specs.declared.code.Code.{Code}
 use Rattle.fields.specs.declared.kind.Kind.{Kind}
@@ -15,14 +14,15 @@ use Rattle.entries.specs.declared.entry.Line.{Line}
 use Rattle.verdict.specs.declared.step.Why.{Why}
 use Rattle.verdict.specs.declared.step.Why.the-variants.{Nothing, Pair}
 use Rattle.verdict.specs.declared.step.Standing.{Standing}
-use Rattle.verdict.specs.verdicts.Numbers.{numberOf}
+use Rattle.verdict.specs.declared.verdicts.Doing.{Doing}
+use Rattle.verdict.specs.verdicts.Does.{doesBy}
 use Rattle.entries.specs.Report.{byKind, matches}
 use Rattle.entries.specs.Entry.{placeCount}
 use Rattle.entries.specs.places.Places.{noTwoEqual}
 
--- a verdict that changes nothing: any other than 10, 11 and 30
-abbrev pub isDiscarded : Verdict → Bool
-isDiscarded v = not (eqb (numberOf v) 10 || eqb (numberOf v) 11 || eqb (numberOf v) 30)
+-- the record is discarded: its verdict changes nothing
+abbrev pub Discarded : Verdict → Type 0
+Discarded v = doesBy v ≡ Doing.Nothing
 
 -- the first date is not after the second; no date is before all
 abbrev pub NotAfter : Last → Last → Type 0

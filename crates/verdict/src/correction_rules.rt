@@ -1,4 +1,4 @@
-// The verdict on a correction: the first of the rules that applies.
+// The verdict on an objection, the first of the rules that applies; and on any other correction.
 use crate::verdicts::Verdict;
 use entries::entry;
 use entries::entry::Entry;
@@ -10,7 +10,8 @@ use entries::report::Published;
 use fields::code::Code;
 use fields::kind::Kind;
 ghost use mathlib.Core.Path.{_≡_};
-ghost use Rattle.verdict.specs.correction_rules.Corrections.{isAmong, isPermitted, permitsAgainst, namesOwn, namesOpen, firstOf, correctionVerdict};
+ghost use Rattle.verdict.specs.correction_rules.Corrections.{isAmong, isPermitted, namesOwn, namesOpen, objectionVerdict, otherVerdict};
+ghost use Rattle.verdict.specs.correction_rules.Code.{firstOf};
 
 // The codes that are permitted against a P and an L, and against a Z.
 pub const AGAINST_P_L: [u16; 12] = [
@@ -30,16 +31,10 @@ pub const AGAINST_P_L: [u16; 12] = [
 
 pub const AGAINST_Z: [u16; 3] = [2500, 2502, 2599];
 
-// What a correction's U part names: a whole report, or less, which its layout allows for codes other than 25XX alone.
-pub enum Named {
-    Whole(Published),
-    Less,
-}
-
-// A correction: its code, and what its U part names.
-pub struct Correction {
+// An objection: its code, 25XX, and the report that it names.
+pub struct Objection {
     pub code: u16,
-    pub named: Named,
+    pub named: Published,
 }
 
 // The code is one of these.
@@ -67,55 +62,29 @@ pub fn permitted(k: Kind, code: u16) -> bool
     }
 }
 
-// The code is permitted against the named report; against less than a report none is.
-fn permits(named: Named, code: u16) -> bool
-    ensures { λ b. ⌜ b ≡ permitsAgainst named code ⌝ }
-{
-    match named {
-        Named::Whole(p) => {
-            let k = p.kind;
-            permitted(k, code)
-        }
-        Named::Less => false,
-    }
-}
-
 // The network `by` published the named report.
-fn names_own(owner: Code, named: Named, by: Code) -> bool
+fn names_own(owner: Code, named: Published, by: Code) -> bool
     ensures { λ b. ⌜ b ≡ namesOwn owner named by ⌝ }
 {
-    match named {
-        Named::Whole(p) => {
-            let must = report::publisher(report::meant(owner, p));
-            by.0 == must.0
-        }
-        Named::Less => false,
-    }
+    let must = report::publisher(report::meant(owner, named));
+    by.0 == must.0
 }
 
 // The named report is open.
-fn names_open(owner: Code, named: Named, places: [Place; PLACES]) -> bool
+fn names_open(owner: Code, named: Published, places: [Place; PLACES]) -> bool
     ensures { λ b. ⌜ b ≡ namesOpen owner named places ⌝ }
 {
-    match named {
-        Named::Whole(p) => {
-            let r = report::meant(owner, p);
-            let k = p.kind;
-            entries::places::is_open(places, k, r)
-        }
-        Named::Less => false,
-    }
+    let r = report::meant(owner, named);
+    let k = named.kind;
+    entries::places::is_open(places, k, r)
 }
 
-// The first of the rules on corrections that applies, given which do.
-fn first_of(unknown: bool, other: bool, banned: bool, own: bool, absent: bool) -> Verdict
-    ensures { λ v. ⌜ v ≡ firstOf unknown other banned own absent ⌝ }
+// The first of the rules on objections that applies, given which do.
+fn first_of(unknown: bool, banned: bool, own: bool, absent: bool) -> Verdict
+    ensures { λ v. ⌜ v ≡ firstOf unknown banned own absent ⌝ }
 {
     if unknown {
         return Verdict::UnknownNumber;
-    }
-    if other {
-        return Verdict::OtherCode;
     }
     if banned {
         return Verdict::NotPermitted;
@@ -129,19 +98,29 @@ fn first_of(unknown: bool, other: bool, banned: bool, own: bool, absent: bool) -
     Verdict::Lapses
 }
 
-// The verdict on a correction of the network `by`.
-pub fn verdict(n: Listed, e: Entry, by: Code, c: Correction) -> Verdict
-    ensures { λ v. ⌜ v ≡ correctionVerdict n e by c ⌝ }
+// The verdict on an objection of the network `by`.
+pub fn verdict(n: Listed, e: Entry, by: Code, o: Objection) -> Verdict
+    ensures { λ v. ⌜ v ≡ objectionVerdict n e by o ⌝ }
 {
     let line = entry::line_in(n);
     let owner = line.owner;
     let places = e.places;
-    let named = c.named;
+    let named = o.named;
+    let k = named.kind;
     first_of(
         entry::is_missing(n),
-        c.code / 100 != 25,
-        !permits(named, c.code),
+        !permitted(k, o.code),
         names_own(owner, named, by),
         !names_open(owner, named, places),
     )
+}
+
+// The verdict on any other correction.
+pub fn other(n: Listed) -> Verdict
+    ensures { λ v. ⌜ v ≡ otherVerdict n ⌝ }
+{
+    if entry::is_missing(n) {
+        return Verdict::UnknownNumber;
+    }
+    Verdict::OtherCode
 }

@@ -8,11 +8,12 @@ use entries::report;
 use entries::report::Report;
 use fields::code::Code;
 ghost use mathlib.Core.Path.{_≡_};
-ghost use Rattle.verdict.specs.report_rules.Reports.{firstRule, reportVerdict};
+ghost use Rattle.laws.specs.Lists.{firstLine};
+ghost use Rattle.verdict.specs.report_rules.Reports.{reportLines, reportVerdict};
+ghost use Rattle.verdict.specs.report_rules.Code.{firstRule};
 
-// The first line of the table that applies, given which do.
+// The first of the table's own lines that applies, given which do.
 fn first_rule(
-    unknown: bool,
     stranger: bool,
     same: bool,
     early: bool,
@@ -24,13 +25,10 @@ fn first_rule(
     pair: bool,
     soon: bool,
     zed: bool,
-    full: bool,
+    otherwise: Verdict,
 ) -> Verdict
-    ensures { λ v. ⌜ v ≡ firstRule unknown stranger same early unset before equal other known pair soon zed full ⌝ }
+    ensures { λ v. ⌜ v ≡ firstRule stranger same early unset before equal other known pair soon zed otherwise ⌝ }
 {
-    if unknown {
-        return Verdict::UnknownNumber;
-    }
     if stranger {
         return Verdict::WrongPublisher;
     }
@@ -64,15 +62,19 @@ fn first_rule(
     if zed {
         return Verdict::Confirmed;
     }
-    if full {
-        return Verdict::Full;
-    }
-    Verdict::Kept
+    otherwise
 }
 
-// The verdict on a report that the network `from` published on `day`.
-pub fn verdict(n: Listed, e: Entry, from: Code, day: CalendarDays, r: Report) -> Verdict
-    ensures { λ v. ⌜ v ≡ reportVerdict n e from day r ⌝ }
+// The lines 13 to the second 11 on a report that the network `from` published on `day`; `otherwise` where none applies.
+pub fn ruled(
+    n: Listed,
+    e: Entry,
+    from: Code,
+    day: CalendarDays,
+    r: Report,
+    otherwise: Verdict,
+) -> Verdict
+    ensures { λ v. ⌜ v ≡ firstLine (reportLines n e from day r) otherwise ⌝ }
 {
     let line = entry::line_in(n);
     let places = e.places;
@@ -81,7 +83,6 @@ pub fn verdict(n: Listed, e: Entry, from: Code, day: CalendarDays, r: Report) ->
     let zed = crate::report_tests::zed_open(places, r);
     let must = report::publisher(r);
     first_rule(
-        entry::is_missing(n),
         from.0 != must.0,
         r.losing.0 == r.gaining.0,
         day.0 <= r.date.0,
@@ -93,6 +94,20 @@ pub fn verdict(n: Listed, e: Entry, from: Code, day: CalendarDays, r: Report) ->
         crate::report_tests::partner_open(places, r),
         zed & crate::report_tests::too_soon(places, day, r),
         zed,
-        entries::places::is_full(places),
+        otherwise,
     )
+}
+
+// The verdict on it.
+pub fn verdict(n: Listed, e: Entry, from: Code, day: CalendarDays, r: Report) -> Verdict
+    ensures { λ v. ⌜ v ≡ reportVerdict n e from day r ⌝ }
+{
+    if entry::is_missing(n) {
+        return Verdict::UnknownNumber;
+    }
+    let places = e.places;
+    if entries::places::is_full(places) {
+        return ruled(n, e, from, day, r, Verdict::Full);
+    }
+    ruled(n, e, from, day, r, Verdict::Kept)
 }

@@ -1,5 +1,7 @@
 // One record of a number's history: its verdict, the entry after it, and the pair that confirmed last.
-use crate::correction_rules::Correction;
+use crate::correction_rules::Objection;
+use crate::verdicts;
+use crate::verdicts::Doing;
 use crate::verdicts::Verdict;
 use calendar::dates::CalendarDays;
 use entries::entry;
@@ -13,12 +15,13 @@ use entries::report::Published;
 use entries::report::Report;
 use fields::code::Code;
 ghost use mathlib.Core.Path.{_≡_};
-ghost use Rattle.verdict.specs.Step.{placedAs, verdictOn, effectOn, stepOn, pairedIn, whyBy, standOn, firstStanding};
+ghost use Rattle.verdict.specs.Step.{placedAs, verdictOn, effectOn, stepOn, pairedIn, pairAfter, whyBy, standOn, firstStanding};
 
-// What a record says: a report, or a correction.
+// What a record says: a report, an objection, or any other correction.
 pub enum Says {
     Reported(Published),
-    Corrected(Correction),
+    Objected(Objection),
+    Other,
 }
 
 // A record that names the number: its publisher, its publication day, its place in its file, and what it says.
@@ -71,24 +74,26 @@ pub fn verdict(n: Listed, e: Entry, rec: Record) -> Verdict
             let r = report::meant(line.owner, p);
             crate::report_rules::verdict(n, e, rec.publisher, rec.day, r)
         }
-        Says::Corrected(c) => crate::correction_rules::verdict(n, e, rec.publisher, c),
+        Says::Objected(o) => crate::correction_rules::verdict(n, e, rec.publisher, o),
+        Says::Other => crate::correction_rules::other(n),
     }
 }
 
-// The entry after a record with this verdict.
-pub fn effect(v: Verdict, line: Line, e: Entry, rec: Record) -> Entry
-    ensures { λ n. ⌜ n ≡ effectOn v line e rec ⌝ }
+// The entry after a record whose verdict does this.
+pub fn effect(d: Doing, line: Line, e: Entry, rec: Record) -> Entry
+    ensures { λ n. ⌜ n ≡ effectOn d line e rec ⌝ }
 {
     let says = rec.says;
     match says {
         Says::Reported(p) => {
             let r = report::meant(line.owner, p);
-            crate::effects::reports::effect(v, e, placed(rec, r))
+            crate::effects::reports::effect(d, e, placed(rec, r))
         }
-        Says::Corrected(c) => {
-            let named = c.named;
-            crate::effects::corrections::effect(v, e, line.owner, named)
+        Says::Objected(o) => {
+            let named = o.named;
+            crate::effects::corrections::effect(d, e, line.owner, named)
         }
+        Says::Other => e,
     }
 }
 
@@ -97,7 +102,7 @@ pub fn step(line: Line, e: Entry, rec: Record) -> Outcome
     ensures { λ o. ⌜ o ≡ stepOn line e rec ⌝ }
 {
     let v = verdict(Listed::With(line), e, rec);
-    let next = effect(v, line, e, rec);
+    let next = effect(verdicts::does(v), line, e, rec);
     Outcome {
         verdict: v,
         entry: next,
@@ -115,19 +120,30 @@ fn paired(places: [Place; PLACES], second: Place) -> Why
     Why::Pair(first, second)
 }
 
-// Why, after a record with this verdict on the places before it.
-pub fn why_after(v: Verdict, owner: Code, places: [Place; PLACES], before: Why, rec: Record) -> Why
-    ensures { λ w. ⌜ w ≡ whyBy v owner places before rec (rec .says) ⌝ }
+// The pair after a report whose verdict does this.
+fn pair_after(d: Doing, places: [Place; PLACES], second: Place, before: Why) -> Why
+    ensures { λ w. ⌜ w ≡ pairAfter d places second before ⌝ }
+{
+    match d {
+        Doing::Confirms => paired(places, second),
+        Doing::Keeps => before,
+        Doing::Lapses => before,
+        Doing::Nothing => before,
+    }
+}
+
+// Why, after a record whose verdict, on the places before it, does this.
+pub fn why_after(d: Doing, owner: Code, places: [Place; PLACES], before: Why, rec: Record) -> Why
+    ensures { λ w. ⌜ w ≡ whyBy d owner places before rec (rec .says) ⌝ }
 {
     let says = rec.says;
     match says {
         Says::Reported(p) => {
-            if crate::verdicts::number(v) == 11 {
-                return paired(places, placed(rec, report::meant(owner, p)));
-            }
-            before
+            let r = report::meant(owner, p);
+            pair_after(d, places, placed(rec, r), before)
         }
-        Says::Corrected(_) => before,
+        Says::Objected(_) => before,
+        Says::Other => before,
     }
 }
 
@@ -152,7 +168,7 @@ pub fn stand(line: Line, s: Standing, rec: Record) -> Standing
     let next = o.entry;
     let before = s.why;
     let places = e.places;
-    let w = why_after(v, line.owner, places, before, rec);
+    let w = why_after(verdicts::does(v), line.owner, places, before, rec);
     Standing {
         entry: next,
         why: w,

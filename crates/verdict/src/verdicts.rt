@@ -1,6 +1,7 @@
-// The verdicts. `numberOf` in specs/verdicts gives each its number in paper 01.
+// The verdicts, and what each does. `numberOf` in specs/verdicts gives each its number in paper 01.
 ghost use mathlib.Core.Path.{_≡_};
 ghost use Rattle.verdict.specs.verdicts.Numbers.{numberOf};
+ghost use Rattle.verdict.specs.verdicts.Does.{doesBy};
 
 // What a report or a correction gets.
 pub enum Verdict {
@@ -48,4 +49,29 @@ pub fn number(v: Verdict) -> u8
         Verdict::NotOpen => 33,
         Verdict::OtherCode => 34,
     }
+}
+
+// What a verdict does: the report is kept open, or confirmed; the named report lapses; nothing changes.
+pub enum Doing {
+    Keeps,
+    Confirms,
+    Lapses,
+    Nothing,
+}
+
+// What a verdict does, by its number.
+pub fn does(v: Verdict) -> Doing
+    ensures { λ d. ⌜ d ≡ doesBy v ⌝ }
+{
+    let n = number(v);
+    if n == 10 {
+        return Doing::Keeps;
+    }
+    if n == 11 {
+        return Doing::Confirms;
+    }
+    if n == 30 {
+        return Doing::Lapses;
+    }
+    Doing::Nothing
 }

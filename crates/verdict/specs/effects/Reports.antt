@@ -1,10 +1,10 @@
 -- What the verdict on a report does (paper 01, "Verdicts on reports"). Assumes nothing: these are definitions.
 use mathlib.Core.List.{List, [], _∷_, map}
 use Prim.Native.Nat.{ℕ}
-use lib.Dec.{eqb}
 use Rattle.laws.specs.Lists.{firstLine}
 use Rattle.fields.specs.declared.kind.Kind.the-variants.{P, L, Z}
-use Rattle.verdict.specs.declared.verdicts.Verdict.{Verdict}
+use Rattle.verdict.specs.declared.verdicts.Doing.{Doing}
+use Rattle.verdict.specs.declared.verdicts.Doing.the-variants.{Keeps, Confirms, Lapses, Nothing}
 use Rattle.entries.specs.declared.report.Report.{Report}
 use Rattle.entries.specs.declared.entry.Place.{Place}
 use Rattle.entries.specs.declared.entry.Entry.{Entry}
@@ -12,7 +12,6 @@ use Rattle.entries.specs.declared.entry.Last.the-variants.{On}
 use Rattle.entries.specs.Report.{byKind}
 use Rattle.entries.specs.Entry.{placeCount}
 use Rattle.entries.specs.places.Places.{isOpen, placeOf, keptIn, lapsed}
-use Rattle.verdict.specs.verdicts.Numbers.{numberOf}
 
 -- 11: the holder is the gaining network and the last confirmed date the porting date; every open report with that date or an older one lapses
 abbrev pub confirmed : Entry → Report → Entry
@@ -22,9 +21,12 @@ confirmed e r = record { holder = r .gaining; last = On (r .date); places = map 
 abbrev pub kept : Entry → Place → Entry
 kept e p = record { holder = e .holder; last = e .last; places = keptIn (e .places) p }
 
--- what a verdict on the report in `p` does to the entry: no other than 10 and 11 changes anything
-abbrev pub reportEffect : Verdict → Entry → Place → Entry
-reportEffect v e p = firstLine ((eqb (numberOf v) 10, kept e p) ∷ (eqb (numberOf v) 11, confirmed e (p .report)) ∷ []) e
+-- what the verdict on the report in `p` does to the entry
+abbrev pub reportEffect : Doing → Entry → Place → Entry
+reportEffect Keeps e p = kept e p
+reportEffect Confirms e p = confirmed e (p .report)
+reportEffect Lapses e p = e
+reportEffect Nothing e p = e
 
 -- the place of the open report that a confirmed one makes a pair with: of an L or else of a Z for a P, of a P for an L
 abbrev pub partnerAt : Report → List Place → ℕ

@@ -1,6 +1,6 @@
 -- The verdict on a report (paper 01, "Verdicts on reports"), as its table has it. Assumes nothing: these are definitions.
 use mathlib.Core.Bool.{Bool, not, _&&_}
-use mathlib.Core.List.{List, [], _∷_}
+use mathlib.Core.List.{List, [], _∷_, _++_}
 use lib.Dec.{leb, ltb}
 use Rattle.laws.specs.Lists.{firstLine}
 use Rattle.calendar.specs.declared.dates.CalendarDays.{CalendarDays}
@@ -15,11 +15,16 @@ use Rattle.entries.specs.Entry.{isMissing, lineIn}
 use Rattle.entries.specs.places.Places.{isOpen, isFull}
 use Rattle.verdict.specs.report_tests.Tests.{beforeLast, equalsLast, toOther, partnerOpen, zedOpen, tooSoon}
 
--- The table, line by line. `n` is what the number table has for the number, `e` its entry, `from` the publisher, `day` the publication day.
-abbrev pub reportTable : Listed → Entry → Code → CalendarDays → Report → List (Bool × Verdict)
-reportTable n e from day r =
-    (isMissing n, UnknownNumber)  -- 12
-    ∷ (not (sameCode from (publisherOf r)), WrongPublisher)  -- 13
+-- The table in three pieces, line by line. `n` is what the number table has for the number, `e` its entry, `from` the publisher, `day` the publication
+-- day.
+
+-- what is asked of every record first
+abbrev pub unknownLine : Listed → List (Bool × Verdict)
+unknownLine n = (isMissing n, UnknownNumber) ∷ []  -- 12
+
+abbrev pub reportLines : Listed → Entry → Code → CalendarDays → Report → List (Bool × Verdict)
+reportLines n e from day r =
+    (not (sameCode from (publisherOf r)), WrongPublisher)  -- 13
     ∷ (sameCode (r .losing) (r .gaining), SameNetworks)  -- 14
     ∷ (leb (day .0) (r .date .0), NotBeforePublication)  -- 15
     ∷ (ltb (r .date .0) (lineIn n .setup .0), BeforeSetUp)  -- 16
@@ -30,29 +35,15 @@ reportTable n e from day r =
     ∷ (partnerOpen r (e .places), Confirmed)  -- 11
     ∷ (zedOpen r (e .places) && tooSoon day r (e .places), TooSoon)  -- 21
     ∷ (zedOpen r (e .places), Confirmed)  -- 11
-    ∷ (isFull (e .places), Full)  -- 22
     ∷ []
+
+-- there is a place to keep it in
+abbrev pub fullLine : Entry → List (Bool × Verdict)
+fullLine e = (isFull (e .places), Full) ∷ []  -- 22
+
+abbrev pub reportTable : Listed → Entry → Code → CalendarDays → Report → List (Bool × Verdict)
+reportTable n e from day r = unknownLine n ++ (reportLines n e from day r ++ fullLine e)
 
 -- the first line that applies gives the verdict; where none does it is 10
 abbrev pub reportVerdict : Listed → Entry → Code → CalendarDays → Report → Verdict
 reportVerdict n e from day r = firstLine (reportTable n e from day r) Kept
-
--- the same table over the answers to its questions
-abbrev pub firstRule : Bool → Bool → Bool → Bool → Bool → Bool → Bool → Bool → Bool → Bool → Bool → Bool → Bool → Verdict
-firstRule unknown stranger same early unset before equal other known pair soon zed full =
-    firstLine
-    ((unknown, UnknownNumber)
-    ∷ (stranger, WrongPublisher)
-    ∷ (same, SameNetworks)
-    ∷ (early, NotBeforePublication)
-    ∷ (unset, BeforeSetUp)
-    ∷ (before, BeforeLast)
-    ∷ (equal, EqualsLast)
-    ∷ (other, NotToOwner)
-    ∷ (known, AlreadyOpen)
-    ∷ (pair, Confirmed)
-    ∷ (soon, TooSoon)
-    ∷ (zed, Confirmed)
-    ∷ (full, Full)
-    ∷ [])
-    Kept

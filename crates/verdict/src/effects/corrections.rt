@@ -1,30 +1,25 @@
-// The entry after a correction.
-use crate::correction_rules::Named;
-use crate::verdicts::Verdict;
+// The entry after an objection.
+use crate::verdicts::Doing;
 use entries::entry::Entry;
 use entries::entry::PLACES;
 use entries::entry::Place;
 use entries::report;
+use entries::report::Published;
 use fields::code::Code;
 ghost use mathlib.Core.Path.{_≡_};
-ghost use Rattle.verdict.specs.effects.Corrections.{namedAt, withoutNamed, correctionEffect};
+ghost use Rattle.verdict.specs.effects.Corrections.{namedAt, withoutNamed, objectionEffect};
 
 // The place at which the named report is open, or the number of places.
-fn named_at(owner: Code, named: Named, places: [Place; PLACES]) -> usize
+fn named_at(owner: Code, named: Published, places: [Place; PLACES]) -> usize
     ensures { λ i. ⌜ i ≡ namedAt owner named places ⌝ }
 {
-    match named {
-        Named::Whole(p) => {
-            let r = report::meant(owner, p);
-            let k = p.kind;
-            entries::places::place_of(places, k, r)
-        }
-        Named::Less => PLACES,
-    }
+    let r = report::meant(owner, named);
+    let k = named.kind;
+    entries::places::place_of(places, k, r)
 }
 
 // The named report lapses.
-fn without_named(e: Entry, owner: Code, named: Named) -> Entry
+fn without_named(e: Entry, owner: Code, named: Published) -> Entry
     ensures { λ n. ⌜ n ≡ withoutNamed e owner named ⌝ }
 {
     let places = e.places;
@@ -38,13 +33,14 @@ fn without_named(e: Entry, owner: Code, named: Named) -> Entry
     }
 }
 
-// The entry after a correction with this verdict: at 30 the named report lapses, and no other changes anything.
-pub fn effect(v: Verdict, e: Entry, owner: Code, named: Named) -> Entry
-    ensures { λ n. ⌜ n ≡ correctionEffect v e owner named ⌝ }
+// The entry after an objection whose verdict does this.
+pub fn effect(d: Doing, e: Entry, owner: Code, named: Published) -> Entry
+    ensures { λ n. ⌜ n ≡ objectionEffect d e owner named ⌝ }
 {
-    let n = crate::verdicts::number(v);
-    if n == 30 {
-        return without_named(e, owner, named);
+    match d {
+        Doing::Lapses => without_named(e, owner, named),
+        Doing::Keeps => e,
+        Doing::Confirms => e,
+        Doing::Nothing => e,
     }
-    e
 }

@@ -1,5 +1,5 @@
 // The entry after a report, and the place of the open report that a confirmed one makes a pair with.
-use crate::verdicts::Verdict;
+use crate::verdicts::Doing;
 use entries::entry::Entry;
 use entries::entry::Last;
 use entries::entry::PLACES;
@@ -39,18 +39,16 @@ fn confirm(e: Entry, r: Report) -> Entry
     }
 }
 
-// The entry after a report with this verdict: 10 keeps it open, 11 confirms it, and no other changes anything.
-pub fn effect(v: Verdict, e: Entry, p: Place) -> Entry
-    ensures { λ n. ⌜ n ≡ reportEffect v e p ⌝ }
+// The entry after a report whose verdict does this.
+pub fn effect(d: Doing, e: Entry, p: Place) -> Entry
+    ensures { λ n. ⌜ n ≡ reportEffect d e p ⌝ }
 {
-    let n = crate::verdicts::number(v);
-    if n == 10 {
-        return keep(e, p);
+    match d {
+        Doing::Keeps => keep(e, p),
+        Doing::Confirms => confirm(e, p.report),
+        Doing::Lapses => e,
+        Doing::Nothing => e,
     }
-    if n == 11 {
-        return confirm(e, p.report);
-    }
-    e
 }
 
 // The place of the open report that a confirmed one makes a pair with.

@@ -9,8 +9,8 @@ line-in-requires c κs = search needs
 is-missing-requires : tie.Need-is-missing-requires
 is-missing-requires c κs = search needs
 
-permits-requires : tie.Need-permits-requires
-permits-requires c κs = search needs
+permitted-requires : tie.Need-permitted-requires
+permitted-requires c κs = search needs
 
 names-own-requires : tie.Need-names-own-requires
 names-own-requires c κs = search needs
@@ -22,7 +22,7 @@ first-of-requires : tie.Need-first-of-requires
 first-of-requires c κs = search needs
 
 returns : tie.Need-returns
-returns c = rw (c .first-of .ensures, c .before .names-open .ensures, c .before .before .names-own .ensures, c .before .before .before .permits .ensures, c .before .before .before .before .before .is-missing .ensures, c .before .before .before .before .before .before .before .before .line-in .ensures)
+returns c = rw (c .first-of .ensures, c .before .names-open .ensures, c .before .before .names-own .ensures, c .before .before .before .permitted .ensures, c .before .before .before .before .is-missing .ensures, c .before .before .before .before .before .before .before .before .line-in .ensures)
 
 pub verdict-spec : {M : Type 1} → statement M
 verdict-spec =
@@ -30,7 +30,7 @@ verdict-spec =
     (tie.spec
     line-in-requires
     is-missing-requires
-    permits-requires
+    permitted-requires
     names-own-requires
     names-open-requires
     first-of-requires

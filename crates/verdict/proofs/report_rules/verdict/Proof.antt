@@ -1,79 +1,39 @@
--- `verdict::report_rules::verdict` meets its contract: the answers that `first_rule` is given are the table's questions, by the callees' contracts. Assumes nothing.
+-- `verdict::report_rules::verdict` meets its contract: a line that applies gives the verdict, and the others are the callee's. Assumes nothing.
+use mathlib.Core.Path.{_∙_, sym}
+use Rattle.laws.proofs.Tests.{applies}
 use borrow.Author.Needs.{needs}
 use Rattle.verdict.proofs.report_rules.verdict.Statement.{statement}
 use Rattle.verdict.proofs.report_rules.verdict.Tie as tie
 
-line-in-requires : tie.Need-line-in-requires
-line-in-requires c κs = search needs
-
-zed-open-requires : tie.Need-zed-open-requires
-zed-open-requires c κs = search needs
-
-publisher-requires : tie.Need-publisher-requires
-publisher-requires c κs = search needs
-
 is-missing-requires : tie.Need-is-missing-requires
 is-missing-requires c κs = search needs
 
-before-last-requires : tie.Need-before-last-requires
-before-last-requires c κs = search needs
-
-equals-last-requires : tie.Need-equals-last-requires
-equals-last-requires c κs = search needs
-
-to-other-requires : tie.Need-to-other-requires
-to-other-requires c κs = search needs
-
-is-open-requires : tie.Need-is-open-requires
-is-open-requires c κs = search needs
-
-partner-open-requires : tie.Need-partner-open-requires
-partner-open-requires c κs = search needs
-
-too-soon-requires : tie.Need-too-soon-requires
-too-soon-requires c κs = search needs
+returns : tie.Need-returns
+returns c = applies _ _ _ (sym (c .before .is-missing .ensures) ∙ c .if1 .taken)
 
 is-full-requires : tie.Need-is-full-requires
 is-full-requires c κs = search needs
 
-first-rule-requires : tie.Need-first-rule-requires
-first-rule-requires c κs = search needs
+ruled-requires : tie.Need-ruled-requires
+ruled-requires c κs = search needs
 
-returns : tie.Need-returns
-returns c =
-    let f = c .before in
-    let o = f .before .before .before in
-    let b = o .before .before .before in
-    let m = b .before .before .before .before .before .before .before .before in
-    rw (
-      c .first-rule .ensures,
-      f .is-full .ensures,
-      f .before .too-soon .ensures,
-      f .before .before .partner-open .ensures,
-      o .is-open .ensures,
-      o .before .to-other .ensures,
-      o .before .before .equals-last .ensures,
-      b .before-last .ensures,
-      m .is-missing .ensures,
-      m .before .publisher .ensures,
-      m .before .before .zed-open .ensures,
-      m .before .before .before .before .line-in .ensures,
-    )
+returns-2 : tie.Need-returns-2
+returns-2 c = rw (c .ruled .ensures, sym (c .before .before .before .before .before .is-missing .ensures) ∙ c .before .before .before .before .if1 .left, sym (c .before .before .is-full .ensures) ∙ c .before .if2 .taken)
+
+ruled-requires-2 : tie.Need-ruled-requires-2
+ruled-requires-2 c κs = search needs
+
+returns-3 : tie.Need-returns-3
+returns-3 c = rw (c .ruled2 .ensures, sym (c .before .before .before .before .before .is-missing .ensures) ∙ c .before .before .before .before .if1 .left, sym (c .before .before .is-full .ensures) ∙ c .before .if2 .left)
 
 pub verdict-spec : {M : Type 1} → statement M
 verdict-spec =
     tie.close
     (tie.spec
-    line-in-requires
-    zed-open-requires
-    publisher-requires
     is-missing-requires
-    before-last-requires
-    equals-last-requires
-    to-other-requires
-    is-open-requires
-    partner-open-requires
-    too-soon-requires
+    returns
     is-full-requires
-    first-rule-requires
-    returns)
+    ruled-requires
+    returns-2
+    ruled-requires-2
+    returns-3)

@@ -21,11 +21,17 @@ enum-known-says-2 c = search needs
 effect-requires-2 : tie.Need-effect-requires-2
 effect-requires-2 c κs = search needs
 
+enum-told : tie.Need-enum-told
+enum-told c = search needs
+
 returns : tie.Need-returns
 returns c = rw (c .before .before .before .before .says .given .1, c .effect .ensures, c .before .placed .ensures, c .before .before .meant .ensures)
 
 returns-2 : tie.Need-returns-2
-returns-2 c = rw (c .before .before .says2 .given .1, c .effect2 .ensures)
+returns-2 c = rw (c .before .before .before .says2 .given .1, c .effect2 .ensures)
+
+returns-3 : tie.Need-returns-3
+returns-3 c = rw (c .enum-told .given .1)
 
 pub effect-spec : {M : Type 1} → statement M
 effect-spec =
@@ -37,5 +43,7 @@ effect-spec =
     effect-requires
     enum-known-says-2
     effect-requires-2
+    enum-told
     returns
-    returns-2)
+    returns-2
+    returns-3)

@@ -1,20 +1,45 @@
--- `verdict::effects::corrections::effect` meets its contract: each return is found by a search over the laws on tables of rules (`laws`). Assumes nothing.
-use Rattle.laws.proofs.Tests.{rules}
+-- `verdict::effects::corrections::effect` meets its contract: the arm's equation, and the callee's contract. Assumes nothing.
 use borrow.Author.Needs.{needs}
 use Rattle.verdict.proofs.effects.corrections.effect.Statement.{statement}
 use Rattle.verdict.proofs.effects.corrections.effect.Tie as tie
 
-number-requires : tie.Need-number-requires
-number-requires c κs = search needs
+enum-told : tie.Need-enum-told
+enum-told c = search needs
 
 without-named-requires : tie.Need-without-named-requires
 without-named-requires c κs = search needs
 
+enum-told-2 : tie.Need-enum-told-2
+enum-told-2 c = search needs
+
+enum-told-3 : tie.Need-enum-told-3
+enum-told-3 c = search needs
+
+enum-told-4 : tie.Need-enum-told-4
+enum-told-4 c = search needs
+
 returns : tie.Need-returns
-returns c = rw (c .without-named .ensures) (search rules depth 5)
+returns c = rw (c .before .enum-told .given .1, c .without-named .ensures)
 
 returns-2 : tie.Need-returns-2
-returns-2 c = search rules depth 5
+returns-2 c = search needs
+
+returns-3 : tie.Need-returns-3
+returns-3 c = search needs
+
+returns-4 : tie.Need-returns-4
+returns-4 c = search needs
 
 pub effect-spec : {M : Type 1} → statement M
-effect-spec = tie.close (tie.spec number-requires without-named-requires returns returns-2)
+effect-spec =
+    tie.close
+    (tie.spec
+    enum-told
+    without-named-requires
+    enum-told-2
+    enum-told-3
+    enum-told-4
+    returns
+    returns-2
+    returns-3
+    returns-4)
