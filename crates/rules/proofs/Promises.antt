@@ -23,7 +23,7 @@ use Rattle.entries.specs.Entry.{firstEntry}
 use Rattle.verdict.specs.declared.step.Standing.{Standing}
 use Rattle.entries.specs.declared.entry.Listed.the-variants.{Missing}
 use Rattle.verdict.specs.declared.step.Says.{Says}
-use Rattle.verdict.specs.declared.step.Says.the-variants.{Reported, Corrected}
+use Rattle.verdict.specs.declared.step.Says.the-variants.{Reported, Objected, Other}
 use Rattle.verdict.specs.verdicts.Numbers.{numberOf}
 use Rattle.verdict.specs.Step.{verdictBy, verdictOn, entryAfter, firstStanding, standOn}
 use Rattle.model.specs.Rules.{TableLine, Event}
@@ -81,4 +81,5 @@ unknown-number entry e = go (saysIn (e .kind) (e .bytes))
   where
     go : (says : Says) → numberOf (verdictBy Missing entry (record { 0 = e .publisher }) (record { 0 = e .day }) says) ≡ 12
     go (Reported p) = refl
-    go (Corrected c) = refl
+    go (Objected o) = refl
+    go Other = refl

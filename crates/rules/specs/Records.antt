@@ -1,6 +1,7 @@
 -- What the bytes of a record say: the number that it names, its class within a day, and what the verdicts take. Each is total: bytes that
--- are no record of their kind name no number, come behind the others of their kind, and say nothing. Assumes nothing: these are definitions.
+-- are no record of their kind name no number, come behind the others of their kind, and say what no rule knows. Assumes nothing: these are definitions.
 use Prim.Native.Nat.{ℕ, zero, suc, _+_}
+use mathlib.Core.Bool.{cond}
 use mathlib.Core.List.{List}
 use lib.ListN.{drop}
 use Rattle.laws.specs.Split.{pieceOf}
@@ -8,6 +9,7 @@ use Rattle.fields.specs.declared.kind.Kind.{Kind}
 use Rattle.fields.specs.declared.number.DigitsRead.{DigitsRead}
 use Rattle.fields.specs.declared.number.Number.{Number}
 use Rattle.fields.specs.Number.{digitsFieldOf}
+use Rattle.fields.specs.CorrectionCode.{isObjection}
 use Rattle.layout.specs.declared.report.Report.{Report}
 use Rattle.layout.specs.declared.report.ReportRead.{ReportRead}
 use Rattle.layout.specs.declared.correction.CorrectionRead.{CorrectionRead}
@@ -15,11 +17,8 @@ use Rattle.layout.specs.Report.{reportOf, wholeOf}
 use Rattle.layout.specs.Correction.{correctionOf, namedNumber}
 use Rattle.entries.specs.declared.report.Published.{Published}
 use Rattle.entries.specs.Report.{byKind}
-use Rattle.verdict.specs.declared.correction_rules.Named.{Named}
-use Rattle.verdict.specs.declared.correction_rules.Named.the-variants.{Whole, Less}
-use Rattle.verdict.specs.declared.correction_rules.Correction.{Correction}
 use Rattle.verdict.specs.declared.step.Says.{Says}
-use Rattle.verdict.specs.declared.step.Says.the-variants.{Reported, Corrected}
+use Rattle.verdict.specs.declared.step.Says.the-variants.{Reported, Objected, Other}
 
 -- ---- the number
 
@@ -75,24 +74,21 @@ classIn (suc (suc kind)) bytes = 100 + kind
 abbrev pub publishedBy : Report → Published
 publishedBy r = record { kind = r .kind; date = r .date; losing = r .losing; gaining = r .gaining }
 
--- what a U part names
-abbrev pub namedBy : ReportRead → Named
-namedBy (ReportRead.Report r) = Whole (publishedBy r)
-namedBy ReportRead.Fault = Less
-
--- a correction that changes nothing, whatever it finds
-abbrev pub nothing : Says
-nothing = Corrected (record { code = 0; named = Less })
-
 abbrev pub reported : ReportRead → Says
 reported (ReportRead.Report r) = Reported (publishedBy r)
-reported ReportRead.Fault = nothing
+reported ReportRead.Fault = Other
 
+-- an objection with this code, against the report of its U part
+abbrev pub objected : ℕ → ReportRead → Says
+objected code (ReportRead.Report r) = Objected (record { code = code; named = publishedBy r })
+objected code ReportRead.Fault = Other
+
+-- a correction: 25XX is an objection
 abbrev pub corrected : CorrectionRead → Says
-corrected (CorrectionRead.Correction c) = Corrected (record { code = c .code .0; named = namedBy (wholeOf (c .u)) })
-corrected CorrectionRead.Fault = nothing
+corrected (CorrectionRead.Correction c) = cond (isObjection (c .code)) (objected (c .code .0) (wholeOf (c .u))) Other
+corrected CorrectionRead.Fault = Other
 
 unfoldable pub saysIn : ℕ → List ℕ → Says
 saysIn zero bytes = reported (reportOf bytes)
 saysIn (suc zero) bytes = corrected (correctionOf bytes)
-saysIn (suc (suc kind)) bytes = nothing
+saysIn (suc (suc kind)) bytes = Other

@@ -6,8 +6,7 @@ use fields::number::Number;
 use layout::correction::CorrectionRead;
 use layout::report::Report;
 use layout::report::ReportRead;
-use verdict::correction_rules::Correction;
-use verdict::correction_rules::Named;
+use verdict::correction_rules::Objection;
 use verdict::step::Says;
 ghost use mathlib.Core.Path.{_≡_};
 ghost use mathlib.Core.Bool.{cond};
@@ -18,8 +17,7 @@ ghost use Rattle.laws.specs.Split.{pieceOf};
 ghost use Rattle.fields.specs.Number.{digitsFieldOf};
 ghost use Rattle.layout.specs.Report.{reportOf};
 ghost use Rattle.layout.specs.Correction.{correctionOf};
-ghost use Rattle.verdict.specs.declared.step.Says.the-variants.{Corrected};
-ghost use Rattle.rules.specs.Records.{noNumber, numberInReport, numberInCorrection, numberIn, fieldDigits, firstIn, classOfKind, classOfReport, classIn, publishedBy, namedBy, nothing, reported, corrected, saysIn};
+ghost use Rattle.rules.specs.Records.{noNumber, numberInReport, numberInCorrection, numberIn, fieldDigits, firstIn, classOfKind, classOfReport, classIn, publishedBy, reported, objected, corrected, saysIn};
 
 // No record of a file names it.
 fn no_number() -> Number
@@ -187,48 +185,31 @@ fn published(r: Report) -> Published
     }
 }
 
-// What a U part names.
-fn named(read: ReportRead) -> Named
-    ensures { λ n. ⌜ n ≡ namedBy read ⌝ }
-{
-    match read {
-        ReportRead::Report(r) => Named::Whole(published(r)),
-        ReportRead::Fault => Named::Less,
-    }
-}
-
-// A correction that changes nothing.
-fn says_nothing() -> Says
-    ensures { λ s. ⌜ s ≡ nothing ⌝ }
-{
-    let less = Named::Less;
-    let c = Correction {
-        code: 0,
-        named: less,
-    };
-    Says::Corrected(c)
-}
-
 fn says_report(bytes: &[u8]) -> Says
     ensures { λ s. ⌜ s ≡ reported (reportOf (now (bytes .entry))) ⌝ }
 {
     let read = Report::read(bytes);
     match read {
         ReportRead::Report(r) => Says::Reported(published(r)),
-        ReportRead::Fault => says_nothing(),
+        ReportRead::Fault => Says::Other,
     }
 }
 
-// What a correction with this code and this U part says.
-fn says_of(code: u16, read: ReportRead) -> Says
-    ensures { λ s. ⌜ s ≡ Corrected (record { code = code; named = namedBy read }) ⌝ }
+// What an objection with this code says against the report of its U part.
+fn says_objection(code: u16, read: ReportRead) -> Says
+    ensures { λ s. ⌜ s ≡ objected code read ⌝ }
 {
-    let n = named(read);
-    let c = Correction {
-        code: code,
-        named: n,
-    };
-    Says::Corrected(c)
+    match read {
+        ReportRead::Report(r) => {
+            let named = published(r);
+            let o = Objection {
+                code: code,
+                named: named,
+            };
+            Says::Objected(o)
+        }
+        ReportRead::Fault => Says::Other,
+    }
 }
 
 fn says_correction(bytes: &[u8]) -> Says
@@ -238,9 +219,12 @@ fn says_correction(bytes: &[u8]) -> Says
     match read {
         CorrectionRead::Correction(c) => {
             let code = c.code;
-            says_of(code.0, c.named_report())
+            if code.is_objection() {
+                return says_objection(code.0, c.named_report());
+            }
+            Says::Other
         }
-        CorrectionRead::Fault => says_nothing(),
+        CorrectionRead::Fault => Says::Other,
     }
 }
 
@@ -254,5 +238,5 @@ pub fn says_in(kind: u8, bytes: &[u8]) -> Says
     if kind == 1 {
         return says_correction(bytes);
     }
-    says_nothing()
+    Says::Other
 }

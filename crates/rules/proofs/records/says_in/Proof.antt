@@ -19,20 +19,11 @@ returns-2 : tie.Need-returns-2
 unfolding saysIn
 returns-2 c = rw (c .before .if2 .taken, c .says-correction .ensures)
 
-says-nothing-requires : tie.Need-says-nothing-requires
-says-nothing-requires c κs = search needs
-
 returns-3 : tie.Need-returns-3
 unfolding saysIn
-returns-3 c = rw (beyond (c .before .before .before .before .args .kind) (c .before .before .if1 .left) (c .before .if2 .left) .1, c .says-nothing .ensures)
+returns-3 c = rw (beyond (c .before .before .before .args .kind) (c .before .if1 .left) (c .if2 .left) .1)
 
 pub says-in-spec : {M : Type 1} → statement M
 says-in-spec =
     tie.close
-    (tie.spec
-    says-report-requires
-    returns
-    says-correction-requires
-    returns-2
-    says-nothing-requires
-    returns-3)
+    (tie.spec says-report-requires returns says-correction-requires returns-2 returns-3)

@@ -16,23 +16,13 @@ published-requires c κs = search needs
 enum-told : tie.Need-enum-told
 enum-told c = search needs
 
-says-nothing-requires : tie.Need-says-nothing-requires
-says-nothing-requires c κs = search needs
-
 returns : tie.Need-returns
 returns c = rw (sym (c .before .before .before .before .read .ensures) ∙ c .before .before .read2 .given .1, c .published .ensures)
 
 returns-2 : tie.Need-returns-2
-returns-2 c = rw (sym (c .before .before .before .read .ensures) ∙ c .before .enum-told .given .1, c .says-nothing .ensures)
+returns-2 c = rw (sym (c .before .before .read .ensures) ∙ c .enum-told .given .1)
 
 pub says-report-spec : {M : Type 1} → statement M
 says-report-spec =
     tie.close
-    (tie.spec
-    read-requires
-    enum-known-read
-    published-requires
-    enum-told
-    says-nothing-requires
-    returns
-    returns-2)
+    (tie.spec read-requires enum-known-read published-requires enum-told returns returns-2)
