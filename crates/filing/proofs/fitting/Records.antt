@@ -1,7 +1,7 @@
 -- What is read is in range, whatever the bytes are. Assumes nothing.
 --     says-fine       what the bytes of a record say
 use mathlib.Core.Path.{_≡_, refl}
-use mathlib.Core.Bool.{Bool, true, not, _&&_}
+use mathlib.Core.Bool.{Bool, true, false, cond, not, _&&_}
 use mathlib.Core.List.{List}
 use Prim.Native.Nat.{ℕ, zero, suc}
 use borrow.Author.Tests.{leb-true}
@@ -13,15 +13,17 @@ use Rattle.fields.specs.declared.date.MaybeDate.{MaybeDate}
 use Rattle.fields.specs.Code.{maybeCodeFits}
 use Rattle.fields.specs.Date.{maybeDateFits}
 use Rattle.fields.specs.Gaining.{gainingField}
+use Rattle.fields.specs.CorrectionCode.{isObjection}
 use Rattle.fields.specs.Number.{isEmpty, numberFits}
 use Rattle.layout.specs.declared.report.Report.{Report}
 use Rattle.layout.specs.declared.report.ReportRead.{ReportRead}
 use Rattle.layout.specs.declared.correction.CorrectionRead.{CorrectionRead}
 use Rattle.layout.specs.Part.{partFits}
-use Rattle.layout.specs.Report.{reportOf, reportFits, isNamed}
+use Rattle.layout.specs.Report.{reportOf, wholeOf, reportFits, isNamed}
 use Rattle.layout.specs.Correction.{correctionOf}
 use Rattle.layout.proofs.ReportLaws.{report-back}
-use Rattle.rules.specs.Records.{publishedBy, reported, corrected, saysIn}
+use Rattle.verdict.specs.declared.step.Says.the-variants.{Other}
+use Rattle.rules.specs.Records.{publishedBy, reported, objected, corrected, saysIn}
 use Rattle.filing.proofs.fitting.Steps.{FineGaining, FinePublished, FineSays}
 
 gaining-fine : (g : Gaining) → maybeCodeFits (gainingField g) ≡ true → FineGaining g
@@ -58,8 +60,16 @@ report-fine s = go (reportOf s) refl
     go (ReportRead.Report r) e = published-fine r (report-back s r e .1)
     go ReportRead.Fault e = tt
 
+objection-fine : (code : ℕ) (t : ReportRead) → FineSays (objected code t)
+objection-fine code (ReportRead.Report r) = tt
+objection-fine code ReportRead.Fault = tt
+
 correction-fine : (t : CorrectionRead) → FineSays (corrected t)
-correction-fine (CorrectionRead.Correction c) = tt
+correction-fine (CorrectionRead.Correction c) = go (isObjection (c .code))
+  where
+    go : (b : Bool) → FineSays (cond b (objected (c .code .0) (wholeOf (c .u))) Other)
+    go true = objection-fine (c .code .0) (wholeOf (c .u))
+    go false = tt
 correction-fine CorrectionRead.Fault = tt
 
 -- the kinds of file: 0 default, 1 correction

@@ -7,7 +7,7 @@ use mathlib.Core.List.{List, [], _∷_, map, foldl, List·Memᴰ, List·Memᴰ·
 use Prim.Native.Nat.{ℕ, _≤_, _<_}
 use native.Mathlib.Decide.{ℕ-discrete}
 use native.Mathlib.Omega.{arith}
-use lib.Dec.{eqb, leb, lit≤, lit<}
+use lib.Dec.{leb, lit≤, lit<}
 use lib.ListN.{length, getD, set, length-set, length-map, List·getD-map}
 use lib.Seq.{getD-set-same, getD-set-other}
 use Rattle.calendar.specs.declared.dates.CalendarDays.{CalendarDays}
@@ -23,14 +23,13 @@ use Rattle.entries.specs.declared.entry.Listed.the-variants.{With}
 use Rattle.entries.specs.Report.{gainingOf, meantBy}
 use Rattle.entries.specs.Entry.{freePlace}
 use Rattle.entries.specs.places.Places.{lowestFree, lapsed}
-use Rattle.verdict.specs.declared.verdicts.Verdict.{Verdict}
-use Rattle.verdict.specs.declared.correction_rules.Named.{Named}
+use Rattle.verdict.specs.declared.verdicts.Doing.{Doing}
 use Rattle.verdict.specs.declared.step.Says.{Says}
-use Rattle.verdict.specs.declared.step.Says.the-variants.{Reported, Corrected}
+use Rattle.verdict.specs.declared.step.Says.the-variants.{Reported, Objected, Other}
 use Rattle.verdict.specs.declared.step.Record.{Record}
-use Rattle.verdict.specs.verdicts.Numbers.{numberOf}
-use Rattle.verdict.specs.effects.Reports.{kept, confirmed}
-use Rattle.verdict.specs.effects.Corrections.{namedAt, withoutNamed}
+use Rattle.verdict.specs.verdicts.Does.{doesBy}
+use Rattle.verdict.specs.effects.Reports.{kept, confirmed, reportEffect}
+use Rattle.verdict.specs.effects.Corrections.{namedAt, withoutNamed, objectionEffect}
 use Rattle.verdict.specs.Step.{placedAs, verdictOn, effectBy, entryAfter}
 use Rattle.store.proofs.entry_slots.Back.{FinePlace, FineEntry, first-fine}
 
@@ -46,7 +45,8 @@ pub record FinePublished (p : Published) : Type 0 where
 
 abbrev pub FineSays : Says → Type 0
 FineSays (Reported p) = FinePublished p
-FineSays (Corrected c) = Unit {0}
+FineSays (Objected o) = Unit {0}
+FineSays Other = Unit {0}
 
 pub record FineRecord (rec : Record) : Type 0 where
   pub day-in : rec .day .0 ≤ 18992
@@ -108,7 +108,7 @@ module _ (e : Entry) (f : FineEntry e) where
     each = λ i h. map-fine (r .date) (e .places) i (f .each i h);
   }
 
-  without-fine : (owner : Code) (named : Named) → FineEntry (withoutNamed e owner named)
+  without-fine : (owner : Code) (named : Published) → FineEntry (withoutNamed e owner named)
   without-fine owner named =
       let size = f .eight in
       record {
@@ -118,10 +118,10 @@ module _ (e : Entry) (f : FineEntry e) where
         each = λ i h. set-fine (e .places) (namedAt owner named (e .places)) freePlace free-fine (λ j k. f .each j (omega arith)) i (omega arith);
       }
 
--- whatever the verdict is
-effect-fine : (v : Verdict) (line : Line) (e : Entry) (rec : Record) (says : Says) → line .owner .0 ≤ 999 → FineEntry e → rec .day .0 ≤ 18992 → rec .at < 16777216
-    → FineSays says → FineEntry (effectBy v line e rec says)
-effect-fine v line e rec (Reported p) o f d a s = go (eqb (numberOf v) 10) (eqb (numberOf v) 11)
+-- whatever the verdict does
+effect-fine : (d : Doing) (line : Line) (e : Entry) (rec : Record) (says : Says) → line .owner .0 ≤ 999 → FineEntry e → rec .day .0 ≤ 18992 → rec .at < 16777216
+    → FineSays says → FineEntry (effectBy d line e rec says)
+effect-fine d line e rec (Reported p) o f day a s = go d
   where
     r : Report
     r = meantBy (line .owner) p
@@ -130,21 +130,25 @@ effect-fine v line e rec (Reported p) o f d a s = go (eqb (numberOf v) 10) (eqb 
     gaining = gained-fine (line .owner) (p .gaining) o (s .gaining-in)
 
     placed : FinePlace (placedAs rec r)
-    placed = record { free = λ t. absurd (true≢false t); date-in = s .date-in; losing-in = s .losing-in; gaining-in = gaining; day-in = d; at-in = a }
+    placed = record { free = λ t. absurd (true≢false t); date-in = s .date-in; losing-in = s .losing-in; gaining-in = gaining; day-in = day; at-in = a }
 
-    go : (t u : Bool) → FineEntry (cond t (kept e (placedAs rec r)) (cond u (confirmed e r) e))
-    go true u = kept-fine e f (placedAs rec r) placed
-    go false true = confirmed-fine e f r gaining (s .date-in)
-    go false false = f
-effect-fine v line e rec (Corrected c) o f d a s = go (eqb (numberOf v) 30)
+    go : (d : Doing) → FineEntry (reportEffect d e (placedAs rec r))
+    go Doing.Keeps = kept-fine e f (placedAs rec r) placed
+    go Doing.Confirms = confirmed-fine e f r gaining (s .date-in)
+    go Doing.Lapses = f
+    go Doing.Nothing = f
+effect-fine d line e rec (Objected o) w f day a s = go d
   where
-    go : (t : Bool) → FineEntry (cond t (withoutNamed e (line .owner) (c .named)) e)
-    go true = without-fine e f (line .owner) (c .named)
-    go false = f
+    go : (d : Doing) → FineEntry (objectionEffect d e (line .owner) (o .named))
+    go Doing.Keeps = f
+    go Doing.Confirms = f
+    go Doing.Lapses = without-fine e f (line .owner) (o .named)
+    go Doing.Nothing = f
+effect-fine d line e rec Other w f day a s = f
 
 pub fine-stays : (line : Line) (e : Entry) (rec : Record) → line .owner .0 ≤ 999 → FineEntry e → FineRecord rec → FineEntry (entryAfter line e rec)
 unfolding entryAfter
-fine-stays line e rec o f g = effect-fine (verdictOn (With line) e rec) line e rec (rec .says) o f (g .day-in) (g .at-in) (g .says-in)
+fine-stays line e rec o f g = effect-fine (doesBy (verdictOn (With line) e rec)) line e rec (rec .says) o f (g .day-in) (g .at-in) (g .says-in)
 
 pub fine-along : {A : Type 0} (line : Line) (says : A → Record) (l : List A) (e : Entry) → line .owner .0 ≤ 999 → FineEntry e
     → ((x : A) → List·Memᴰ x l → FineRecord (says x)) → FineEntry (foldl (λ (t : Entry) (x : A). entryAfter line t (says x)) e l)
