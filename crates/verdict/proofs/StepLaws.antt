@@ -7,7 +7,8 @@ use mathlib.Core.Path.{_≡_, refl, ap, _∙_}
 use mathlib.Core.Bool.{Bool, true, false, cond, _||_}
 use Prim.Native.Nat.{_≤_}
 use native.Mathlib.Nat.{le-refl}
-use borrow.Author.Tests.{ltb-false}
+use native.Mathlib.Omega.{arith}
+use borrow.Author.Tests.{eqb-true, ne-eqb, ltb-false}
 use lib.Dec.{lit≤}
 use lib.ListN.{length-set, length-map}
 use Rattle.laws.specs.Lists.{any}
@@ -30,7 +31,8 @@ use Rattle.verdict.specs.declared.step.Says.the-variants.{Reported, Obje
 use Rattle.verdict.specs.declared.step.Record.{Record}
 use Rattle.verdict.specs.declared.step.Standing.{Standing}
 use Rattle.verdict.specs.declared.verdicts.Doing.{Doing}
-use Rattle.verdict.specs.verdicts.Does.{keeps, confirms, lapses, doesBy}
+use Rattle.verdict.specs.verdicts.Numbers.{numberOf}
+use Rattle.verdict.specs.verdicts.Does.{isKept, isConfirmed, isLapsed, doesBy}
 use Rattle.entries.specs.Report.{meantBy}
 use Rattle.entries.specs.Entry.{freePlace}
 use Rattle.entries.specs.places.Places.{isOpen, lowestFree, lapsed}
@@ -45,8 +47,8 @@ use Rattle.entries.proofs.places.PlaceLaws.{thinned-set, thinned-map, apart-thi
 use Rattle.verdict.proofs.PairLaws.{partner-pairs}
 
 -- ---- a verdict does what its number says
-keeps-by : (v : Verdict) → doesBy v ≡ Doing.Keeps → keeps v ≡ true
-keeps-by v = go (keeps v) (confirms v) (lapses v)
+pub kept-by : (v : Verdict) → doesBy v ≡ Doing.Keeps → isKept v ≡ true
+kept-by v = go (isKept v) (isConfirmed v) (isLapsed v)
   where
     go : (k c l : Bool) → cond k Doing.Keeps (cond c Doing.Confirms (cond l Doing.Lapses Doing.Nothing)) ≡ Doing.Keeps → k ≡ true
     go true c l q = refl
@@ -54,8 +56,8 @@ keeps-by v = go (keeps v) (confirms v) (lapses v)
     go false false true q = cc
     go false false false q = cc
 
-pub confirms-by : (v : Verdict) → doesBy v ≡ Doing.Confirms → confirms v ≡ true
-confirms-by v = go (keeps v) (confirms v) (lapses v)
+pub confirmed-by : (v : Verdict) → doesBy v ≡ Doing.Confirms → isConfirmed v ≡ true
+confirmed-by v = go (isKept v) (isConfirmed v) (isLapsed v)
   where
     go : (k c l : Bool) → cond k Doing.Keeps (cond c Doing.Confirms (cond l Doing.Lapses Doing.Nothing)) ≡ Doing.Confirms → c ≡ true
     go k true l q = refl
@@ -63,19 +65,24 @@ confirms-by v = go (keeps v) (confirms v) (lapses v)
     go false false true q = cc
     go false false false q = cc
 
+pub confirmed-does : (v : Verdict) → isConfirmed v ≡ true → doesBy v ≡ Doing.Confirms
+confirmed-does v h =
+    let other : isKept v ≡ false = ne-eqb (numberOf v) 10 (λ e. omega (arith, e, eqb-true (numberOf v) 11 h)) in
+    rw (other, h)
+
 -- ---- what the table of reports says of a report that is kept or confirmed
 module _ (n : Listed) (e : Entry) (from : Code) (day : CalendarDays) (r : Report) where
-  not-open : keeps (reportVerdict n e from day r) ≡ true → isOpen (r .kind) r (e .places) ≡ false
+  not-open : isKept (reportVerdict n e from day r) ≡ true → isOpen (r .kind) r (e .places) ≡ false
   unfolding any
-  not-open h = line-passed keeps 8 (false, Kept) (reportTable n e from day r) Kept (lit≤ tt) refl h
+  not-open h = line-passed isKept 8 (false, Kept) (reportTable n e from day r) Kept (lit≤ tt) refl h
 
-  not-before : confirms (reportVerdict n e from day r) ≡ true → beforeLast (r .date) (e .last) ≡ false
+  not-before : isConfirmed (reportVerdict n e from day r) ≡ true → beforeLast (r .date) (e .last) ≡ false
   unfolding any
-  not-before h = line-passed confirms 5 (false, Kept) (reportTable n e from day r) Kept (lit≤ tt) refl h
+  not-before h = line-passed isConfirmed 5 (false, Kept) (reportTable n e from day r) Kept (lit≤ tt) refl h
 
-  partnered : confirms (reportVerdict n e from day r) ≡ true → (partnerOpen r (e .places) || zedOpen r (e .places)) ≡ true
+  partnered : isConfirmed (reportVerdict n e from day r) ≡ true → (partnerOpen r (e .places) || zedOpen r (e .places)) ≡ true
   unfolding any
-  partnered h = either (partnerOpen r (e .places)) (zedOpen r (e .places)) (line-applied confirms (reportTable n e from day r) Kept refl h)
+  partnered h = either (partnerOpen r (e .places)) (zedOpen r (e .places)) (line-applied isConfirmed (reportTable n e from day r) Kept refl h)
     where
       either : (a b : Bool) → (a || (b || false)) ≡ true → (a || b) ≡ true
       either true b e = refl
@@ -112,7 +119,7 @@ last-by line e rec (Reported p) = go (doesBy v) refl
 
     go : (d : Doing) → doesBy v ≡ d → NotAfter (e .last) (reportEffect d e (placedAs rec r) .last)
     go Doing.Keeps q = not-after-refl (e .last)
-    go Doing.Confirms q = date-not-after (r .date) (e .last) (not-before (With line) e (rec .publisher) (rec .day) r (confirms-by v q))
+    go Doing.Confirms q = date-not-after (r .date) (e .last) (not-before (With line) e (rec .publisher) (rec .day) r (confirmed-by v q))
     go Doing.Lapses q = not-after-refl (e .last)
     go Doing.Nothing q = not-after-refl (e .last)
 last-by line e rec (Objected o) = go (doesBy (objectionVerdict (With line) e (rec .publisher) o))
@@ -157,7 +164,7 @@ tidy-by line e rec (Reported p) h = go (doesBy v) refl
     v = reportVerdict (With line) e (rec .publisher) (rec .day) r
 
     go : (d : Doing) → doesBy v ≡ d → Tidy (reportEffect d e (placedAs rec r))
-    go Doing.Keeps q = kept-tidy e (placedAs rec r) refl (not-open (With line) e (rec .publisher) (rec .day) r (keeps-by v q)) h
+    go Doing.Keeps q = kept-tidy e (placedAs rec r) refl (not-open (With line) e (rec .publisher) (rec .day) r (kept-by v q)) h
     go Doing.Confirms q = confirmed-tidy e r h
     go Doing.Lapses q = h
     go Doing.Nothing q = h
@@ -191,7 +198,7 @@ explained-by line s rec (Reported p) h = go (doesBy v) refl
     go : (d : Doing) → doesBy v ≡ d → Explained line (record { entry = reportEffect d e (placedAs rec r); why = pairAfter d (e .places) (placedAs rec r) (s .why) })
     go Doing.Keeps q = record { holder = h .holder; last = h .last; pair = h .pair }
     go Doing.Confirms q =
-        let m = partner-pairs r (e .places) (partnered (With line) e (rec .publisher) (rec .day) r (confirms-by v q)) in
+        let m = partner-pairs r (e .places) (partnered (With line) e (rec .publisher) (rec .day) r (confirmed-by v q)) in
         record { holder = refl; last = refl; pair = record { kinds = m .0; matching = m .1 } }
     go Doing.Lapses q = record { holder = h .holder; last = h .last; pair = h .pair }
     go Doing.Nothing q = record { holder = h .holder; last = h .last; pair = h .pair }

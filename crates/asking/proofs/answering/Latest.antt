@@ -1,11 +1,10 @@
 -- The pair that is shown is the one of the last record that was confirmed, and none is shown exactly if none was. Assumes nothing.
 use mathlib.Core.Path.{_≡_, refl, sym, ap, _∙_}
 use mathlib.Core.Logic.{_⊎_, inl, inr, ⊎-elim}
-use mathlib.Core.Bool.{Bool, true, false, cond, not, _&&_, true≢false}
+use mathlib.Core.Bool.{Bool, true, false, not, _&&_, true≢false}
 use mathlib.Core.List.{List, [], _∷_, _++_, foldl}
 use Prim.Native.Nat.{ℕ}
 use native.Mathlib.Omega.{arith}
-use lib.Dec.{eqb}
 use Rattle.laws.specs.Lists.{any}
 use Rattle.laws.proofs.Lines.{line-applied}
 use Rattle.fields.specs.declared.code.Code.{Code}
@@ -13,15 +12,18 @@ use Rattle.entries.specs.declared.entry.Place.{Place}
 use Rattle.entries.specs.declared.entry.Entry.{Entry}
 use Rattle.entries.specs.declared.entry.Line.{Line}
 use Rattle.entries.specs.declared.entry.Listed.the-variants.{With}
+use Rattle.entries.specs.Report.{meantBy}
 use Rattle.verdict.specs.declared.verdicts.Verdict.{Verdict}
-use Rattle.verdict.specs.declared.correction_rules.Correction.{Correction}
+use Rattle.verdict.specs.declared.verdicts.Doing.{Doing}
+use Rattle.verdict.specs.declared.correction_rules.Objection.{Objection}
 use Rattle.verdict.specs.declared.step.Says.{Says}
 use Rattle.verdict.specs.declared.step.Record.{Record}
 use Rattle.verdict.specs.declared.step.Why.{Why}
 use Rattle.verdict.specs.declared.step.Standing.{Standing}
-use Rattle.verdict.specs.verdicts.Numbers.{numberOf}
-use Rattle.verdict.specs.correction_rules.Corrections.{correctionTable, correctionVerdict}
-use Rattle.verdict.specs.Step.{verdictBy, verdictOn, whyBy, standOn, entryAfter}
+use Rattle.verdict.specs.verdicts.Does.{isConfirmed, doesBy}
+use Rattle.verdict.specs.correction_rules.Corrections.{objectionTable, objectionVerdict}
+use Rattle.verdict.specs.Step.{placedAs, verdictBy, verdictOn, pairAfter, whyBy, standOn, entryAfter}
+use Rattle.verdict.proofs.StepLaws.{confirmed-by, confirmed-does}
 use Rattle.model.specs.Rules.{Event}
 use Rattle.rules.specs.Rules.{recordOf}
 use Rattle.asking.specs.answering.Confirmed.{confirms, noneConfirms}
@@ -40,9 +42,16 @@ pub record Latest (line : Line) (s : Standing) (es : List Event) : Type 0 where
   pub none-later : noneConfirms line (standOn line (standing line s earlier) (recordOf event) .entry) later ≡ true
   pub why : standing line s es .why ≡ standOn line (standing line s earlier) (recordOf event) .why
 
-why-by : (v : Verdict) (owner : Code) (ps : List Place) (before : Why) (rec : Record) (says : Says) → eqb (numberOf v) 11 ≡ false → whyBy v owner ps before rec says ≡ before
-why-by v owner ps before rec (Says.Reported p) e = rw e
-why-by v owner ps before rec (Says.Corrected c) e = refl
+why-by : (v : Verdict) (owner : Code) (ps : List Place) (before : Why) (rec : Record) (says : Says) → isConfirmed v ≡ false → whyBy (doesBy v) owner ps before rec says ≡ before
+why-by v owner ps before rec (Says.Reported p) e = go (doesBy v) refl
+  where
+    go : (d : Doing) → doesBy v ≡ d → pairAfter d ps (placedAs rec (meantBy owner p)) before ≡ before
+    go Doing.Confirms q = absurd (true≢false (sym (confirmed-by v q) ∙ e))
+    go Doing.Keeps q = refl
+    go Doing.Lapses q = refl
+    go Doing.Nothing q = refl
+why-by v owner ps before rec (Says.Objected o) e = refl
+why-by v owner ps before rec Says.Other e = refl
 
 why-stays : (line : Line) (s : Standing) (e : Event) → confirms line (s .entry) e ≡ false → standOn line s (recordOf e) .why ≡ s .why
 unfolding standOn
@@ -74,18 +83,18 @@ latest line s (e ∷ es) =
     here false c w = inl (none-more line s e es c (w .0), w .1 ∙ why-stays line s e c)
 
 -- ---- a confirmed record makes a pair
-never-11 : (line : Line) (entry : Entry) (from : Code) (c : Correction) → eqb (numberOf (correctionVerdict (With line) entry from c)) 11 ≡ true → ⊥
+never-11 : (line : Line) (entry : Entry) (from : Code) (o : Objection) → isConfirmed (objectionVerdict (With line) entry from o) ≡ true → ⊥
 unfolding any
-never-11 line entry from c h = true≢false (sym (line-applied (λ v. eqb (numberOf v) 11) (correctionTable (With line) entry from c) Verdict.Lapses refl h))
+never-11 line entry from o h = true≢false (sym (line-applied isConfirmed (objectionTable (With line) entry from o) Verdict.Lapses refl h))
 
-pair-not : (t : Bool) (a b : Place) (w : Why) → t ≡ true → cond t (Why.Pair a b) w ≡ Why.Nothing → ⊥
-pair-not true a b w e k = let z : _≡_ {A = ℕ} 0 1 = cc in absurd (omega arith)
-pair-not false a b w e k = absurd (true≢false (sym e))
-
-pair-by : (line : Line) (s : Standing) (e : Event) (says : Says) → eqb (numberOf (verdictBy (With line) (s .entry) (recordOf e .publisher) (recordOf e .day) says)) 11 ≡ true
-    → whyBy (verdictBy (With line) (s .entry) (recordOf e .publisher) (recordOf e .day) says) (line .owner) (s .entry .places) (s .why) (recordOf e) says ≡ Why.Nothing → ⊥
-pair-by line s e (Says.Reported p) h k = pair-not _ _ _ _ h k
-pair-by line s e (Says.Corrected c) h k = never-11 line (s .entry) (recordOf e .publisher) c h
+pair-by : (line : Line) (s : Standing) (e : Event) (says : Says) → isConfirmed (verdictBy (With line) (s .entry) (recordOf e .publisher) (recordOf e .day) says) ≡ true
+    → whyBy (doesBy (verdictBy (With line) (s .entry) (recordOf e .publisher) (recordOf e .day) says)) (line .owner) (s .entry .places) (s .why) (recordOf e) says ≡ Why.Nothing → ⊥
+pair-by line s e (Says.Reported p) h k = apart _ _ (sym (ap (λ (d : Doing). pairAfter d (s .entry .places) (placedAs (recordOf e) (meantBy (line .owner) p)) (s .why)) (confirmed-does _ h)) ∙ k)
+  where
+    apart : (a b : Place) → Why.Pair a b ≡ Why.Nothing → ⊥
+    apart a b q = let z : _≡_ {A = ℕ} 0 1 = cc in absurd (omega arith)
+pair-by line s e (Says.Objected o) h k = never-11 line (s .entry) (recordOf e .publisher) o h
+pair-by line s e Says.Other h k = true≢false (sym h)
 
 pub pair-made : (line : Line) (s : Standing) (e : Event) → confirms line (s .entry) e ≡ true → standOn line s (recordOf e) .why ≡ Why.Nothing → ⊥
 unfolding standOn

@@ -40,7 +40,8 @@ one-kind Kind.Z = refl
 -- what a report says
 abbrev saidIn : Published → Says → Published
 saidIn other (Says.Reported p) = p
-saidIn other (Says.Corrected c) = other
+saidIn other (Says.Objected o) = other
+saidIn other Says.Other = other
 
 two-records : (owner : Code) (es : List Event) (a b : Place) (w : Roots owner es a b) → Pairing a b → w .first .event ≡ w .second .event → ⊥
 two-records owner es a b w pairing same =

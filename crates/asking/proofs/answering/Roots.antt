@@ -30,14 +30,15 @@ use Rattle.verdict.specs.declared.step.Says.{Says}
 use Rattle.verdict.specs.declared.step.Record.{Record}
 use Rattle.verdict.specs.declared.step.Why.{Why}
 use Rattle.verdict.specs.declared.step.Standing.{Standing}
-use Rattle.verdict.specs.verdicts.Numbers.{numberOf}
+use Rattle.verdict.specs.declared.verdicts.Doing.{Doing}
+use Rattle.verdict.specs.verdicts.Does.{isKept, isConfirmed, doesBy}
 use Rattle.verdict.specs.report_rules.Reports.{reportTable, reportVerdict}
-use Rattle.verdict.specs.effects.Reports.{kept, confirmed, partnerAt}
-use Rattle.verdict.specs.correction_rules.Corrections.{correctionVerdict}
-use Rattle.verdict.specs.effects.Corrections.{withoutNamed, namedAt}
-use Rattle.verdict.specs.Step.{placedAs, verdictBy, effectBy, whyBy, verdictOn, standOn, firstStanding}
+use Rattle.verdict.specs.effects.Reports.{reportEffect, partnerAt}
+use Rattle.verdict.specs.correction_rules.Corrections.{objectionVerdict}
+use Rattle.verdict.specs.effects.Corrections.{objectionEffect, namedAt}
+use Rattle.verdict.specs.Step.{placedAs, verdictBy, effectBy, pairAfter, whyBy, verdictOn, standOn, firstStanding}
 use Rattle.verdict.specs.Sound.{Explained, Pairing, Paired}
-use Rattle.verdict.proofs.StepLaws.{explained-stays}
+use Rattle.verdict.proofs.StepLaws.{kept-by, confirmed-by, explained-stays}
 use Rattle.model.specs.Rules.{Event}
 use Rattle.rules.specs.Rules.{recordOf}
 
@@ -126,25 +127,25 @@ pair-more owner es more (Why.Pair a b) h = record {
   };
 }
 
--- ---- what the table of reports says of a verdict 10 or 11
+-- ---- what the table of reports says of a report that is kept or confirmed
 module _ (line : Line) (e : Entry) (from : Code) (day : CalendarDays) (r : Report) where
   abbrev v : Verdict
   v = reportVerdict (With line) e from day r
 
-  from-10 : eqb (numberOf v) 10 ≡ true → from ≡ publisherOf r
+  from-kept : isKept v ≡ true → from ≡ publisherOf r
   unfolding any
-  from-10 k = same-code from (publisherOf r) (not-false _ (line-passed (λ w. eqb (numberOf w) 10) 1 (false, Kept) (reportTable (With line) e from day r) Kept (lit≤ tt) refl k))
+  from-kept k = same-code from (publisherOf r) (not-false _ (line-passed isKept 1 (false, Kept) (reportTable (With line) e from day r) Kept (lit≤ tt) refl k))
 
-  from-11 : eqb (numberOf v) 11 ≡ true → from ≡ publisherOf r
+  from-confirmed : isConfirmed v ≡ true → from ≡ publisherOf r
   unfolding any
-  from-11 k = same-code from (publisherOf r) (not-false _ (line-passed (λ w. eqb (numberOf w) 11) 1 (false, Kept) (reportTable (With line) e from day r) Kept (lit≤ tt) refl k))
+  from-confirmed k = same-code from (publisherOf r) (not-false _ (line-passed isConfirmed 1 (false, Kept) (reportTable (With line) e from day r) Kept (lit≤ tt) refl k))
 
-  networks-differ : eqb (numberOf v) 11 ≡ true → sameCode (r .losing) (r .gaining) ≡ false
+  networks-differ : isConfirmed v ≡ true → sameCode (r .losing) (r .gaining) ≡ false
   unfolding any
-  networks-differ k = line-passed (λ w. eqb (numberOf w) 11) 2 (false, Kept) (reportTable (With line) e from day r) Kept (lit≤ tt) refl k
+  networks-differ k = line-passed isConfirmed 2 (false, Kept) (reportTable (With line) e from day r) Kept (lit≤ tt) refl k
 
   -- a report that is confirmed makes no pair with a free place: that one has no two networks
-  not-free : (p : Place) → eqb (numberOf v) 11 ≡ true → p ≡ freePlace → matches (p .report) r ≡ true → ⊥
+  not-free : (p : Place) → isConfirmed v ≡ true → p ≡ freePlace → matches (p .report) r ≡ true → ⊥
   not-free p k f m =
       let w = matches-equal (p .report) r m in
       let same : r .losing ≡ r .gaining = sym (w .losing) ∙ ap (λ (q : Place). q .report .losing) f ∙ sym (ap (λ (q : Place). q .report .gaining) f) ∙ w .gaining in
@@ -161,13 +162,20 @@ lapsed-or d p = go (leb (p .report .date .0) (d .0))
 -- ---- one record more
 abbrev after : Line → Standing → Event → Says → Standing
 after line s e says = record {
-  entry = effectBy (verdictBy (With line) (s .entry) (recordOf e .publisher) (recordOf e .day) says) line (s .entry) (recordOf e) says;
-  why = whyBy (verdictBy (With line) (s .entry) (recordOf e .publisher) (recordOf e .day) says) (line .owner) (s .entry .places) (s .why) (recordOf e) says;
+  entry = effectBy (doesBy (verdictBy (With line) (s .entry) (recordOf e .publisher) (recordOf e .day) says)) line (s .entry) (recordOf e) says;
+  why = whyBy (doesBy (verdictBy (With line) (s .entry) (recordOf e .publisher) (recordOf e .day) says)) (line .owner) (s .entry .places) (s .why) (recordOf e) says;
+}
+
+-- what it leaves as it is
+rooted-more : (line : Line) (es : List Event) (s : Standing) (e : Event) → Rooted (line .owner) es s → Rooted (line .owner) (es ++ (e ∷ [])) s
+rooted-more line es s e h = record {
+  places = λ y m. ⊎-elim (λ k. inl (root-more (line .owner) es (e ∷ []) y k)) (λ k. inr k) (h .places y m);
+  pair = pair-more (line .owner) es (e ∷ []) (s .why) (h .pair);
 }
 
 root-by : (line : Line) (es : List Event) (s : Standing) (e : Event) (says : Says) → recordOf e .says ≡ says → Paired (after line s e says .why) → Rooted (line .owner) es s
     → Rooted (line .owner) (es ++ (e ∷ [])) (after line s e says)
-root-by line es s e (Says.Reported p) q x h = go (eqb (numberOf w) 10) (eqb (numberOf w) 11) refl refl x
+root-by line es s e (Says.Reported p) q x h = go (doesBy w) refl x
   where
     r : Report
     r = meantBy (line .owner) p
@@ -192,39 +200,43 @@ root-by line es s e (Says.Reported p) q x h = go (eqb (numberOf w) 10) (eqb (num
         let z = mem-map (lapsed (r .date)) (s .entry .places) m in
         ⊎-elim (λ k. inr (z .2 ∙ k)) (λ k. ⊎-elim (λ u. inl (subst (Root (line .owner) (es ++ (e ∷ []))) (sym (z .2 ∙ k)) u)) (λ u. inr (z .2 ∙ k ∙ u)) (old (z .0) (z .1))) (lapsed-or (r .date) (z .0))
 
-    partner-root : eqb (numberOf w) 11 ≡ true → Pairing partner second → Root (line .owner) es partner
+    partner-root : isConfirmed w ≡ true → Pairing partner second → Root (line .owner) es partner
     partner-root g m =
         ⊎-elim (λ k. ⊎-elim (λ u. u) (λ u. absurd (not-free line (s .entry) (recordOf e .publisher) (recordOf e .day) r partner g u (m .matching))) (h .places partner k))
         (λ u. absurd (not-free line (s .entry) (recordOf e .publisher) (recordOf e .day) r partner g u (m .matching)))
         (mem-getD (s .entry .places) (partnerAt r (s .entry .places)) freePlace)
 
-    go : (a b : Bool) → eqb (numberOf w) 10 ≡ a → eqb (numberOf w) 11 ≡ b → Paired (cond b (Why.Pair partner second) (s .why))
-        → Rooted (line .owner) (es ++ (e ∷ [])) (record { entry = cond a (kept (s .entry) second) (cond b (confirmed (s .entry) r) (s .entry)); why = cond b (Why.Pair partner second) (s .why) })
-    go true true f g m = absurd (omega (arith, eqb-true (numberOf w) 10 f, eqb-true (numberOf w) 11 g))
-    go true false f g m = record {
-      places = λ y k. ⊎-elim (λ u. inl (subst (Root (line .owner) (es ++ (e ∷ []))) (sym u) (new (from-10 line (s .entry) (recordOf e .publisher) (recordOf e .day) r f)))) (old y) (mem-set (s .entry .places) (lowestFree (s .entry .places)) second k);
+    go : (d : Doing) → doesBy w ≡ d → Paired (pairAfter d (s .entry .places) second (s .why))
+        → Rooted (line .owner) (es ++ (e ∷ [])) (record { entry = reportEffect d (s .entry) second; why = pairAfter d (s .entry .places) second (s .why) })
+    go Doing.Keeps g m = record {
+      places = λ y k. ⊎-elim (λ u. inl (subst (Root (line .owner) (es ++ (e ∷ []))) (sym u) (new (from-kept line (s .entry) (recordOf e .publisher) (recordOf e .day) r (kept-by w g))))) (old y) (mem-set (s .entry .places) (lowestFree (s .entry .places)) second k);
       pair = pair-more (line .owner) es (e ∷ []) (s .why) (h .pair);
     }
-    go false true f g m = record {
-      places = lapsed-old;
-      pair = record {
-        first = root-more (line .owner) es (e ∷ []) partner (partner-root g m);
-        second = new (from-11 line (s .entry) (recordOf e .publisher) (recordOf e .day) r g);
-        apart = record { earlier = es; later = []; split = refl; among = partner-root g m .member };
-      };
-    }
-    go false false f g m = record { places = old; pair = pair-more (line .owner) es (e ∷ []) (s .why) (h .pair) }
-root-by line es s e (Says.Corrected c) q x h = go (eqb (numberOf (correctionVerdict (With line) (s .entry) (recordOf e .publisher) c)) 30)
+    go Doing.Confirms g m =
+        let c = confirmed-by w g in record {
+          places = lapsed-old;
+          pair = record {
+            first = root-more (line .owner) es (e ∷ []) partner (partner-root c m);
+            second = new (from-confirmed line (s .entry) (recordOf e .publisher) (recordOf e .day) r c);
+            apart = record { earlier = es; later = []; split = refl; among = partner-root c m .member };
+          };
+        }
+    go Doing.Lapses g m = record { places = old; pair = pair-more (line .owner) es (e ∷ []) (s .why) (h .pair) }
+    go Doing.Nothing g m = record { places = old; pair = pair-more (line .owner) es (e ∷ []) (s .why) (h .pair) }
+root-by line es s e (Says.Objected o) q x h = go (doesBy (objectionVerdict (With line) (s .entry) (recordOf e .publisher) o))
   where
-    old : (y : Place) → List·Memᴰ y (s .entry .places) → Root (line .owner) (es ++ (e ∷ [])) y ⊎ (y ≡ freePlace)
-    old y m = ⊎-elim (λ k. inl (root-more (line .owner) es (e ∷ []) y k)) (λ k. inr k) (h .places y m)
+    as-before : Rooted (line .owner) (es ++ (e ∷ [])) s
+    as-before = rooted-more line es s e h
 
-    go : (b : Bool) → Rooted (line .owner) (es ++ (e ∷ [])) (record { entry = cond b (withoutNamed (s .entry) (line .owner) (c .named)) (s .entry); why = s .why })
-    go true = record {
-      places = λ y k. ⊎-elim (λ u. inr u) (old y) (mem-set (s .entry .places) (namedAt (line .owner) (c .named) (s .entry .places)) freePlace k);
-      pair = pair-more (line .owner) es (e ∷ []) (s .why) (h .pair);
+    go : (d : Doing) → Rooted (line .owner) (es ++ (e ∷ [])) (record { entry = objectionEffect d (s .entry) (line .owner) (o .named); why = s .why })
+    go Doing.Lapses = record {
+      places = λ y k. ⊎-elim (λ u. inr u) (as-before .places y) (mem-set (s .entry .places) (namedAt (line .owner) (o .named) (s .entry .places)) freePlace k);
+      pair = as-before .pair;
     }
-    go false = record { places = old; pair = pair-more (line .owner) es (e ∷ []) (s .why) (h .pair) }
+    go Doing.Keeps = record { places = as-before .places; pair = as-before .pair }
+    go Doing.Confirms = record { places = as-before .places; pair = as-before .pair }
+    go Doing.Nothing = record { places = as-before .places; pair = as-before .pair }
+root-by line es s e Says.Other q x h = let w = rooted-more line es s e h in record { places = w .places; pair = w .pair }
 
 root-step : (line : Line) (es : List Event) (s : Standing) (e : Event) → Explained line s → Rooted (line .owner) es s → Rooted (line .owner) (es ++ (e ∷ [])) (standOn line s (recordOf e))
 unfolding standOn

@@ -18,7 +18,10 @@ use Rattle.laws.proofs.Tables.{length-table, getD-table}
 use Rattle.laws.proofs.Tests.{and-left, and-right}
 use Rattle.fields.specs.declared.code.Code.{Code}
 use Rattle.fields.specs.declared.number.Number.{Number}
+use Rattle.fields.specs.CorrectionCode.{isObjection}
 use Rattle.layout.specs.declared.correction.CorrectionRead.{CorrectionRead}
+use Rattle.layout.specs.declared.report.ReportRead.{ReportRead}
+use Rattle.layout.specs.Report.{wholeOf}
 use Rattle.layout.specs.Correction.{correctionOf}
 use Rattle.entries.specs.declared.report.Published.{Published}
 use Rattle.entries.specs.declared.entry.Place.{Place}
@@ -27,7 +30,7 @@ use Rattle.verdict.specs.declared.step.Says.{Says}
 use Rattle.model.specs.Rules.{Event}
 use Rattle.model.specs.Model.{Filed, eventAt, events, journal, journalOf, about, notLater, history}
 use Rattle.model.proofs.Files.{Once, journal-file}
-use Rattle.rules.specs.Records.{saysIn, corrected}
+use Rattle.rules.specs.Records.{saysIn, objected, corrected}
 use Rattle.rules.specs.Rules.{rules, recordOf}
 use Rattle.asking.specs.Items.{itemAt}
 use Rattle.asking.specs.Why.{isFileOf, reportsIn, startIn, storedAs}
@@ -36,7 +39,12 @@ use Rattle.asking.proofs.answering.Roots.{Root}
 
 -- ---- only a record of a default file is a report
 not-reported : (r : CorrectionRead) (p : Published) → corrected r ≡ Says.Reported p → ⊥
-not-reported (CorrectionRead.Correction c) p e = let z : _≡_ {A = ℕ} 0 1 = cc in absurd (omega arith)
+not-reported (CorrectionRead.Correction c) p e = go (isObjection (c .code)) (wholeOf (c .u)) e
+  where
+    go : (b : Bool) (t : ReportRead) → cond b (objected (c .code .0) t) Says.Other ≡ Says.Reported p → ⊥
+    go true (ReportRead.Report r) q = let z : _≡_ {A = ℕ} 0 1 = cc in absurd (omega arith)
+    go true ReportRead.Fault q = let z : _≡_ {A = ℕ} 0 1 = cc in absurd (omega arith)
+    go false t q = let z : _≡_ {A = ℕ} 0 1 = cc in absurd (omega arith)
 not-reported CorrectionRead.Fault p e = let z : _≡_ {A = ℕ} 0 1 = cc in absurd (omega arith)
 
 kind-reported : (kind : ℕ) (bytes : List ℕ) (p : Published) → saysIn kind bytes ≡ Says.Reported p → kind ≡ 0

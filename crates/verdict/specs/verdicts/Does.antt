@@ -9,15 +9,15 @@ use Rattle.verdict.specs.declared.verdicts.Doing.the-variants.{Keeps, Co
 use Rattle.verdict.specs.verdicts.Numbers.{numberOf}
 
 -- 10 keeps the report open, 11 confirms, at 30 the named report lapses
-abbrev pub keeps : Verdict → Bool
-keeps v = eqb (numberOf v) 10
+abbrev pub isKept : Verdict → Bool
+isKept v = eqb (numberOf v) 10
 
-abbrev pub confirms : Verdict → Bool
-confirms v = eqb (numberOf v) 11
+abbrev pub isConfirmed : Verdict → Bool
+isConfirmed v = eqb (numberOf v) 11
 
-abbrev pub lapses : Verdict → Bool
-lapses v = eqb (numberOf v) 30
+abbrev pub isLapsed : Verdict → Bool
+isLapsed v = eqb (numberOf v) 30
 
 -- no other verdict changes anything
 abbrev pub doesBy : Verdict → Doing
-doesBy v = firstLine ((keeps v, Keeps) ∷ (confirms v, Confirms) ∷ (lapses v, Lapses) ∷ []) Nothing
+doesBy v = firstLine ((isKept v, Keeps) ∷ (isConfirmed v, Confirms) ∷ (isLapsed v, Lapses) ∷ []) Nothing
