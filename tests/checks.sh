@@ -165,6 +165,10 @@ change crates/model/must-fail/journals_only.edit 's/Stores.entries-worked/Stores
 fails 'model: no theorem no-such-theorem in the proofs of Stores' tests/wrong.sh model
 change crates/model/must-fail/journals_only.edit '/^wrong: /d'
 fails 'must-fail/journals_only.edit has no wrong program of its name' tests/wrong.sh model
+change crates/verdict/must-fail/holder_never_moves.edit '/^wrong: holder_never_moves/s/\.returns//'
+fails 'verdict/holder_never_moves, which the paper shuts out, is not tried at each gate by a need' tests/wrong.sh verdict
+change $edit '1{/^wrong: /d;}'
+fails 'above a change nothing says what is refused' tests/wrong.sh text
 change $edit 's/^wrong: byte_at_the_front/wrong: nine_is_no_digit/'
 fails 'text: nine_is_no_digit is there twice' tests/wrong.sh text
 add $edit '' 'wrong: once_more put_byte' 'file: src/lib.rt'
