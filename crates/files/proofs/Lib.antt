@@ -5,3 +5,4 @@ pub mod LineTrip
 pub mod FileTrip
 pub mod Cursor
 pub mod ValueTrip
+pub mod ValueFits

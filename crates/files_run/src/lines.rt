@@ -1,4 +1,9 @@
 // Records read from a line, or at a place of a file, and written again.
+ghost use mathlib.Core.Path.{_≡_};
+ghost use mathlib.Core.Bool.{true};
+ghost use Rattle.layout.specs.Report.{reportFits};
+ghost use Rattle.layout.specs.Correction.{correctionFits};
+ghost use Rattle.layout.specs.Request.{requestFits};
 use crate::show;
 use files::values::CorrectionAt;
 use files::values::ReportAt;
@@ -12,21 +17,27 @@ use layout::request::RequestRead;
 use records::names::kind::FileKind;
 
 // How many bytes were written, and 1,000 for a fault.
-fn put_report(r: Report, out: &mut [u8]) -> usize {
+fn put_report(r: Report, out: &mut [u8]) -> usize
+    requires { ⌜ reportFits r ≡ true ⌝ }
+{
     if out.len() < r.len() {
         return 1000;
     }
     r.write(out, 0)
 }
 
-fn put_correction(c: Correction, out: &mut [u8]) -> usize {
+fn put_correction(c: Correction, out: &mut [u8]) -> usize
+    requires { ⌜ correctionFits c ≡ true ⌝ }
+{
     if out.len() < c.len() {
         return 1000;
     }
     c.write(out, 0)
 }
 
-fn put_request(r: Request, out: &mut [u8]) -> usize {
+fn put_request(r: Request, out: &mut [u8]) -> usize
+    requires { ⌜ requestFits r ≡ true ⌝ }
+{
     if out.len() < r.len() {
         return 1000;
     }
