@@ -1,5 +1,5 @@
--- What the software promises. Each theorem is about the bytes that are lent and the contracts of the public functions, and each proof is a citation. None
--- asks anything of a store but that it is in use (`InUse`): that public functions led to it. Where a theorem ends in `-c`, it is about what other languages call.
+-- What the software promises. Each theorem is about the bytes that are lent and the contracts of the public functions, and each proof is a citation. Of a
+-- store none asks anything but that public functions led to it: that it is in use (`InUse`). A theorem whose name ends in `-c` is about what other languages call.
 --
 -- The stores:
 --     in-use-exactly                     a store in use came from starting and filing, or was worked out again and filed into, and each such store is in use
