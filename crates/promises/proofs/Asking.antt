@@ -93,6 +93,7 @@ module _ {b : Buffers} (u : InUse b) where
           matching = w .pairing;
           first-record = w .first-record;
           second-record = w .second-record;
+          in-order = w .in-order;
           first-part = ap (λ (a : WhyAnswer). partAt (b .regular) (firstPlace a)) shown ∙ part-is Regular (storedAs (held b .files) (w .first) .place) (w .first-record .event) (w .first-stored);
           second-part = ap (λ (a : WhyAnswer). partAt (b .regular) (secondPlace a)) shown ∙ part-is Regular (storedAs (held b .files) (w .second) .place) (w .second-record .event) (w .second-stored);
           first-publisher = sym (ap (λ (c : Code). c .0) (w .first-record .publisher));
@@ -135,7 +136,7 @@ module _ {b : Buffers} (u : InUse b) where
       publisher = rw (in-use-reads, q);
       day = rw (in-use-reads, q);
       in-file = rw (in-use-reads, q);
-      bytes = part-is which place e q;
+      bytes = rw (in-use-reads, q) (part-is which place e q);
       verdict = rw (in-use-reads, q) (unfold verdictOf in verdict-promise (storeOf (held b)) e);
     }
 

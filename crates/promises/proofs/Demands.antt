@@ -186,7 +186,7 @@ pub other-entries-untouched : {b after : Buffers} {kind : Filable} {publisher : 
     → (k : ℕ) → k < lineCount (b .table) → namedIn kind text (lineAt (b .table) k .number) ≡ false → slotAt 0 100 (after .entries) k ≡ slotAt 0 100 (b .entries) k
 other-entries-untouched s = joined-and-renewed s .untouched
 
--- "asking why answers 0 and shows the pair .. or says there is none", for a number with a line: the pair is that of the last record confirmed
+-- "asking why answers 0 and shows the pair, the report processed first coming first, or says there is none", for a number with a line
 pub why-is-the-last-confirmed-pair : {b : Buffers} → InUse b → (x : Number) (line : TableLine Number) → lineOf rules (held b .lines) x ≡ some line → SaysNone b x line ⊎ ShowsPair b x line
 why-is-the-last-confirmed-pair u = why-says u
 

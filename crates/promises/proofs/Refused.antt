@@ -23,10 +23,10 @@ use Rattle.filing.specs.checking.Filing.{Decision, Refuse, Accept, decide}
 use Rattle.filing.specs.Effect.{answerTo, buffersAfter, Files}
 use Rattle.asking.specs.declared.entry.EntryAnswer.{EntryAnswer}
 use Rattle.reworking.specs.declared.rework.Reworked.{Reworked}
-use Rattle.reworking.specs.Reworking.{reworkAnswer, entriesAfter, listAfter, withRoom, Reworks}
+use Rattle.reworking.specs.Reworking.{allFiles, reworkAnswer, entriesAfter, listAfter, withRoom, Reworks}
 use Rattle.capi.specs.Starting.{StartsAs}
 use Rattle.capi.specs.Offer.{filableBy, dayFor, answered, FilesAs}
-use Rattle.capi.specs.Again.{allFiles, reworkOf, ReworksAs}
+use Rattle.capi.specs.Again.{reworkOf, ReworksAs}
 use Rattle.capi.specs.Show.{shownNumber, shownInto, ShowsEntry}
 use Rattle.promises.specs.Numbers.{startedNumber, filedNumber, reworkedNumber, wroteNumber}
 use Rattle.promises.specs.Filed.{isNoTable, startingTable}

@@ -18,12 +18,12 @@ use Rattle.filing.specs.Effect.{Came, storeOf}
 use Rattle.filing.proofs.Promises.{came-reached}
 use Rattle.asking.proofs.Standings.{length-first}
 use Rattle.reworking.specs.declared.rework.Reworked.{Reworked}
-use Rattle.reworking.specs.Reworking.{withRoom, Reworks}
+use Rattle.reworking.specs.Reworking.{allFiles, withRoom, Reworks}
 use Rattle.reworking.specs.resuming.Resumed.{Resumed}
 use Rattle.reworking.proofs.Listing.{accepted}
 use Rattle.reworking.proofs.resuming.Promises.{resumed-reached}
 use Rattle.capi.specs.Starting.{StartsAs}
-use Rattle.capi.specs.Again.{allFiles, reworkOf, ReworksAs}
+use Rattle.capi.specs.Again.{reworkOf, ReworksAs}
 use Rattle.promises.specs.Numbers.{startedNumber, startedCount, reworkedNumber, reworkedCount}
 use Rattle.promises.specs.InUse.{withEntries, InUse}
 use Rattle.promises.proofs.Refused.{files-c, reworks-c, rework-stays}

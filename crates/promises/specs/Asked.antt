@@ -17,12 +17,12 @@ use Rattle.model.specs.Rules.{TableLine, Event}
 use Rattle.model.specs.Model.{history, numberOf, lineOf, judged}
 use Rattle.rules.specs.Rules.{rules, recordOf, lineBy}
 use Rattle.store.specs.declared.journals.records.Journal.{Journal}
-use Rattle.store.specs.journals.Records.{shownIn}
 use Rattle.store.specs.Reads.{Buffers, held, reads}
 use Rattle.asking.specs.declared.answer.Answer.{Answer}
 use Rattle.asking.specs.declared.pairs.WhyAnswer.{WhyAnswer}
 use Rattle.asking.specs.Why.{storedAs, firstPlace, secondPlace, partAt}
-use Rattle.asking.specs.answering.Confirmed.{noneConfirms}
+use Rattle.asking.specs.Record.{partShown}
+use Rattle.asking.specs.answering.Confirmed.{processedBefore, noneConfirms}
 use Rattle.asking.specs.answering.Whole.{entryAsked, whyAsked, recordAsked}
 use Rattle.asking.proofs.answering.Latest.{standing, Latest}
 use Rattle.asking.proofs.answering.Roots.{Root}
@@ -62,9 +62,10 @@ pub record ShowsPair (b : Buffers) (x : Number) (line : TableLine Number) : Type
   pub last-confirmed : Latest (lineBy line) (firstStanding (lineBy line)) (recordsOn b line)
   pub its-pair : standOn (lineBy line) (standing (lineBy line) (firstStanding (lineBy line)) (last-confirmed .earlier)) (recordOf (last-confirmed .event)) .why ≡ Why.Pair first second
   pub matching : Pairing first second
-  -- each is a record of the history
+  -- each is a record of the history, and the one processed first comes first
   pub first-record : Root (lineBy line .owner) (recordsOn b line) first
   pub second-record : Root (lineBy line .owner) (recordsOn b line) second
+  pub in-order : processedBefore (first-record .event) (second-record .event) ≡ true
   -- the parts that are shown are these records' bytes as the regular journal holds them, with their publisher and their publication day
   pub first-part : partAt (b .regular) (firstPlace (whyOf b x)) ≡ first-record .event .bytes
   pub second-part : partAt (b .regular) (secondPlace (whyOf b x)) ≡ second-record .event .bytes
@@ -85,5 +86,5 @@ pub record ShowsRecord (b : Buffers) (which : Journal) (place : ℕ) (e : Event)
   pub publisher : recordPublisher (recordAsked (reads b) which place) ≡ e .publisher
   pub day : recordDay (recordAsked (reads b) which place) ≡ e .day
   pub in-file : recordPlace (recordAsked (reads b) which place) ≡ e .place
-  pub bytes : shownIn which (b .regular) (b .corrections) 8192 place ≡ e .bytes
+  pub bytes : partShown (b .regular) (b .corrections) (recordAsked (reads b) which place) ≡ e .bytes
   pub verdict : recordVerdict (recordAsked (reads b) which place) ≡ judged rules (held b .files) e (lineOf rules (held b .lines) (numberOf rules e))
