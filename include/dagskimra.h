@@ -102,7 +102,8 @@ size_t dagskimra_line_end(const uint8_t *file, size_t file_length, size_t at);
 
 /* Writes a file from the words of its records. A report has six: both number fields with their digits behind a leading 1 (1: empty), day (65535:
  * empty), gaining network, losing network (1000: empty), 0 P, 1 L or 2 Z (3: empty); a correction 13: its code, then six for each part; a request two: its
- * network, its day. 0, and *more is its length; 4, and *more is the place of the first record that its layout can't hold; 41: out is too short, and *more is 0. On 4 and 41 out keeps its bytes. */
+ * network, its day. 0, and *more is its length; 4, and *more is the place of the first record that its layout can't hold; 41: out is too short, and *more
+ * is 0. On 4 and 41 out keeps its bytes. */
 uint8_t dagskimra_write(uint8_t kind, const uint64_t *words, size_t words_length, uint8_t *out, size_t out_length, uint64_t *more);
 
 /* ---- the store */

@@ -47,6 +47,9 @@ abbrev pub reworkedTold : Reworked → Told
 reworkedTold (Reworked.Changed n) = told 0 (n ∷ [])
 reworkedTold Reworked.Unreadable = told 44 []
 
+abbrev pub reworkNumber : Reworked → ℕ
+reworkNumber r = reworkedTold r .number
+
 abbrev pub reworkAnswer : ℕ → Option Held → Reworked
 reworkAnswer n none = Reworked.Unreadable
 reworkAnswer n (some h) = Reworked.Changed (length (changedLines (take n (h .files)) (h .lines) (h .entries)))

@@ -16,7 +16,7 @@ ghost use Rattle.rules.specs.Rules.{rules};
 ghost use Rattle.working.specs.Working.{Sound, InFile};
 ghost use Rattle.filing.specs.renewing.Turns.{filedFrom, Tagged, Workable, Ready, LineRenewed, NumberRenewed, RecordRenewed};
 
-// How many records of the first n files name the number.
+// How many records of the first n files name the number: without a line there is nothing to fold, so they are counted as they are gathered.
 fn count_all<'a>(
     files: &'a [u8],
     n: usize,
