@@ -1,8 +1,13 @@
-// What is asked of the library. The store has been judged when it was opened, so that nothing is refused here with 44; where there is
-// nothing to show, nothing is printed.
-use asking::answering::figure;
+// What is asked of the libraries. The store has been judged when it was opened, so that a look at it is its answer.
 use asking::stand;
 use entries::entry::Entry;
+use reworking::rework;
+use reworking::rework::ALL_FILES;
+use reworking::rework::Reworked;
+ghost use mathlib.Core.Path.{_≡_};
+ghost use Rattle.store.specs.Reads.{lent};
+ghost use Rattle.asking.specs.Looks.{standingLooked};
+ghost use Rattle.reworking.specs.Reworking.{allFiles, Reworks};
 
 // The entry of a line over the first n files.
 pub fn before<'a>(
@@ -12,20 +17,24 @@ pub fn before<'a>(
     regular: &'a [u8],
     corrections: &'a [u8],
     i: usize,
-) -> Entry {
-    let s = stand::standing(lines, files, n, regular, corrections, i);
+) -> Entry
+    ensures { λ r. ⌜ r ≡ standingLooked (now (lines .entry)) (now (files .entry)) (now (regular .entry)) (now (corrections .entry)) n i .standing .entry ⌝ }
+{
+    let s = stand::look(lines, files, n, regular, corrections, i);
     let t = s.standing;
     t.entry
 }
 
-// Whether the stored entry of a line is another than the one worked out.
-pub fn differs<'a>(
+// Every entry worked out over all files and written, and the places of the lines whose entry was another one.
+pub fn reworked<'a>(
     lines: &[u8],
     files: &'a [u8],
     regular: &'a [u8],
     corrections: &'a [u8],
-    entries: &[u8],
-    i: usize,
-) -> bool {
-    figure::differs(lines, files, regular, corrections, entries, i)
+    entries: &mut [u8],
+    list: &mut [u16],
+) -> Reworked
+    ensures { λ r. ⌜ Reworks (lent (now (lines .entry)) (now (files .entry)) (now (regular .entry)) (now (corrections .entry)) (now (entries .entry))) allFiles (now (list .entry)) r (now (entries .exit)) (now (list .exit)) ⌝ }
+{
+    rework::rework(lines, files, regular, corrections, entries, ALL_FILES, list)
 }

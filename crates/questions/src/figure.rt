@@ -2,9 +2,12 @@
 use crate::asked;
 use crate::compared;
 use crate::table;
+use asking::answering::figure;
+use asking::answering::figure::FigureAnswer;
 use commands::end;
 use commands::opened;
 use desk::args;
+use desk::copy_in;
 use desk::page;
 use disk::CORRECTIONS;
 use disk::ENTRIES;
@@ -15,73 +18,8 @@ use libc::STDERR_FILENO;
 use libc::STDOUT_FILENO;
 use page::Page;
 use page::ROOM;
+use reworking::rework::Reworked;
 use store::numbers::lines::NUMBERS;
-ghost use Prim.Native.Nat.{_≤_};
-
-fn one_if(b: bool) -> usize
-    ensures { λ r. ⌜ r ≤ 1 ⌝ }
-{
-    if b { 1 } else { 0 }
-}
-
-// Marks each line whose entry differs, and counts them.
-fn mark<'a>(
-    marks: &mut [bool; NUMBERS],
-    lines: &[u8],
-    files: &'a [u8],
-    regular: &'a [u8],
-    corrections: &'a [u8],
-    entries: &[u8],
-) -> usize {
-    let n = table::count(lines);
-    let mut differ = 0;
-    let mut i = 0;
-    while i < n {
-        let other = asked::differs(lines, files, regular, corrections, entries, i);
-        marks[i] = other;
-        differ += one_if(other);
-        i += 1;
-    }
-    differ
-}
-
-// The line of one number.
-fn line<'a>(
-    first: Page,
-    room: &mut [u8; ROOM],
-    lines: &[u8],
-    files: &'a [u8],
-    regular: &'a [u8],
-    corrections: &'a [u8],
-    entries: &[u8],
-    i: usize,
-) -> Page {
-    let stored = table::entry_at(entries, i);
-    let worked = asked::before(lines, files, NUMBERS, regular, corrections, i);
-    compared::line(first, room, table::number_at(lines, i), stored, worked)
-}
-
-// The lines that are marked.
-fn print_marked<'a>(
-    first: Page,
-    room: &mut [u8; ROOM],
-    marks: &[bool; NUMBERS],
-    lines: &[u8],
-    files: &'a [u8],
-    regular: &'a [u8],
-    corrections: &'a [u8],
-    entries: &[u8],
-) -> Page {
-    let mut p = first;
-    let mut i = 0;
-    while i < NUMBERS {
-        if marks[i] {
-            p = line(p, room, lines, files, regular, corrections, entries, i);
-        }
-        i += 1;
-    }
-    p
-}
 
 fn entries_are(n: usize) {
     if n == 1 {
@@ -104,6 +42,26 @@ fn warn(folder: &[u8], differ: usize) {
     words::text(b"' works the entries out again and lists those that change\n");
 }
 
+// The lines of those that differ: their entries as stored, and as they are worked out in a copy.
+fn print_differing<'a>(
+    first: Page,
+    room: &mut [u8; ROOM],
+    lines: &[u8; TABLE],
+    files: &'a [u8; FILES],
+    regular: &'a [u8; REGULAR],
+    corrections: &'a [u8; CORRECTIONS],
+    entries: &[u8; ENTRIES],
+) -> Page {
+    let mut worked = [0u8; ENTRIES];
+    let mut list = [0u16; NUMBERS];
+    copy_in(&mut worked, 0, entries);
+    match asked::reworked(lines, files, regular, corrections, &mut worked, &mut list) {
+        Reworked::Unreadable => first,
+        Reworked::Changed(n) => compared::listed(first, room, &list, n, lines, entries, &worked),
+    }
+}
+
+// The figure, and the lines of those that differ.
 fn print<'a>(
     folder: &[u8],
     lines: &[u8; TABLE],
@@ -111,10 +69,9 @@ fn print<'a>(
     regular: &'a [u8; REGULAR],
     corrections: &'a [u8; CORRECTIONS],
     entries: &[u8; ENTRIES],
+    differ: usize,
 ) -> u8 {
-    let mut marks = [false; NUMBERS];
     let mut room = [0u8; ROOM];
-    let differ = mark(&mut marks, lines, files, regular, corrections, entries);
     let p = compared::count(
         page::begin(STDOUT_FILENO),
         &mut room,
@@ -126,17 +83,23 @@ fn print<'a>(
         return end::done(p, &room, 0);
     }
     warn(folder, differ);
-    let q = print_marked(
-        p,
-        &mut room,
-        &marks,
-        lines,
-        files,
-        regular,
-        corrections,
-        entries,
-    );
+    let q = print_differing(p, &mut room, lines, files, regular, corrections, entries);
     end::done(q, &room, 1)
+}
+
+// What the library answers is what is printed.
+fn print_figure<'a>(
+    folder: &[u8],
+    lines: &[u8; TABLE],
+    files: &'a [u8; FILES],
+    regular: &'a [u8; REGULAR],
+    corrections: &'a [u8; CORRECTIONS],
+    entries: &[u8; ENTRIES],
+) -> u8 {
+    match figure::figure(lines, files, regular, corrections, entries) {
+        FigureAnswer::Unreadable => opened::damaged(folder),
+        FigureAnswer::Differ(n) => print(folder, lines, files, regular, corrections, entries, n),
+    }
 }
 
 fn figure_in(folder: &[u8]) -> u8 {
@@ -156,7 +119,7 @@ fn figure_in(folder: &[u8]) -> u8 {
     if status != 0 {
         return status;
     }
-    print(folder, &lines, &files, &regular, &corrections, &entries)
+    print_figure(folder, &lines, &files, &regular, &corrections, &entries)
 }
 
 pub fn run(count: usize) -> u8 {

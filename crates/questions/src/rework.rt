@@ -1,5 +1,6 @@
 // rework STORE: every entry worked out again from the journals. Those that change are listed, then all are put on the disk, and then
 // their count is printed. So nothing changes on the disk that is not listed, and with the last line all is done.
+use crate::asked;
 use crate::compared;
 use crate::table;
 use commands::end;
@@ -16,7 +17,6 @@ use disk::lock;
 use disk::saved;
 use disk::saved::Loaded;
 use libc::STDOUT_FILENO;
-use page::Page;
 use page::ROOM;
 use reworking::rework::Reworked;
 use store::numbers::lines::NUMBERS;
@@ -51,43 +51,6 @@ fn keep(
     Ended::Failed
 }
 
-// The line of the number at a place of the table.
-fn line(
-    first: Page,
-    room: &mut [u8; ROOM],
-    lines: &[u8],
-    before: &[u8],
-    entries: &[u8],
-    place: u16,
-) -> Page {
-    let i = place as usize;
-    let stored = table::entry_at(before, i);
-    let worked = table::entry_at(entries, i);
-    compared::line(first, room, table::number_at(lines, i), stored, worked)
-}
-
-// The lines of the first n places of the list.
-fn print_listed(
-    first: Page,
-    room: &mut [u8; ROOM],
-    list: &[u16; NUMBERS],
-    n: usize,
-    lines: &[u8],
-    before: &[u8],
-    entries: &[u8],
-) -> Page {
-    let mut p = first;
-    let mut k = 0;
-    while k < NUMBERS {
-        if n <= k {
-            return p;
-        }
-        p = line(p, room, lines, before, entries, list[k]);
-        k += 1;
-    }
-    p
-}
-
 // Whether the lines of the first n places of the list could be printed; the reason has been told where not.
 fn list_changed(
     folder: &[u8],
@@ -98,7 +61,7 @@ fn list_changed(
     n: usize,
 ) -> bool {
     let mut room = [0u8; ROOM];
-    let p = print_listed(
+    let p = compared::listed(
         page::begin(STDOUT_FILENO),
         &mut room,
         list,
@@ -150,8 +113,7 @@ fn rework_loaded<'a>(
     let mut before = [0u8; ENTRIES];
     let mut list = [0u16; NUMBERS];
     copy_in(&mut before, 0, entries);
-    let all = store::journals::files::FILES;
-    match reworking::rework::rework(lines, files, regular, corrections, entries, all, &mut list) {
+    match asked::reworked(lines, files, regular, corrections, entries, &mut list) {
         Reworked::Unreadable => Ended::Damaged,
         Reworked::Changed(n) => settle(
             folder,

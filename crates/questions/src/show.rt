@@ -18,6 +18,8 @@ use page::Page;
 use page::ROOM;
 use store::numbers::find::FoundLine;
 use text::Spelt;
+ghost use mathlib.Core.Path.{_≡_};
+ghost use Rattle.questions.specs.Shown.{entryWanted, fileNumber};
 
 // What is asked for: the stored entries, or those that the first files lead to.
 pub struct Wanted {
@@ -28,6 +30,7 @@ pub struct Wanted {
     pub end: usize,
 }
 
+// The entry of a line, as it is asked for.
 fn entry_of<'a>(
     a: Wanted,
     lines: &[u8],
@@ -36,7 +39,9 @@ fn entry_of<'a>(
     corrections: &'a [u8],
     entries: &[u8],
     i: usize,
-) -> Entry {
+) -> Entry
+    ensures { λ r. ⌜ r ≡ entryWanted (a .stored) (a .files) (now (lines .entry)) (now (files .entry)) (now (regular .entry)) (now (corrections .entry)) (now (entries .entry)) i ⌝ }
+{
     if a.stored {
         return table::entry_at(entries, i);
     }
@@ -99,7 +104,7 @@ fn print_word<'a>(
     entries: &[u8],
 ) -> Told {
     let p = t.page;
-    match named::line_of(lines, word) {
+    match named::line_of(lines, shown::number::read(word)) {
         FoundLine::Unknown => Told {
             page: unknown(p, room, word),
             known: false,
@@ -238,7 +243,9 @@ fn usage(wrong: &[u8]) -> u8 {
 }
 
 // The number of a file, from 1; 0 where the word is none. Nine digits are enough for any.
-fn file_number(word: &[u8]) -> u64 {
+fn file_number(word: &[u8]) -> u64
+    ensures { λ r. ⌜ r ≡ fileNumber (now (word .entry)) ⌝ }
+{
     if word.len() == 0 {
         return 0;
     }

@@ -1,30 +1,33 @@
-// What is asked of the library.
-use asking::pairs::WhyAnswer;
+// What is asked of the library. The store has been judged when it was opened, so that a look at it is its answer.
+use asking::looks::LookedWhy;
+use asking::pairs::Stored;
 use fields::number::NumberRead;
 use store::journals::records::Journal;
 use store::journals::records::REPORTS;
 use store::journals::records::record_bytes;
+ghost use mathlib.Core.Path.{_≡_};
+ghost use Rattle.asking.specs.Why.{partAt};
+ghost use Rattle.reasons.specs.Named.{whyNamed};
 
-// Why the number that a word names stands where it does.
+// Why a number stands where it does.
 pub fn why<'a>(
     lines: &[u8],
     files: &'a [u8],
     regular: &'a [u8],
     corrections: &'a [u8],
-    word: &[u8],
-) -> WhyAnswer {
-    let NumberRead::Number(number) = shown::number::read(word) else {
-        return WhyAnswer::UnknownNumber;
-    };
-    asking::why::why(lines, files, regular, corrections, number)
+    number: NumberRead,
+) -> LookedWhy
+    ensures { λ r. ⌜ r ≡ whyNamed (now (lines .entry)) (now (files .entry)) (now (regular .entry)) (now (corrections .entry)) number ⌝ }
+{
+    match number {
+        NumberRead::Number(x) => asking::why::look(lines, files, regular, corrections, x),
+        NumberRead::Fault => LookedWhy::UnknownNumber,
+    }
 }
 
-// The bytes of a record that is there: no journal has more than the regular one takes.
-pub fn bytes<'a>(
-    regular: &'a [u8],
-    corrections: &'a [u8],
-    which: Journal,
-    place: usize,
-) -> &'a [u8] {
-    record_bytes(regular, corrections, which, REPORTS, place)
+// The bytes of a report of a pair.
+pub fn report<'a>(regular: &'a [u8], corrections: &'a [u8], s: Stored) -> &'a [u8]
+    ensures { λ r. ⌜ now r ≡ partAt (now (regular .entry)) (s .place) ⌝ }
+{
+    record_bytes(regular, corrections, Journal::Regular, REPORTS, s.place)
 }

@@ -1,5 +1,6 @@
 // verdicts STORE: every filed record with its verdict, the regular journal first.
-use crate::asked;
+use asking::looks::LookedRecord;
+use asking::record;
 use asking::record::Asked;
 use asking::record::AskedRecord;
 use commands::end;
@@ -57,7 +58,8 @@ fn line<'a>(
     corrections: &'a [u8],
 ) -> Page {
     let p = heading(first, room, which, place, r);
-    let q = page::text(p, room, asked::bytes(regular, corrections, which, place));
+    let shown = Asked::Record(which, place, r);
+    let q = page::text(p, room, record::part(regular, corrections, shown));
     page::line_end(q, room)
 }
 
@@ -87,11 +89,11 @@ fn print_one<'a>(
     place: usize,
 ) -> Walk {
     let p = w.page;
-    match asking::record::record(lines, files, regular, corrections, which, place) {
-        Asked::Beyond => end_of(p),
-        Asked::Unreadable => end_of(p),
-        Asked::Record(r) => Walk {
-            page: line(p, room, which, place, r, regular, corrections),
+    match record::look(lines, files, regular, corrections, which, place) {
+        LookedRecord::Beyond => end_of(p),
+        LookedRecord::Unshowable => end_of(p),
+        LookedRecord::Record(j, at, r) => Walk {
+            page: line(p, room, j, at, r, regular, corrections),
             more: true,
         },
     }

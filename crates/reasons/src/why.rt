@@ -1,7 +1,7 @@
 // why STORE NUMBER...: the two reports under which a number moved last.
 use crate::asked;
+use asking::looks::LookedWhy;
 use asking::pairs::Stored;
-use asking::pairs::WhyAnswer;
 use commands::end;
 use commands::opened;
 use desk::args;
@@ -15,7 +15,6 @@ use libc::STDOUT_FILENO;
 use page::Page;
 use page::ROOM;
 use shown::piece;
-use store::journals::records::Journal;
 
 // A tab, RECORD, a tab, PUBLISHED
 fn report<'a>(
@@ -26,11 +25,7 @@ fn report<'a>(
     s: Stored,
 ) -> Page {
     let mut p = page::tab(first, room);
-    p = page::text(
-        p,
-        room,
-        asked::bytes(regular, corrections, Journal::Regular, s.place),
-    );
+    p = page::text(p, room, asked::report(regular, corrections, s));
     p = page::tab(p, room);
     piece::date(p, room, s.day)
 }
@@ -67,11 +62,12 @@ fn print_word<'a>(
     corrections: &'a [u8],
 ) -> Told {
     let p = page::text(t.page, room, word);
-    match asked::why(lines, files, regular, corrections, word) {
-        WhyAnswer::UnknownNumber => unknown(p, room, word),
-        WhyAnswer::Unreadable => unknown(p, room, word),
-        WhyAnswer::Nothing => with(t, page::text(p, room, b"\tnone\n")),
-        WhyAnswer::Pair(first, second) => {
+    let number = shown::number::read(word);
+    match asked::why(lines, files, regular, corrections, number) {
+        LookedWhy::UnknownNumber => unknown(p, room, word),
+        LookedWhy::Unshowable => unknown(p, room, word),
+        LookedWhy::Nothing => with(t, page::text(p, room, b"\tnone\n")),
+        LookedWhy::Pair(first, second) => {
             let q = page::text(p, room, b"\tpair");
             let r = report(q, room, regular, corrections, first);
             let s = report(r, room, regular, corrections, second);

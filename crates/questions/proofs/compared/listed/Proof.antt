@@ -1,14 +1,14 @@
--- `questions::rework::print_listed` is safe and ends. The measure is what is left to do. Assumes nothing.
+-- `questions::compared::listed` is safe and ends. The measure is what is left to do. Assumes nothing.
 use Prim.Native.Nat.{_-_}
 use borrow.Author.Needs.{needs}
-use Rattle.questions.proofs.rework.print_listed.Statement.{statement}
-use Rattle.questions.proofs.rework.print_listed.Tie as tie
+use Rattle.questions.proofs.compared.listed.Statement.{statement}
+use Rattle.questions.proofs.compared.listed.Tie as tie
 
 abbrev Inv-loop : tie.InvT-loop
-Inv-loop room₀ list n lines before entries p₀ k₀ room p k = Unit
+Inv-loop room₀ list n lines stored worked p₀ k₀ room p k = Unit
 
 abbrev μ-loop : tie.MeasureT-loop
-μ-loop room₀ list n lines before entries p₀ k₀ room p k = 1024 - k
+μ-loop room₀ list n lines stored worked p₀ k₀ room p k = 1024 - k
 
 loop-holds : tie.Need-loop-holds Inv-loop μ-loop
 loop-holds c = search needs
@@ -37,8 +37,8 @@ loop-again c = search needs
 returns-2 : tie.Need-returns-2 Inv-loop μ-loop
 returns-2 c = search needs
 
-pub print-listed-spec : {M : Type 1} → statement M
-print-listed-spec =
+pub listed-spec : {M : Type 1} → statement M
+listed-spec =
     tie.close
     (tie.spec
     Inv-loop
