@@ -6,9 +6,13 @@ use disk::FILES;
 use disk::REGULAR;
 use disk::TABLE;
 use disk::saved;
+ghost use Rattle.store.specs.Reads.{lent};
+ghost use Rattle.commands.specs.Status.{Ends, Opens};
 
 // The store is damaged: `refused` 44.
-pub fn damaged(folder: &[u8]) -> u8 {
+pub fn damaged(folder: &[u8]) -> u8
+    ensures { λ r. ⌜ Ends 1 r ⌝ }
+{
     words::refusal::refused(folder, 44);
     end::refused(44)
 }
@@ -21,7 +25,9 @@ pub fn open(
     regular: &mut [u8; REGULAR],
     corrections: &mut [u8; CORRECTIONS],
     entries: &mut [u8; ENTRIES],
-) -> u8 {
+) -> u8
+    ensures { λ r. ⌜ Opens r (lent (now (table .exit)) (now (files .exit)) (now (regular .exit)) (now (corrections .exit)) (now (entries .exit))) ⌝ }
+{
     match saved::load(folder, table, files, regular, corrections, entries) {
         saved::Loaded::Ready => 0,
         saved::Loaded::Missing => 2,

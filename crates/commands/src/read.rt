@@ -14,6 +14,8 @@ use page::Page;
 use page::ROOM;
 use records::names::kind::FileKind;
 use records::names::name::NameRead;
+ghost use Rattle.files.specs.Judged.{judgedFile};
+ghost use Rattle.commands.specs.Status.{Ends, readStatus};
 
 // `record` PLACE RECORD
 fn record(first: Page, room: &mut [u8; ROOM], i: usize, bytes: &[u8]) -> Page {
@@ -44,14 +46,18 @@ fn print(first: Page, room: &mut [u8; ROOM], file: &[u8], n: usize) -> Page {
     p
 }
 
-fn records(file: &[u8], n: usize) -> u8 {
+fn records(file: &[u8], n: usize) -> u8
+    ensures { λ r. ⌜ Ends 0 r ⌝ }
+{
     let mut room = [0u8; ROOM];
     let p = print(page::begin(STDOUT_FILENO), &mut room, file, n);
     end::done(p, &room, 0)
 }
 
 // `refused` 4 PLACE FIELD CAUSE
-fn refused(at: FaultPlace, cause: Cause) -> u8 {
+fn refused(at: FaultPlace, cause: Cause) -> u8
+    ensures { λ r. ⌜ Ends 1 r ⌝ }
+{
     let mut room = [0u8; ROOM];
     let p = page::text(page::begin(STDOUT_FILENO), &mut room, b"refused\t");
     let q = fault::columns(p, &mut room, at.place, at.field, cause.number());
@@ -59,7 +65,10 @@ fn refused(at: FaultPlace, cause: Cause) -> u8 {
     end::done(r, &room, 1)
 }
 
-fn read_bytes(path: &[u8], kind: FileKind, file: &[u8]) -> u8 {
+// What is printed is what the file was judged to be.
+fn read_bytes(path: &[u8], kind: FileKind, file: &[u8]) -> u8
+    ensures { λ r. ⌜ Ends (readStatus (judgedFile kind (now (file .entry)))) r ⌝ }
+{
     match files::judge::judge(kind, file) {
         Judged::Fault(at, cause) => {
             words::fault::refused(path, kind, file, at, cause);

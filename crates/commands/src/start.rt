@@ -16,8 +16,13 @@ use disk::saved;
 use libc::STDOUT_FILENO;
 use page::ROOM;
 use starting::start::Started;
+ghost use mathlib.Core.Path.{_≡_};
+ghost use Rattle.store.specs.Reads.{lent};
+ghost use Rattle.commands.specs.Status.{Ends, StartsBy};
 
-fn there_already(folder: &[u8]) -> u8 {
+fn there_already(folder: &[u8]) -> u8
+    ensures { λ r. ⌜ r ≡ 2 ⌝ }
+{
     words::complain(
         folder,
         b"there is a store already, and it is left alone; name another folder",
@@ -48,7 +53,9 @@ fn save_new(
     regular: &[u8; REGULAR],
     corrections: &[u8; CORRECTIONS],
     entries: &[u8; ENTRIES],
-) -> u8 {
+) -> u8
+    ensures { λ r. ⌜ Ends 0 r ⌝ }
+{
     if !made(folder) {
         return 2;
     }
@@ -65,7 +72,9 @@ fn save_new(
     if done { 0 } else { 2 }
 }
 
-fn started(n: usize) -> u8 {
+fn started(n: usize) -> u8
+    ensures { λ r. ⌜ Ends 0 r ⌝ }
+{
     let mut room = [0u8; ROOM];
     let p = page::text(page::begin(STDOUT_FILENO), &mut room, b"started\t");
     let q = page::number(p, &mut room, n as u64);
@@ -73,7 +82,9 @@ fn started(n: usize) -> u8 {
     end::done(r, &room, 0)
 }
 
-fn refused(path: &[u8], number: u8) -> u8 {
+fn refused(path: &[u8], number: u8) -> u8
+    ensures { λ r. ⌜ Ends 1 r ⌝ }
+{
     words::refusal::refused(path, number);
     end::refused(number)
 }
@@ -88,7 +99,9 @@ fn start_on(
     regular: &mut [u8; REGULAR],
     corrections: &mut [u8; CORRECTIONS],
     entries: &mut [u8; ENTRIES],
-) -> u8 {
+) -> u8
+    ensures { λ r. ⌜ StartsBy (now (text .entry)) (lent (now (table .entry)) (now (files .entry)) (now (regular .entry)) (now (corrections .entry)) (now (entries .entry))) r (lent (now (table .exit)) (now (files .exit)) (now (regular .exit)) (now (corrections .exit)) (now (entries .exit))) ⌝ }
+{
     match starting::start::start(text, table, files, regular, corrections, entries) {
         Started::Short => refused(path, 44),
         Started::BadTable => refused(path, 6),
