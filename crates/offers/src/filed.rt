@@ -10,9 +10,14 @@ use faults::cause::Cause;
 use faults::cause::FaultPlace;
 use filing::checking::answer::Answer;
 use filing::entering::kind::Filable;
+ghost use mathlib.Core.Path.{_≡_};
+ghost use Rattle.store.specs.Reads.{lent};
+ghost use Rattle.offers.specs.Filed.{plainly, faultTold, toldOf, FilesTold};
 
 // An answer that is its number, and the count of a 0.
-fn plain(a: Answer, value: usize) -> Told {
+fn plain(a: Answer, value: usize) -> Told
+    ensures { λ r. ⌜ r ≡ plainly a value ⌝ }
+{
     Told {
         number: filing::checking::answer::number(a),
         value,
@@ -21,7 +26,9 @@ fn plain(a: Answer, value: usize) -> Told {
     }
 }
 
-fn fault(path: &[u8], kind: Filable, text: &[u8], at: FaultPlace, cause: Cause) -> Told {
+fn fault(path: &[u8], kind: Filable, text: &[u8], at: FaultPlace, cause: Cause) -> Told
+    ensures { λ r. ⌜ r ≡ faultTold at cause ⌝ }
+{
     words::fault::refused(path, kind.file_kind(), text, at, cause);
     Told {
         number: 4,
@@ -31,14 +38,21 @@ fn fault(path: &[u8], kind: Filable, text: &[u8], at: FaultPlace, cause: Cause) 
     }
 }
 
-fn as_told(path: &[u8], kind: Filable, text: &[u8], a: Answer) -> Told {
+fn as_told(path: &[u8], kind: Filable, text: &[u8], a: Answer) -> Told
+    ensures { λ r. ⌜ r ≡ toldOf a ⌝ }
+{
     match a {
         Answer::Filed(count) => plain(a, count),
         Answer::Fault(at, cause) => fault(path, kind, text, at, cause),
-        _ => plain(a, 0),
+        Answer::Unreadable => plain(a, 0),
+        Answer::NoCode => plain(a, 0),
+        Answer::NoDay => plain(a, 0),
+        Answer::FiledAlready => plain(a, 0),
+        Answer::Full => plain(a, 0),
     }
 }
 
+// Files a file, and tells what filing answers.
 pub fn file(
     path: &[u8],
     table: &[u8; TABLE],
@@ -50,7 +64,9 @@ pub fn file(
     publisher: &[u8],
     day: CalendarDays,
     text: &[u8],
-) -> Told {
+) -> Told
+    ensures { λ r. ⌜ FilesTold (lent (now (table .entry)) (now (files .entry)) (now (regular .entry)) (now (corrections .entry)) (now (entries .entry))) kind (now (publisher .entry)) (day .0) (now (text .entry)) r (lent (now (table .entry)) (now (files .exit)) (now (regular .exit)) (now (corrections .exit)) (now (entries .exit))) ⌝ }
+{
     let answer = filing::file::file(
         table,
         files,

@@ -1,5 +1,9 @@
 // The answers, kept until what was filed is on the disk. (There is no slice of structs.)
 
+ghost use mathlib.Core.Path.{_≡_};
+ghost use Prim.Native.Nat.{min};
+ghost use Rattle.offers.specs.Kept.{keptWith, keptAt};
+
 // As many words as the answers of one command take, four each.
 pub const KEPT: usize = 65536;
 
@@ -11,11 +15,15 @@ pub struct Told {
     pub cause: u8,
 }
 
-fn wide(b: u8) -> usize {
+fn wide(b: u8) -> usize
+    ensures { λ r. ⌜ r ≡ b ⌝ }
+{
     b as usize
 }
 
-fn narrow(n: usize) -> u8 {
+fn narrow(n: usize) -> u8
+    ensures { λ r. ⌜ r ≡ min n 255 ⌝ }
+{
     if 255 < n {
         return 255;
     }
@@ -23,7 +31,9 @@ fn narrow(n: usize) -> u8 {
 }
 
 // Keeps the answer to the offer `k`.
-pub fn keep(kept: &mut [usize; KEPT], k: usize, told: Told) {
+pub fn keep(kept: &mut [usize; KEPT], k: usize, told: Told)
+    ensures { λ _. ⌜ now (kept .exit) ≡ keptWith (now (kept .entry)) k told ⌝ }
+{
     if crate::MOST <= k {
         return;
     }
@@ -35,7 +45,9 @@ pub fn keep(kept: &mut [usize; KEPT], k: usize, told: Told) {
 }
 
 // The answer to the offer `k`; until another is kept, the store is damaged.
-pub fn at(kept: &[usize; KEPT], k: usize) -> Told {
+pub fn at(kept: &[usize; KEPT], k: usize) -> Told
+    ensures { λ r. ⌜ r ≡ keptAt (now (kept .entry)) k ⌝ }
+{
     if crate::MOST <= k {
         return Told {
             number: 44,

@@ -1,5 +1,8 @@
 // A list of offers: PUBLISHER, a tab and PATH each, with a separator behind it. Blank lines are passed over.
 use crate::MOST;
+ghost use mathlib.Core.Path.{_≡_};
+ghost use Rattle.laws.specs.Split.{pieceOf};
+ghost use Rattle.offers.specs.Counted.{FitsOne};
 ghost use Prim.Native.Nat.{_≤_};
 ghost use lib.ListN.{length};
 
@@ -30,7 +33,9 @@ fn offers_in(line: &[u8]) -> usize {
 }
 
 // How many offers a list has.
-pub fn count(list: &[u8], sep: u8) -> Counted {
+pub fn count(list: &[u8], sep: u8) -> Counted
+    ensures { λ r. ⌜ FitsOne r ⌝ }
+{
     let mut at = 0;
     let mut n = 0;
     let mut line = 0;
@@ -54,7 +59,9 @@ pub fn count(list: &[u8], sep: u8) -> Counted {
 }
 
 // The publisher of a line.
-pub fn publisher(line: &[u8]) -> &[u8] {
+pub fn publisher(line: &[u8]) -> &[u8]
+    ensures { λ r. ⌜ now r ≡ pieceOf 9 (now (line .entry)) 0 ⌝ }
+{
     text::piece(line, b'\t', 0)
 }
 

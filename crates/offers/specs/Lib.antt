@@ -1,0 +1,3 @@
+pub mod Kept
+pub mod Counted
+pub mod Filed
