@@ -83,6 +83,26 @@ fails 'working::gather::gather_all is left out and is not there' tests/outcomes.
 change crates/working/src/indexing/find.rt 's/fn work_indexed/fn worked_indexed/'
 fails 'working::indexing::find::work_indexed has no room that is left out' tests/outcomes.sh
 
+# ---- contracts.sh
+pf=crates/desk/src/run.rt
+passes tests/contracts.sh
+add $pf 'pub fn loose(x: u8) -> u8 {' '    x' '}'
+fails 'desk::run::loose has no contract on its result, and is not listed' tests/contracts.sh
+add $pf 'pub(crate) fn loose(x: u8) -> u8' '    ensures { λ r. ⌜ r ≡ r ⌝ }' '{' '    x' '}'
+fails 'desk::run::loose has no contract on its result, and is not listed' tests/contracts.sh
+add $pf 'pub fn loose(out: &mut [u8]) -> u8' '    ensures { λ r. ⌜ now (out .exit) ≡ now (out .entry) ⌝ }' '{' '    1' '}'
+fails 'desk::run::loose has no contract on its result, and is not listed' tests/contracts.sh
+change crates/disk/src/saved.rt '/Loads r/d'
+fails 'disk::saved::load has no contract on its result, and is not listed' tests/contracts.sh
+add tests/without-contract 'system disk::saved::load'
+fails 'disk::saved::load is listed, and has a contract' tests/contracts.sh
+add tests/without-contract 'prints desk::page::torn'
+fails 'desk::page::torn is listed and is not there' tests/contracts.sh
+add tests/without-contract 'prints desk::page::tab'
+fails 'desk::page::tab is listed twice' tests/contracts.sh
+add tests/without-contract 'because desk::page::torn'
+fails 'not a reason and a function: because desk::page::torn' tests/contracts.sh
+
 # ---- outer.sh
 passes tests/outer.sh
 change crates/capi/src/offer.rt '/^pub extern "C" fn dagskimra_file/,/ensures/s/^    ensures/    requires { ⌜ length (now text) ≤ 100 ⌝ }\n&/'
