@@ -7,6 +7,7 @@ use Prim.Native.Nat.{ℕ}
 use native.Mathlib.Omega.{arith}
 use Rattle.laws.specs.Lists.{any}
 use Rattle.laws.proofs.Lines.{line-applied}
+use Rattle.laws.proofs.Tests.{and-true}
 use Rattle.fields.specs.declared.code.Code.{Code}
 use Rattle.entries.specs.declared.entry.Place.{Place}
 use Rattle.entries.specs.declared.entry.Entry.{Entry}
@@ -21,6 +22,7 @@ use Rattle.verdict.specs.declared.step.Record.{Record}
 use Rattle.verdict.specs.declared.step.Why.{Why}
 use Rattle.verdict.specs.declared.step.Standing.{Standing}
 use Rattle.verdict.specs.verdicts.Does.{isConfirmed, doesBy}
+use Rattle.verdict.specs.report_rules.Reports.{reportVerdict}
 use Rattle.verdict.specs.correction_rules.Corrections.{objectionTable, objectionVerdict}
 use Rattle.verdict.specs.Step.{placedAs, verdictBy, verdictOn, pairAfter, whyBy, standOn, entryAfter}
 use Rattle.verdict.proofs.StepLaws.{confirmed-by, confirmed-does}
@@ -59,7 +61,7 @@ why-stays line s e h = why-by (verdictOn (With line) (s .entry) (recordOf e)) (l
 
 none-more : (line : Line) (s : Standing) (e : Event) (es : List Event) → confirms line (s .entry) e ≡ false → noneConfirms line (standOn line s (recordOf e) .entry) es ≡ true → noneConfirms line (s .entry) (e ∷ es) ≡ true
 unfolding standOn entryAfter noneConfirms
-none-more line s e es h k = rw h k
+none-more line s e es h k = and-true _ _ (ap not h) k
 
 pub latest : (line : Line) (s : Standing) (es : List Event) → ((noneConfirms line (s .entry) es ≡ true) × (standing line s es .why ≡ s .why)) ⊎ Latest line s es
 unfolding noneConfirms
@@ -89,8 +91,11 @@ never-11 line entry from o h = true≢false (sym (line-applied isConfirmed (obje
 
 pair-by : (line : Line) (s : Standing) (e : Event) (says : Says) → isConfirmed (verdictBy (With line) (s .entry) (recordOf e .publisher) (recordOf e .day) says) ≡ true
     → whyBy (doesBy (verdictBy (With line) (s .entry) (recordOf e .publisher) (recordOf e .day) says)) (line .owner) (s .entry .places) (s .why) (recordOf e) says ≡ Why.Nothing → ⊥
-pair-by line s e (Says.Reported p) h k = apart _ _ (sym (ap (λ (d : Doing). pairAfter d (s .entry .places) (placedAs (recordOf e) (meantBy (line .owner) p)) (s .why)) (confirmed-does _ h)) ∙ k)
+pair-by line s e (Says.Reported p) h k = apart _ _ (sym (ap (λ (d : Doing). pairAfter d (s .entry .places) (placedAs (recordOf e) (meantBy (line .owner) p)) (s .why)) (confirmed-does v h)) ∙ k)
   where
+    v : Verdict
+    v = reportVerdict (With line) (s .entry) (recordOf e .publisher) (recordOf e .day) (meantBy (line .owner) p)
+
     apart : (a b : Place) → Why.Pair a b ≡ Why.Nothing → ⊥
     apart a b q = let z : _≡_ {A = ℕ} 0 1 = cc in absurd (omega arith)
 pair-by line s e (Says.Objected o) h k = never-11 line (s .entry) (recordOf e .publisher) o h

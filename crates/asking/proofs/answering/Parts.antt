@@ -27,7 +27,7 @@ use Rattle.working.proofs.SlipLaws.{records-more}
 use Rattle.asking.specs.Items.{itemAt}
 use Rattle.asking.specs.Showable.{isShowable}
 use Rattle.asking.specs.declared.record.Asked.{Asked}
-use Rattle.asking.specs.Numbers.{askedNumber}
+use Rattle.asking.specs.Numbers.{askedTold}
 use Rattle.asking.specs.Record.{kindOf, InFileAt, askedAs, askedOf, askedIn, partShown}
 use Rattle.asking.specs.answering.Whole.{recordAsked}
 use Rattle.asking.proofs.Records.{located, located-start, record-located, record-beyond}
@@ -94,8 +94,8 @@ module _ (t f r c e : List ℕ) (which : Journal) (place : ℕ) where
   unfolding askedIn
   answer-by whole o q = ap (λ (h : Option Held). recordAsked h which place) (reads-some b whole) ∙ ap (askedOf (held b .lines) (held b .files) which place) q
 
-  record-at : isReadable b ≡ true → askedNumber answer ≡ 0 → (o : Option Event) → itemAt (journalOf (kindOf which) (held b .files)) place ≡ o → RecordShown b which place answer
-  record-at whole h none q = absurd (omega (arith, sym (ap askedNumber (answer-by whole none q)) ∙ h))
+  record-at : isReadable b ≡ true → askedTold answer .number ≡ 0 → (o : Option Event) → itemAt (journalOf (kindOf which) (held b .files)) place ≡ o → RecordShown b which place answer
+  record-at whole h none q = absurd (omega (arith, sym (ap (λ (a : Asked). askedTold a .number) (answer-by whole none q)) ∙ h))
   record-at whole h (some d) q = record {
     event = d;
     stored = q;
@@ -104,9 +104,9 @@ module _ (t f r c e : List ℕ) (which : Journal) (place : ℕ) where
   }
 
   -- an answer 0 shows a record, and its part is the bytes of that record
-  pub record-promise : askedNumber answer ≡ 0 → RecordShown b which place answer
+  pub record-promise : askedTold answer .number ≡ 0 → RecordShown b which place answer
   record-promise h = go (isReadable b) refl
     where
       go : (w : Bool) → isReadable b ≡ w → RecordShown b which place answer
       go true whole = record-at whole h (itemAt (journalOf (kindOf which) (held b .files)) place) refl
-      go false not = absurd (omega (arith, sym (ap (λ (s : Option Held). askedNumber (recordAsked s which place)) (reads-none b not)) ∙ h))
+      go false not = absurd (omega (arith, sym (ap (λ (s : Option Held). askedTold (recordAsked s which place) .number) (reads-none b not)) ∙ h))
