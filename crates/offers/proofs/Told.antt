@@ -6,12 +6,12 @@ use Rattle.faults.specs.declared.cause.FaultPlace.{FaultPlace}
 use Rattle.filing.specs.declared.checking.answer.Answer.{Answer}
 use Rattle.filing.specs.declared.checking.answer.Answer.the-variants.{Fault}
 use Rattle.offers.specs.declared.kept.Told.{Told}
-use Rattle.offers.specs.Filed.{plainly, faultTold, toldOf}
+use Rattle.offers.specs.Filed.{plainly, toldOf}
 
 pub told-filed : (a : Answer) (n : ℕ) (r : Told) → a ≡ Answer.Filed n → r ≡ plainly (Answer.Filed n) n → r ≡ toldOf a
 told-filed a n r e f = f ∙ sym (ap toldOf e)
 
-pub told-fault : (a : Answer) (at : FaultPlace) (cause : Cause) (r : Told) → a ≡ Fault at cause → r ≡ faultTold at cause → r ≡ toldOf a
+pub told-fault : (a : Answer) (at : FaultPlace) (cause : Cause) (r : Told) → a ≡ Fault at cause → r ≡ toldOf (Fault at cause) → r ≡ toldOf a
 told-fault a at cause r e f = f ∙ sym (ap toldOf e)
 
 -- an answer that is its number alone

@@ -2,14 +2,11 @@
 use Prim.Native.Nat.{ℕ}
 use mathlib.Core.Path.{_≡_}
 use mathlib.Core.List.{List}
-use Rattle.faults.specs.Cause.{causeNumber}
-use Rattle.faults.specs.declared.cause.Cause.{Cause}
-use Rattle.faults.specs.declared.cause.FaultPlace.{FaultPlace}
+use Rattle.laws.specs.Told.{valueAt}
 use Rattle.store.specs.Reads.{Buffers, held}
 use Rattle.filing.specs.declared.entering.kind.Filable.{Filable}
 use Rattle.filing.specs.declared.checking.answer.Answer.{Answer}
-use Rattle.filing.specs.declared.checking.answer.Answer.the-variants.{Unreadable, NoCode, NoDay, FiledAlready, Fault, Full}
-use Rattle.filing.specs.checking.Answers.{answerNumber}
+use Rattle.filing.specs.checking.Answers.{answerTold, answerNumber}
 use Rattle.filing.specs.checking.Filing.{decide}
 use Rattle.filing.specs.Effect.{answerTo, buffersAfter}
 use Rattle.offers.specs.declared.kept.Told.{Told}
@@ -18,19 +15,9 @@ use Rattle.offers.specs.declared.kept.Told.{Told}
 abbrev pub plainly : Answer → ℕ → Told
 plainly a value = record { number = answerNumber a; value = value; field = 0; cause = 0 }
 
--- a 4: the place, the field and the number of the cause
-abbrev pub faultTold : FaultPlace → Cause → Told
-faultTold at cause = record { number = 4; value = at .place; field = at .field; cause = causeNumber cause }
-
--- an answer as it is told: 0 with its count
+-- an answer as it is told: its number, and the values that go with it
 abbrev pub toldOf : Answer → Told
-toldOf (Answer.Filed count) = plainly (Answer.Filed count) count
-toldOf (Fault at cause) = faultTold at cause
-toldOf Unreadable = plainly Unreadable 0
-toldOf NoCode = plainly NoCode 0
-toldOf NoDay = plainly NoDay 0
-toldOf FiledAlready = plainly FiledAlready 0
-toldOf Full = plainly Full 0
+toldOf a = record { number = answerTold a .number; value = valueAt 0 (answerTold a); field = valueAt 1 (answerTold a); cause = valueAt 2 (answerTold a) }
 
 -- what is told is the answer of filing, and the buffers are as filing leaves them
 pub record FilesTold (b : Buffers) (kind : Filable) (publisher : List ℕ) (day : ℕ) (text : List ℕ) (told : Told) (after : Buffers) : Type 0 where

@@ -1,3 +1,4 @@
 pub mod Kept
 pub mod Counted
 pub mod Filed
+pub mod Offer

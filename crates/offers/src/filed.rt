@@ -12,7 +12,8 @@ use filing::checking::answer::Answer;
 use filing::entering::kind::Filable;
 ghost use mathlib.Core.Path.{_≡_};
 ghost use Rattle.store.specs.Reads.{lent};
-ghost use Rattle.offers.specs.Filed.{plainly, faultTold, toldOf, FilesTold};
+ghost use Rattle.filing.specs.declared.checking.answer.Answer.the-variants.{Fault};
+ghost use Rattle.offers.specs.Filed.{plainly, toldOf, FilesTold};
 
 // An answer that is its number, and the count of a 0.
 fn plain(a: Answer, value: usize) -> Told
@@ -27,7 +28,7 @@ fn plain(a: Answer, value: usize) -> Told
 }
 
 fn fault(path: &[u8], kind: Filable, text: &[u8], at: FaultPlace, cause: Cause) -> Told
-    ensures { λ r. ⌜ r ≡ faultTold at cause ⌝ }
+    ensures { λ r. ⌜ r ≡ toldOf (Fault at cause) ⌝ }
 {
     words::fault::refused(path, kind.file_kind(), text, at, cause);
     Told {

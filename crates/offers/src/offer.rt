@@ -16,6 +16,10 @@ use fields::code::CodeRead;
 use filing::entering::kind::Filable;
 use records::names::kind::FileKind;
 use records::names::name::NameRead;
+ghost use mathlib.Core.Path.{_≡_};
+ghost use Rattle.store.specs.Reads.{lent};
+ghost use Rattle.commands.specs.Given.{nameIn};
+ghost use Rattle.offers.specs.Offer.{noHeading, headingBy, headingOf, FilesFrom, Offers};
 
 pub enum Offered {
     Answer(Told),
@@ -30,7 +34,9 @@ struct Heading {
     right: bool,
 }
 
-fn no_heading() -> Heading {
+fn no_heading() -> Heading
+    ensures { λ r. ⌜ r ≡ noHeading ⌝ }
+{
     Heading {
         kind: Filable::Default,
         day: CalendarDays(65535),
@@ -38,12 +44,9 @@ fn no_heading() -> Heading {
     }
 }
 
-fn heading_of(path: &[u8]) -> Heading {
-    let NameRead::Name(name) = given::name_of(path) else {
-        return no_heading();
-    };
-    let day = name.day;
-    let kind = name.kind;
+fn heading_by(kind: FileKind, day: CalendarDays) -> Heading
+    ensures { λ r. ⌜ r ≡ headingBy kind day ⌝ }
+{
     match kind {
         FileKind::Default => Heading {
             kind: Filable::Default,
@@ -57,6 +60,20 @@ fn heading_of(path: &[u8]) -> Heading {
         },
         FileKind::Request => no_heading(),
         FileKind::Response => no_heading(),
+    }
+}
+
+fn heading_of(path: &[u8]) -> Heading
+    ensures { λ r. ⌜ r ≡ headingOf (nameIn (now (path .entry))) ⌝ }
+{
+    let read = given::name_of(path);
+    match read {
+        NameRead::Name(name) => {
+            let kind = name.kind;
+            let day = name.day;
+            heading_by(kind, day)
+        }
+        NameRead::Fault => no_heading(),
     }
 }
 
@@ -78,7 +95,9 @@ fn file_text(
     regular: &mut [u8; REGULAR],
     corrections: &mut [u8; CORRECTIONS],
     entries: &mut [u8; ENTRIES],
-) -> Told {
+) -> Told
+    ensures { λ r. ⌜ FilesFrom (lent (now (table .entry)) (now (files .entry)) (now (regular .entry)) (now (corrections .entry)) (now (entries .entry))) h (now (publisher .entry)) (now (text .entry)) r (lent (now (table .entry)) (now (files .exit)) (now (regular .exit)) (now (corrections .exit)) (now (entries .exit))) ⌝ }
+{
     let all: &[u8] = text;
     let k = within(n, all);
     let kind = h.kind;
@@ -107,7 +126,9 @@ pub fn offer(
     regular: &mut [u8; REGULAR],
     corrections: &mut [u8; CORRECTIONS],
     entries: &mut [u8; ENTRIES],
-) -> Offered {
+) -> Offered
+    ensures { λ r. ⌜ Offers (lent (now (table .entry)) (now (files .entry)) (now (regular .entry)) (now (corrections .entry)) (now (entries .entry))) (now (publisher .entry)) (now (path .entry)) (now (text .exit)) r (lent (now (table .entry)) (now (files .exit)) (now (regular .exit)) (now (corrections .exit)) (now (entries .exit))) ⌝ }
+{
     let h = heading_of(path);
     if !(is_code(publisher) & h.right) {
         return Offered::Answer(file_text(
