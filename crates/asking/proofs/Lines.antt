@@ -11,21 +11,21 @@ use lib.Dec.{leb, ltb}
 use lib.ListN.{length, take, drop, get_or, drop_of_length-le, length-map}
 use lib.Seq.{drop-cons, take_all}
 use Rattle.laws.specs.Lists.{table, first_at}
-use Rattle.laws.proofs.Tables.{length-table, getD-table, map-table}
-use Rattle.fields.specs.Number.{sameNumber}
+use Rattle.laws.proofs.Tables.{length-table, get_or-table, map-table}
+use Rattle.fields.specs.Number.{same_number}
 use Rattle.fields.specs.declared.number.Number.{Number}
 use Rattle.entries.specs.declared.entry.Entry.{Entry}
 use Rattle.model.specs.Rules.{TableLine}
 use Rattle.model.specs.Model.{line_of, entry_of}
 use Rattle.rules.specs.Rules.{rules}
-use Rattle.store.specs.numbers.Lines.{line_at, lineCount, lines_of}
-use Rattle.store.specs.numbers.Find.{is_of, foundLine}
+use Rattle.store.specs.numbers.Lines.{line_at, line_count, lines_of}
+use Rattle.store.specs.numbers.Find.{is_of, found_line}
 use Rattle.store.specs.declared.numbers.lines.Line.{Line}
 use Rattle.store.specs.declared.numbers.find.FoundLine.{FoundLine}
 use Rattle.store.specs.declared.numbers.find.FoundLine.TheVariants.{At, Unknown}
-use Rattle.store.specs.Reads.{tableLine}
+use Rattle.store.specs.Reads.{table_line}
 use Rattle.asking.specs.Items.{item_at}
-use Rattle.asking.specs.Standing.{linesIn}
+use Rattle.asking.specs.Standing.{lines_in}
 
 -- ---- the element at a place
 pub item-at : {A : Type 0} (l : List A) (i : ℕ) (d : A) → i < length l → item_at l i ≡ some (get_or l i d)
@@ -35,77 +35,77 @@ pub item-none : {A : Type 0} (l : List A) (i : ℕ) → length l ≤ i → item_
 item-none l i h = rw (drop_of_length-le l h)
 
 pub item-table : {A : Type 0} (n i : ℕ) (f : ℕ → A) → i < n → item_at (table n f) i ≡ some (f i)
-item-table n i f h = item-at (table n f) i (f i) (rw (length-table n f) h) ∙ ap some (getD-table n i f (f i) h)
+item-table n i f h = item-at (table n f) i (f i) (rw (length-table n f) h) ∙ ap some (get_or-table n i f (f i) h)
 
 pub item-beyond : {A : Type 0} (n i : ℕ) (f : ℕ → A) → n ≤ i → item_at (table n f) i ≡ none
 item-beyond n i f h = item-none (table n f) i (rw (length-table n f) h)
 
 -- ---- the model's line and entry of a number, by the place of its line
 module _ (x : Number) where
-  line-item : (ls : List Line) → line_of rules (map tableLine ls) x ≡ Option.map tableLine (item_at ls (first_at (is_of x) ls))
+  line-item : (ls : List Line) → line_of rules (map table_line ls) x ≡ Option.map table_line (item_at ls (first_at (is_of x) ls))
   unfolding line_of is_of
   line-item [] = refl
-  line-item (l ∷ ls) = go (sameNumber l.number x) (line-item ls)
+  line-item (l ∷ ls) = go (same_number l.number x) (line-item ls)
     where
-      go : (t : Bool) → line_of rules (map tableLine ls) x ≡ Option.map tableLine (item_at ls (first_at (is_of x) ls)) → cond t (some (tableLine l)) (line_of rules (map tableLine ls) x) ≡ Option.map tableLine (item_at (l ∷ ls) (cond t 0 (suc (first_at (is_of x) ls))))
+      go : (t : Bool) → line_of rules (map table_line ls) x ≡ Option.map table_line (item_at ls (first_at (is_of x) ls)) → cond t (some (table_line l)) (line_of rules (map table_line ls) x) ≡ Option.map table_line (item_at (l ∷ ls) (cond t 0 (suc (first_at (is_of x) ls))))
       go true ih = refl
       go false ih = ih
 
-  entry-item : (ls : List Line) (es : List Entry) → length es ≡ length ls → entry_of rules (map tableLine ls) es x ≡ item_at es (first_at (is_of x) ls)
+  entry-item : (ls : List Line) (es : List Entry) → length es ≡ length ls → entry_of rules (map table_line ls) es x ≡ item_at es (first_at (is_of x) ls)
   unfolding entry_of is_of
   entry-item [] [] e = refl
   entry-item [] (y ∷ es) e = absurd (omega arith)
   entry-item (l ∷ ls) [] e = absurd (omega arith)
-  entry-item (l ∷ ls) (y ∷ es) e = go (sameNumber l.number x) (entry-item ls es (omega arith))
+  entry-item (l ∷ ls) (y ∷ es) e = go (same_number l.number x) (entry-item ls es (omega arith))
     where
-      go : (t : Bool) → entry_of rules (map tableLine ls) es x ≡ item_at es (first_at (is_of x) ls) → cond t (some y) (entry_of rules (map tableLine ls) es x) ≡ item_at (y ∷ es) (cond t 0 (suc (first_at (is_of x) ls)))
+      go : (t : Bool) → entry_of rules (map table_line ls) es x ≡ item_at es (first_at (is_of x) ls) → cond t (some y) (entry_of rules (map table_line ls) es x) ≡ item_at (y ∷ es) (cond t 0 (suc (first_at (is_of x) ls)))
       go true ih = refl
       go false ih = ih
 
 -- ---- what is found
-module _ (t : List ℕ) (x : Number) (room : 2 + lineCount t * 14 ≤ length t) where
+module _ (t : List ℕ) (x : Number) (room : 2 + line_count t * 14 ≤ length t) where
   -- the place at which the search ends
   abbrev place : ℕ
   place = first_at (is_of x) (lines_of t)
 
-  at_place : (i : ℕ) → At i ≡ foundLine t x → (i < lineCount t) × (place ≡ i)
-  unfolding foundLine
-  at_place i e = go (ltb place (lineCount t)) refl (e ∙ ap (λ (b : Bool). cond b (cond (ltb place (lineCount t)) (At place) Unknown) Unknown) (le-leb (2 + lineCount t * 14) (length t) room))
+  at_place : (i : ℕ) → At i ≡ found_line t x → (i < line_count t) × (place ≡ i)
+  unfolding found_line
+  at_place i e = go (ltb place (line_count t)) refl (e ∙ ap (λ (b : Bool). cond b (cond (ltb place (line_count t)) (At place) Unknown) Unknown) (le-leb (2 + line_count t * 14) (length t) room))
     where
-      go : (b : Bool) → ltb place (lineCount t) ≡ b → At i ≡ cond b (At place) Unknown → (i < lineCount t) × (place ≡ i)
-      go true q h = let s : place ≡ i = cc in (rw s at (ltb-true place (lineCount t) q), s)
+      go : (b : Bool) → ltb place (line_count t) ≡ b → At i ≡ cond b (At place) Unknown → (i < line_count t) × (place ≡ i)
+      go true q h = let s : place ≡ i = cc in (rw s at (ltb-true place (line_count t) q), s)
       go false q h = let z : ◌≡◌ {A = ℕ} 0 1 = cc in absurd (omega arith)
 
-  at-end : Unknown ≡ foundLine t x → lineCount t ≤ place
-  unfolding foundLine
-  at-end e = go (ltb place (lineCount t)) refl (e ∙ ap (λ (b : Bool). cond b (cond (ltb place (lineCount t)) (At place) Unknown) Unknown) (le-leb (2 + lineCount t * 14) (length t) room))
+  at-end : Unknown ≡ found_line t x → line_count t ≤ place
+  unfolding found_line
+  at-end e = go (ltb place (line_count t)) refl (e ∙ ap (λ (b : Bool). cond b (cond (ltb place (line_count t)) (At place) Unknown) Unknown) (le-leb (2 + line_count t * 14) (length t) room))
     where
-      go : (b : Bool) → ltb place (lineCount t) ≡ b → Unknown ≡ cond b (At place) Unknown → lineCount t ≤ place
+      go : (b : Bool) → ltb place (line_count t) ≡ b → Unknown ≡ cond b (At place) Unknown → line_count t ≤ place
       go true q h = let z : ◌≡◌ {A = ℕ} 0 1 = cc in absurd (omega arith)
-      go false q h = ltb-false place (lineCount t) q
+      go false q h = ltb-false place (line_count t) q
 
-  pub found_below : (i : ℕ) → At i ≡ foundLine t x → i < lineCount t
+  pub found_below : (i : ℕ) → At i ≡ found_line t x → i < line_count t
   found_below i e = (at_place i e).0
 
-  pub found-line : (i : ℕ) → At i ≡ foundLine t x → line_of rules (linesIn t) x ≡ some (tableLine (line_at t i))
+  pub found-line : (i : ℕ) → At i ≡ found_line t x → line_of rules (lines_in t) x ≡ some (table_line (line_at t i))
   unfolding lines_of
   found-line i e =
-      line-item x (lines_of t) ∙ ap (λ (k : ℕ). Option.map tableLine (item_at (lines_of t) k)) (at_place i e).1
-      ∙ ap (Option.map tableLine) (item-table (lineCount t) i (line_at t) (at_place i e).0)
+      line-item x (lines_of t) ∙ ap (λ (k : ℕ). Option.map table_line (item_at (lines_of t) k)) (at_place i e).1
+      ∙ ap (Option.map table_line) (item-table (line_count t) i (line_at t) (at_place i e).0)
 
-  pub no_line : Unknown ≡ foundLine t x → line_of rules (linesIn t) x ≡ none
+  pub no_line : Unknown ≡ found_line t x → line_of rules (lines_in t) x ≡ none
   unfolding lines_of
-  no_line e = line-item x (lines_of t) ∙ ap (Option.map tableLine) (item-beyond (lineCount t) place (line_at t) (at-end e))
+  no_line e = line-item x (lines_of t) ∙ ap (Option.map table_line) (item-beyond (line_count t) place (line_at t) (at-end e))
 
   module _ (g : ℕ → Entry) where
-    as_many : length (table (lineCount t) g) ≡ length (lines_of t)
+    as_many : length (table (line_count t) g) ≡ length (lines_of t)
     unfolding lines_of
-    as_many = length-table (lineCount t) g ∙ sym (length-table (lineCount t) (line_at t))
+    as_many = length-table (line_count t) g ∙ sym (length-table (line_count t) (line_at t))
 
-    pub found-entry : (i : ℕ) → At i ≡ foundLine t x → entry_of rules (linesIn t) (table (lineCount t) g) x ≡ some (g i)
+    pub found-entry : (i : ℕ) → At i ≡ found_line t x → entry_of rules (lines_in t) (table (line_count t) g) x ≡ some (g i)
     found-entry i e =
-        entry-item x (lines_of t) (table (lineCount t) g) as_many ∙ ap (item_at (table (lineCount t) g)) (at_place i e).1
-        ∙ item-table (lineCount t) i g (at_place i e).0
+        entry-item x (lines_of t) (table (line_count t) g) as_many ∙ ap (item_at (table (line_count t) g)) (at_place i e).1
+        ∙ item-table (line_count t) i g (at_place i e).0
 
-    pub no-entry : Unknown ≡ foundLine t x → entry_of rules (linesIn t) (table (lineCount t) g) x ≡ none
-    no-entry e = entry-item x (lines_of t) (table (lineCount t) g) as_many ∙ item-beyond (lineCount t) place g (at-end e)
+    pub no-entry : Unknown ≡ found_line t x → entry_of rules (lines_in t) (table (line_count t) g) x ≡ none
+    no-entry e = entry-item x (lines_of t) (table (line_count t) g) as_many ∙ item-beyond (line_count t) place g (at-end e)

@@ -7,45 +7,45 @@ use native.Mathlib.Omega.{arith}
 use borrow.Author.Tests.{leb-true, le-leb, lt-leb}
 use lib.Dec.{leb}
 use lib.ListN.{length, take}
-use Rattle.laws.specs.Lists.{table, all, noneTwice}
+use Rattle.laws.specs.Lists.{table, all, none_twice}
 use Rattle.laws.proofs.Lists.{total-end}
 use Rattle.laws.proofs.Tests.{and_left, and_right, and-true}
-use Rattle.laws.proofs.Tables.{all-at, all-each, length-table, getD-table}
-use Rattle.store.specs.journals.Files.{fileCount, fileAt, files_of, goodFile, sameFile, recordsOf}
-use Rattle.store.specs.numbers.Lines.{lineCount}
-use Rattle.store.specs.Reads.{Buffers, lent, isReadable, longEnough, goodTable, goodFiles, goodRecords}
+use Rattle.laws.proofs.Tables.{all-at, all-each, length-table, get_or-table}
+use Rattle.store.specs.journals.Files.{file_count, file_at, files_of, good_file, same_file, records_of}
+use Rattle.store.specs.numbers.Lines.{line_count}
+use Rattle.store.specs.Reads.{Buffers, lent, is_readable, long_enough, good_table, good_files, good_records}
 use Rattle.store.proofs.Checks.{Long, long, few-lines, few-files, few-reports, few-corrections}
 use Rattle.working.specs.Working.{Sound}
 use Rattle.working.proofs.SlipLaws.{records-grow}
-use Rattle.asking.specs.Showable.{filesInRange, isShowable}
+use Rattle.asking.specs.Showable.{files_in_range, is_showable}
 
 -- ---- the list of files
 pub record InRange (f : List ℕ) : Type 0 where
-  pub few : fileCount f ≤ 1024
-  pub good : all goodFile (files_of f) ≡ true
-  pub reports : recordsOf 0 (files_of f) ≤ 8192
-  pub objections : recordsOf 1 (files_of f) ≤ 2048
+  pub few : file_count f ≤ 1024
+  pub good : all good_file (files_of f) ≡ true
+  pub reports : records_of 0 (files_of f) ≤ 8192
+  pub objections : records_of 1 (files_of f) ≤ 2048
 
-in-range : (f : List ℕ) → filesInRange f ≡ true → InRange f
-unfolding filesInRange
+in-range : (f : List ℕ) → files_in_range f ≡ true → InRange f
+unfolding files_in_range
 in-range f e =
-    let a : Bool = leb (fileCount f) 1024 in
-    let b : Bool = all goodFile (files_of f) in
-    let c : Bool = leb (recordsOf 0 (files_of f)) 8192 in
-    let d : Bool = leb (recordsOf 1 (files_of f)) 2048 in
+    let a : Bool = leb (file_count f) 1024 in
+    let b : Bool = all good_file (files_of f) in
+    let c : Bool = leb (records_of 0 (files_of f)) 8192 in
+    let d : Bool = leb (records_of 1 (files_of f)) 2048 in
     let e₁ = and_right a (b && (c && d)) e in
     let e₂ = and_right b (c && d) e₁ in
     record {
-      few = leb-true (fileCount f) 1024 (and_left a (b && (c && d)) e);
+      few = leb-true (file_count f) 1024 (and_left a (b && (c && d)) e);
       good = and_left b (c && d) e₁;
-      reports = leb-true (recordsOf 0 (files_of f)) 8192 (and_left c d e₂);
-      objections = leb-true (recordsOf 1 (files_of f)) 2048 (and_right c d e₂);
+      reports = leb-true (records_of 0 (files_of f)) 8192 (and_left c d e₂);
+      objections = leb-true (records_of 1 (files_of f)) 2048 (and_right c d e₂);
     }
 
-range-true : (f : List ℕ) → InRange f → filesInRange f ≡ true
-unfolding filesInRange
+range-true : (f : List ℕ) → InRange f → files_in_range f ≡ true
+unfolding files_in_range
 range-true f r =
-    rw (le-leb (fileCount f) 1024 r.few, r.good, le-leb (recordsOf 0 (files_of f)) 8192 r.reports, le-leb (recordsOf 1 (files_of f)) 2048 r.objections)
+    rw (le-leb (file_count f) 1024 r.few, r.good, le-leb (records_of 0 (files_of f)) 8192 r.reports, le-leb (records_of 1 (files_of f)) 2048 r.objections)
 
 -- ---- all four buffers
 pub record Showable (t f r c : List ℕ) : Type 0 where
@@ -53,18 +53,18 @@ pub record Showable (t f r c : List ℕ) : Type 0 where
   pub long-files : 8194 ≤ length f
   pub long-regular : 368640 ≤ length r
   pub long-corrections : 200704 ≤ length c
-  pub few-lines : lineCount t ≤ 1024
+  pub few-lines : line_count t ≤ 1024
   pub range : InRange f
 
-pub showable : (t f r c : List ℕ) → isShowable t f r c ≡ true → Showable t f r c
-unfolding isShowable
+pub showable : (t f r c : List ℕ) → is_showable t f r c ≡ true → Showable t f r c
+unfolding is_showable
 showable t f r c e =
     let a : Bool = leb 14338 (length t) in
     let b : Bool = leb 8194 (length f) in
     let d : Bool = leb 368640 (length r) in
     let g : Bool = leb 200704 (length c) in
-    let h : Bool = leb (lineCount t) 1024 in
-    let i : Bool = filesInRange f in
+    let h : Bool = leb (line_count t) 1024 in
+    let i : Bool = files_in_range f in
     let e₁ = and_right a (b && (d && (g && (h && i)))) e in
     let e₂ = and_right b (d && (g && (h && i))) e₁ in
     let e₃ = and_right d (g && (h && i)) e₂ in
@@ -74,85 +74,85 @@ showable t f r c e =
       long-files = leb-true 8194 (length f) (and_left b (d && (g && (h && i))) e₁);
       long-regular = leb-true 368640 (length r) (and_left d (g && (h && i)) e₂);
       long-corrections = leb-true 200704 (length c) (and_left g (h && i) e₃);
-      few-lines = leb-true (lineCount t) 1024 (and_left h i e₄);
+      few-lines = leb-true (line_count t) 1024 (and_left h i e₄);
       range = in-range f (and_right h i e₄);
     }
 
-pub showable-true : (t f r c : List ℕ) → Showable t f r c → isShowable t f r c ≡ true
-unfolding isShowable
+pub showable-true : (t f r c : List ℕ) → Showable t f r c → is_showable t f r c ≡ true
+unfolding is_showable
 showable-true t f r c s =
     rw (
       le-leb 14338 (length t) s.long-table,
       le-leb 8194 (length f) s.long-files,
       le-leb 368640 (length r) s.long-regular,
       le-leb 200704 (length c) s.long-corrections,
-      le-leb (lineCount t) 1024 s.few-lines,
+      le-leb (line_count t) 1024 s.few-lines,
       range-true f s.range,
     )
 
 -- ---- what working out asks of the first files
-pub sound : (t f r c : List ℕ) (n : ℕ) → Showable t f r c → n ≤ fileCount f → Sound n f r c
+pub sound : (t f r c : List ℕ) (n : ℕ) → Showable t f r c → n ≤ file_count f → Sound n f r c
 unfolding files_of
 sound t f r c n s h = record {
   listed = omega (arith, s.long-files, s.range.few);
   few = omega (arith, s.range.few);
   filed = h;
-  good = all-each goodFile n (fileAt f) (λ i g.
-      ap goodFile (sym (getD-table (fileCount f) i (fileAt f) (fileAt f 0) (omega arith)))
-      ∙ all-at goodFile (table (fileCount f) (fileAt f)) i (fileAt f 0) s.range.good (rw (length-table (fileCount f) (fileAt f)) (omega arith)));
-  reports = omega (arith, s.range.reports, records-grow 0 n (fileCount f) (fileAt f) h);
-  objections = omega (arith, s.range.objections, records-grow 1 n (fileCount f) (fileAt f) h);
-  regularRoom = s.long-regular;
-  correctionRoom = s.long-corrections;
+  good = all-each good_file n (file_at f) (λ i g.
+      ap good_file (sym (get_or-table (file_count f) i (file_at f) (file_at f 0) (omega arith)))
+      ∙ all-at good_file (table (file_count f) (file_at f)) i (file_at f 0) s.range.good (rw (length-table (file_count f) (file_at f)) (omega arith)));
+  reports = omega (arith, s.range.reports, records-grow 0 n (file_count f) (file_at f) h);
+  objections = omega (arith, s.range.objections, records-grow 1 n (file_count f) (file_at f) h);
+  regular_room = s.long-regular;
+  correction_room = s.long-corrections;
 }
 
 -- ---- the tests, one after the other, as the code makes them
-module _ (f : List ℕ) (n : ℕ) (e : n ≡ fileCount f) where
-  pub range-many : 1024 < n → false ≡ filesInRange f
-  unfolding filesInRange
+module _ (f : List ℕ) (n : ℕ) (e : n ≡ file_count f) where
+  pub range-many : 1024 < n → false ≡ files_in_range f
+  unfolding files_in_range
   range-many h = rw (← e, lt-leb n 1024 h)
 
-  pub range-bad : n ≤ 1024 → all goodFile (table n (fileAt f)) ≡ false → false ≡ filesInRange f
-  unfolding filesInRange files_of
+  pub range-bad : n ≤ 1024 → all good_file (table n (file_at f)) ≡ false → false ≡ files_in_range f
+  unfolding files_in_range files_of
   range-bad h g = rw (← e, le-leb n 1024 h, g)
 
-  pub range-reports : n ≤ 1024 → all goodFile (table n (fileAt f)) ≡ true → 8192 < recordsOf 0 (table n (fileAt f)) → false ≡ filesInRange f
-  unfolding filesInRange files_of
-  range-reports h g r = rw (← e, le-leb n 1024 h, g, lt-leb (recordsOf 0 (table n (fileAt f))) 8192 r)
+  pub range-reports : n ≤ 1024 → all good_file (table n (file_at f)) ≡ true → 8192 < records_of 0 (table n (file_at f)) → false ≡ files_in_range f
+  unfolding files_in_range files_of
+  range-reports h g r = rw (← e, le-leb n 1024 h, g, lt-leb (records_of 0 (table n (file_at f))) 8192 r)
 
-  pub range-corrections : n ≤ 1024 → all goodFile (table n (fileAt f)) ≡ true → recordsOf 0 (table n (fileAt f)) ≤ 8192 → leb (recordsOf 1 (table n (fileAt f))) 2048 ≡ filesInRange f
-  unfolding filesInRange files_of
-  range-corrections h g r = rw (← e, le-leb n 1024 h, g, le-leb (recordsOf 0 (table n (fileAt f))) 8192 r)
+  pub range-corrections : n ≤ 1024 → all good_file (table n (file_at f)) ≡ true → records_of 0 (table n (file_at f)) ≤ 8192 → leb (records_of 1 (table n (file_at f))) 2048 ≡ files_in_range f
+  unfolding files_in_range files_of
+  range-corrections h g r = rw (← e, le-leb n 1024 h, g, le-leb (records_of 0 (table n (file_at f))) 8192 r)
 
 module _ (t f r c : List ℕ) where
-  pub show-short-table : length t < 14338 → false ≡ isShowable t f r c
-  unfolding isShowable
+  pub show-short-table : length t < 14338 → false ≡ is_showable t f r c
+  unfolding is_showable
   show-short-table h = rw (lt-leb 14338 (length t) h)
 
-  pub show-short-files : 14338 ≤ length t → length f < 8194 → false ≡ isShowable t f r c
-  unfolding isShowable
+  pub show-short-files : 14338 ≤ length t → length f < 8194 → false ≡ is_showable t f r c
+  unfolding is_showable
   show-short-files h i = rw (le-leb 14338 (length t) h, lt-leb 8194 (length f) i)
 
-  pub show-short-regular : 14338 ≤ length t → 8194 ≤ length f → length r < 368640 → false ≡ isShowable t f r c
-  unfolding isShowable
+  pub show-short-regular : 14338 ≤ length t → 8194 ≤ length f → length r < 368640 → false ≡ is_showable t f r c
+  unfolding is_showable
   show-short-regular h i j = rw (le-leb 14338 (length t) h, le-leb 8194 (length f) i, lt-leb 368640 (length r) j)
 
   module _ (h : 14338 ≤ length t) (i : 8194 ≤ length f) (j : 368640 ≤ length r) where
-    pub show-short-corrections : length c < 200704 → false ≡ isShowable t f r c
-    unfolding isShowable
+    pub show-short-corrections : length c < 200704 → false ≡ is_showable t f r c
+    unfolding is_showable
     show-short-corrections k = rw (le-leb 14338 (length t) h, le-leb 8194 (length f) i, le-leb 368640 (length r) j, lt-leb 200704 (length c) k)
 
-    pub show-many : 200704 ≤ length c → (n : ℕ) → n ≡ lineCount t → 1024 < n → false ≡ isShowable t f r c
-    unfolding isShowable
+    pub show-many : 200704 ≤ length c → (n : ℕ) → n ≡ line_count t → 1024 < n → false ≡ is_showable t f r c
+    unfolding is_showable
     show-many k n e m =
         rw (le-leb 14338 (length t) h, le-leb 8194 (length f) i, le-leb 368640 (length r) j, le-leb 200704 (length c) k, ← e, lt-leb n 1024 m)
 
-    pub show-files : 200704 ≤ length c → (n : ℕ) → n ≡ lineCount t → n ≤ 1024 → filesInRange f ≡ isShowable t f r c
-    unfolding isShowable
+    pub show-files : 200704 ≤ length c → (n : ℕ) → n ≡ line_count t → n ≤ 1024 → files_in_range f ≡ is_showable t f r c
+    unfolding is_showable
     show-files k n e m =
         rw (le-leb 14338 (length t) h, le-leb 8194 (length f) i, le-leb 368640 (length r) j, le-leb 200704 (length c) k, ← e, le-leb n 1024 m)
 
 -- the reports of all files, counted by the code
-pub reports-first : (f : List ℕ) (n : ℕ) → InRange f → n ≡ fileCount f → recordsOf 0 (table n (fileAt f)) ≤ 8192
+pub reports-first : (f : List ℕ) (n : ℕ) → InRange f → n ≡ file_count f → records_of 0 (table n (file_at f)) ≤ 8192
 unfolding files_of
-reports-first f n r e = let m : recordsOf 0 (table (fileCount f) (fileAt f)) ≤ 8192 = r.reports in rw e m
+reports-first f n r e = let m : records_of 0 (table (file_count f) (file_at f)) ≤ 8192 = r.reports in rw e m

@@ -16,23 +16,23 @@ use Rattle.laws.proofs.Tables.{length-table, map-table}
 use Rattle.fields.specs.declared.number.Number.{Number}
 use Rattle.entries.specs.declared.entry.Entry.{Entry}
 use Rattle.verdict.specs.declared.step.Standing.{Standing}
-use Rattle.model.specs.Model.{Filed, entryOver, line_of, entry_of}
-use Rattle.store.specs.journals.Files.{fileAt, fileCount}
-use Rattle.store.specs.journals.Reads.{filedAfter, filedIn, firstFiles, readFiles, recordsAt}
+use Rattle.model.specs.Model.{Filed, entry_over, line_of, entry_of}
+use Rattle.store.specs.journals.Files.{file_at, file_count}
+use Rattle.store.specs.journals.Reads.{filed_after, filed_in, first_files, read_files, records_at}
 use Rattle.store.specs.declared.journals.files.File.{File}
 use Rattle.rules.specs.Rules.{rules, standings}
 use Rattle.rules.proofs.Promises.{standing-entry}
-use Rattle.store.specs.numbers.Lines.{line_at, lineCount, lines_of}
-use Rattle.store.specs.numbers.Find.{foundLine}
+use Rattle.store.specs.numbers.Lines.{line_at, line_count, lines_of}
+use Rattle.store.specs.numbers.Find.{found_line}
 use Rattle.store.specs.declared.numbers.find.FoundLine.TheVariants.{At, Unknown}
-use Rattle.store.specs.Reads.{tableLine}
+use Rattle.store.specs.Reads.{table_line}
 use Rattle.asking.specs.declared.answer.Answer.TheVariants.{Shown, UnknownNumber}
 use Rattle.asking.specs.declared.looks.Look.{Look}
 use Rattle.asking.specs.declared.looks.LookedStanding.{LookedStanding}
 use Rattle.asking.specs.declared.entry.EntryAnswer.{EntryAnswer}
 use Rattle.asking.specs.Items.{item_at}
-use Rattle.asking.specs.Standing.{linesIn, notHeld, heldAs, entryIn, entryBefore, hasEntries}
-use Rattle.asking.specs.Looks.{notStood, stoodOn, stoodAt}
+use Rattle.asking.specs.Standing.{lines_in, not_held, held_as, entry_in, entry_before, has_entries}
+use Rattle.asking.specs.Looks.{not_stood, stood_on, stood_at}
 use Rattle.asking.proofs.Lines.{item-table, item-beyond, found-line, no_line, found-entry, no-entry}
 
 -- an answer where the test of the buffers holds
@@ -40,14 +40,14 @@ pub shows : {A : Type 0} (b : Bool) (v w x : A) → b ≡ true → x ≡ v → x
 shows b v w x e q = rw e q
 
 -- ---- the first files
-length-filed : (r : ℕ → ℕ → List ℕ) (before fs : List File) → length (filedIn r before fs) ≡ length fs
-unfolding filedIn
+length-filed : (r : ℕ → ℕ → List ℕ) (before fs : List File) → length (filed_in r before fs) ≡ length fs
+unfolding filed_in
 length-filed r before [] = refl
 length-filed r before (f ∷ fs) = ap suc (length-filed r (before ++ (f ∷ [])) fs)
 
-pub length-first : (n : ℕ) (f r c : List ℕ) → length (firstFiles n f r c) ≡ n
-unfolding firstFiles
-length-first n f r c = length-filed (recordsAt r c) [] (table n (fileAt f)) ∙ length-table n (fileAt f)
+pub length-first : (n : ℕ) (f r c : List ℕ) → length (first_files n f r c) ≡ n
+unfolding first_files
+length-first n f r c = length-filed (records_at r c) [] (table n (file_at f)) ∙ length-table n (file_at f)
 
 take-among : {A : Type 0} (l : List A) (n k : ℕ) → length l ≡ k → take (cond (ltb n k) n k) l ≡ take n l
 take-among l n k e = go (ltb n k) refl
@@ -63,77 +63,77 @@ among_below n k m e = rw e (go (ltb n k) refl)
     go true q = omega (arith, ltb-true n k q)
     go false q = omega arith
 
-pub among-files : (f r c : List ℕ) (n m : ℕ) → m ≡ cond (ltb n (fileCount f)) n (fileCount f) → take m (readFiles f r c) ≡ take n (readFiles f r c)
-among-files f r c n m e = ap (λ (k : ℕ). take k (readFiles f r c)) e ∙ take-among (readFiles f r c) n (fileCount f) (length-first (fileCount f) f r c)
+pub among-files : (f r c : List ℕ) (n m : ℕ) → m ≡ cond (ltb n (file_count f)) n (file_count f) → take m (read_files f r c) ≡ take n (read_files f r c)
+among-files f r c n m e = ap (λ (k : ℕ). take k (read_files f r c)) e ∙ take-among (read_files f r c) n (file_count f) (length-first (file_count f) f r c)
 
 -- ---- where a line stands
 module _ (t : List ℕ) (files : List Filed) (n i : ℕ) where
-  pub stood-beyond : lineCount t ≤ i → notStood Look.UnknownNumber ≡ stoodAt (linesIn t) files n i
-  unfolding stoodAt lines_of
+  pub stood-beyond : line_count t ≤ i → not_stood Look.UnknownNumber ≡ stood_at (lines_in t) files n i
+  unfolding stood_at lines_of
   stood-beyond h =
       sym
-      (ap (stoodOn (take n files))
-      (ap (λ l. item_at l i) (map-table tableLine (lineCount t) (line_at t)) ∙ item-beyond (lineCount t) i (λ (j : ℕ). tableLine (line_at t j)) h))
+      (ap (stood_on (take n files))
+      (ap (λ l. item_at l i) (map-table table_line (line_count t) (line_at t)) ∙ item-beyond (line_count t) i (λ (j : ℕ). table_line (line_at t j)) h))
 
-  pub stood-here : (s : Standing) → i < lineCount t → s ≡ entryOver standings (take n files) (tableLine (line_at t i)) → ◌≡◌ {A = LookedStanding} (record { look = Look.Shown; standing = s }) (stoodAt (linesIn t) files n i)
-  unfolding stoodAt lines_of
+  pub stood-here : (s : Standing) → i < line_count t → s ≡ entry_over standings (take n files) (table_line (line_at t i)) → ◌≡◌ {A = LookedStanding} (record { look = Look.Shown; standing = s }) (stood_at (lines_in t) files n i)
+  unfolding stood_at lines_of
   stood-here s h e =
       (λ k. record { look = Look.Shown; standing = e k })
       ∙ sym
-      (ap (stoodOn (take n files))
-      (ap (λ l. item_at l i) (map-table tableLine (lineCount t) (line_at t)) ∙ item-table (lineCount t) i (λ (j : ℕ). tableLine (line_at t j)) h))
+      (ap (stood_on (take n files))
+      (ap (λ l. item_at l i) (map-table table_line (line_count t) (line_at t)) ∙ item-table (line_count t) i (λ (j : ℕ). table_line (line_at t j)) h))
 
 -- ---- the stored entry
 pub record Roomy (t e : List ℕ) : Type 0 where
   pub long-table : 14338 ≤ length t
   pub long-entries : 102400 ≤ length e
-  pub few-lines : lineCount t ≤ 1024
+  pub few-lines : line_count t ≤ 1024
 
-pub has_room : (t e : List ℕ) → hasEntries t e ≡ true → Roomy t e
-unfolding hasEntries
+pub has_room : (t e : List ℕ) → has_entries t e ≡ true → Roomy t e
+unfolding has_entries
 has_room t e h =
     let a : Bool = leb 14338 (length t) in
     let b : Bool = leb 102400 (length e) in
-    let d : Bool = leb (lineCount t) 1024 in
+    let d : Bool = leb (line_count t) 1024 in
     let h₁ = and_right a (b && d) h in
     record {
       long-table = leb-true 14338 (length t) (and_left a (b && d) h);
       long-entries = leb-true 102400 (length e) (and_left b d h₁);
-      few-lines = leb-true (lineCount t) 1024 (and_right b d h₁);
+      few-lines = leb-true (line_count t) 1024 (and_right b d h₁);
     }
 
 module _ (t e : List ℕ) where
-  pub has-short-table : length t < 14338 → false ≡ hasEntries t e
-  unfolding hasEntries
+  pub has-short-table : length t < 14338 → false ≡ has_entries t e
+  unfolding has_entries
   has-short-table h = rw (lt-leb 14338 (length t) h)
 
-  pub has-short-entries : 14338 ≤ length t → length e < 102400 → false ≡ hasEntries t e
-  unfolding hasEntries
+  pub has-short-entries : 14338 ≤ length t → length e < 102400 → false ≡ has_entries t e
+  unfolding has_entries
   has-short-entries h g = rw (le-leb 14338 (length t) h, lt-leb 102400 (length e) g)
 
-  pub has-lines : (n : ℕ) → 14338 ≤ length t → 102400 ≤ length e → n ≡ lineCount t → leb n 1024 ≡ hasEntries t e
-  unfolding hasEntries
+  pub has-lines : (n : ℕ) → 14338 ≤ length t → 102400 ≤ length e → n ≡ line_count t → leb n 1024 ≡ has_entries t e
+  unfolding has_entries
   has-lines n h g q = rw (le-leb 14338 (length t) h, le-leb 102400 (length e) g, q)
 
-module _ (t : List ℕ) (x : Number) (room : 2 + lineCount t * 14 ≤ length t) where
+module _ (t : List ℕ) (x : Number) (room : 2 + line_count t * 14 ≤ length t) where
   module _ (g : ℕ → Entry) where
-    pub held-unknown : Unknown ≡ foundLine t x → notHeld UnknownNumber ≡ entryIn (linesIn t) (table (lineCount t) g) x
-    unfolding entryIn
-    held-unknown q = sym (ap heldAs (no-entry t x room g q))
+    pub held-unknown : Unknown ≡ found_line t x → not_held UnknownNumber ≡ entry_in (lines_in t) (table (line_count t) g) x
+    unfolding entry_in
+    held-unknown q = sym (ap held_as (no-entry t x room g q))
 
-    pub held-here : (i : ℕ) (y : Entry) → At i ≡ foundLine t x → y ≡ g i → ◌≡◌ {A = EntryAnswer} (record { answer = Shown; entry = y }) (entryIn (linesIn t) (table (lineCount t) g) x)
-    unfolding entryIn
-    held-here i y q p = (λ k. record { answer = Shown; entry = p k }) ∙ sym (ap heldAs (found-entry t x room g i q))
+    pub held-here : (i : ℕ) (y : Entry) → At i ≡ found_line t x → y ≡ g i → ◌≡◌ {A = EntryAnswer} (record { answer = Shown; entry = y }) (entry_in (lines_in t) (table (line_count t) g) x)
+    unfolding entry_in
+    held-here i y q p = (λ k. record { answer = Shown; entry = p k }) ∙ sym (ap held_as (found-entry t x room g i q))
 
   -- ---- the entry before a file arrived
   module _ (files : List Filed) (n : ℕ) where
-    pub before-unknown : Unknown ≡ foundLine t x → notHeld UnknownNumber ≡ entryBefore (linesIn t) files n x
-    unfolding entryBefore
-    before-unknown q = sym (ap (λ l. heldAs (Option.map (entryOver rules (take n files)) l)) (no_line t x room q))
+    pub before-unknown : Unknown ≡ found_line t x → not_held UnknownNumber ≡ entry_before (lines_in t) files n x
+    unfolding entry_before
+    before-unknown q = sym (ap (λ l. held_as (Option.map (entry_over rules (take n files)) l)) (no_line t x room q))
 
-    pub before_here : (i : ℕ) (y : Entry) (s : Standing) → At i ≡ foundLine t x → s ≡ entryOver standings (take n files) (tableLine (line_at t i)) → y ≡ s.entry
-        → ◌≡◌ {A = EntryAnswer} (record { answer = Shown; entry = y }) (entryBefore (linesIn t) files n x)
-    unfolding entryBefore
+    pub before_here : (i : ℕ) (y : Entry) (s : Standing) → At i ≡ found_line t x → s ≡ entry_over standings (take n files) (table_line (line_at t i)) → y ≡ s.entry
+        → ◌≡◌ {A = EntryAnswer} (record { answer = Shown; entry = y }) (entry_before (lines_in t) files n x)
+    unfolding entry_before
     before_here i y s q e p =
-        (λ k. record { answer = Shown; entry = (p ∙ ap (λ (u : Standing). u.entry) e ∙ standing-entry (take n files) (tableLine (line_at t i))) k })
-        ∙ sym (ap (λ l. heldAs (Option.map (entryOver rules (take n files)) l)) (found-line t x room i q))
+        (λ k. record { answer = Shown; entry = (p ∙ ap (λ (u : Standing). u.entry) e ∙ standing-entry (take n files) (table_line (line_at t i))) k })
+        ∙ sym (ap (λ l. held_as (Option.map (entry_over rules (take n files)) l)) (found-line t x room i q))

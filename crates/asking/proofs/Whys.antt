@@ -9,49 +9,49 @@ use lib.Seq.{take_all}
 use Rattle.laws.specs.Lists.{table}
 use Rattle.fields.specs.declared.number.Number.{Number}
 use Rattle.verdict.specs.declared.step.Standing.{Standing}
-use Rattle.model.specs.Model.{Filed, entryOver, line_of}
-use Rattle.store.specs.journals.Files.{fileAt, fileCount}
-use Rattle.store.specs.journals.Reads.{readFiles}
+use Rattle.model.specs.Model.{Filed, entry_over, line_of}
+use Rattle.store.specs.journals.Files.{file_at, file_count}
+use Rattle.store.specs.journals.Reads.{read_files}
 use Rattle.rules.specs.Rules.{rules, standings}
-use Rattle.store.specs.numbers.Lines.{line_at, lineCount}
-use Rattle.store.specs.numbers.Find.{foundLine}
+use Rattle.store.specs.numbers.Lines.{line_at, line_count}
+use Rattle.store.specs.numbers.Find.{found_line}
 use Rattle.store.specs.declared.numbers.find.FoundLine.TheVariants.{At, Unknown}
-use Rattle.store.specs.Reads.{tableLine}
+use Rattle.store.specs.Reads.{table_line}
 use Rattle.asking.specs.declared.looks.LookedWhy.{LookedWhy}
 use Rattle.asking.specs.declared.looks.LookedWhy.TheVariants.{UnknownNumber, Unshowable}
-use Rattle.asking.specs.Showable.{isShowable}
-use Rattle.asking.specs.Standing.{linesIn}
-use Rattle.asking.specs.pairs.Pairs.{listedPair}
-use Rattle.asking.specs.Why.{pair_of, whyOn, whyIn}
-use Rattle.asking.specs.Looks.{whyLook, whyLooked}
+use Rattle.asking.specs.Showable.{is_showable}
+use Rattle.asking.specs.Standing.{lines_in}
+use Rattle.asking.specs.pairs.Pairs.{listed_pair}
+use Rattle.asking.specs.Why.{pair_of, why_on, why_in}
+use Rattle.asking.specs.Looks.{why_look, why_looked}
 use Rattle.asking.proofs.Lines.{found-line, no_line}
 use Rattle.asking.proofs.Showing.{showable}
 use Rattle.asking.proofs.Standings.{length-first}
 use Rattle.asking.proofs.Starts.{pair-files}
 
 module _ (t f r c : List ℕ) (x : Number) where
-  pub why-unshowable : isShowable t f r c ≡ false → Unshowable ≡ whyLooked t f r c x
-  unfolding whyLooked
+  pub why-unshowable : is_showable t f r c ≡ false → Unshowable ≡ why_looked t f r c x
+  unfolding why_looked
   why-unshowable e = rw e
 
-  module _ (yes : isShowable t f r c ≡ true) where
-    room : 2 + lineCount t * 14 ≤ length t
+  module _ (yes : is_showable t f r c ≡ true) where
+    room : 2 + line_count t * 14 ≤ length t
     room = let s = showable t f r c yes in omega (arith, s.long-table, s.few-lines)
 
-    pub why-unknown : Unknown ≡ foundLine t x → UnknownNumber ≡ whyLooked t f r c x
-    unfolding whyLooked whyIn
+    pub why-unknown : Unknown ≡ found_line t x → UnknownNumber ≡ why_looked t f r c x
+    unfolding why_looked why_in
     why-unknown q = rw (yes, no_line t x room q)
 
-    pub why-pair : (i n : ℕ) (s : Standing) (a : LookedWhy) → At i ≡ foundLine t x → n ≡ fileCount f → s ≡ entryOver standings (take n (readFiles f r c)) (tableLine (line_at t i))
-        → a ≡ whyLook (listedPair (table n (fileAt f)) s.why) → a ≡ whyLooked t f r c x
-    unfolding whyLooked whyIn
+    pub why-pair : (i n : ℕ) (s : Standing) (a : LookedWhy) → At i ≡ found_line t x → n ≡ file_count f → s ≡ entry_over standings (take n (read_files f r c)) (table_line (line_at t i))
+        → a ≡ why_look (listed_pair (table n (file_at f)) s.why) → a ≡ why_looked t f r c x
+    unfolding why_looked why_in
     why-pair i n s a q en es ea =
-        let all : take n (readFiles f r c) ≡ readFiles f r c = take_all n (readFiles f r c) (omega (arith, length-first (fileCount f) f r c)) in
-        let stands : s ≡ entryOver standings (readFiles f r c) (tableLine (line_at t i)) = es ∙ ap (λ (l : List Filed). entryOver standings l (tableLine (line_at t i))) all in
+        let all : take n (read_files f r c) ≡ read_files f r c = take_all n (read_files f r c) (omega (arith, length-first (file_count f) f r c)) in
+        let stands : s ≡ entry_over standings (read_files f r c) (table_line (line_at t i)) = es ∙ ap (λ (l : List Filed). entry_over standings l (table_line (line_at t i))) all in
         ea
-        ∙ ap whyLook
-        (ap (λ (k : ℕ). listedPair (table k (fileAt f)) s.why) en
-        ∙ pair-files (fileCount f) f r c s.why
-        ∙ ap (λ (u : Standing). pair_of (readFiles f r c) u.why) stands
-        ∙ ap (whyOn (readFiles f r c)) (sym (found-line t x room i q)))
-        ∙ ap (λ (b : Bool). cond b (whyLook (whyOn (readFiles f r c) (line_of rules (linesIn t) x))) Unshowable) (sym yes)
+        ∙ ap why_look
+        (ap (λ (k : ℕ). listed_pair (table k (file_at f)) s.why) en
+        ∙ pair-files (file_count f) f r c s.why
+        ∙ ap (λ (u : Standing). pair_of (read_files f r c) u.why) stands
+        ∙ ap (why_on (read_files f r c)) (sym (found-line t x room i q)))
+        ∙ ap (λ (b : Bool). cond b (why_look (why_on (read_files f r c) (line_of rules (lines_in t) x))) Unshowable) (sym yes)

@@ -5,15 +5,15 @@ use Rattle.std.proofs.Math.Option.{Option, none, some}
 use Rattle.laws.specs.Lists.{table}
 use Rattle.fields.specs.declared.number.Number.{Number}
 use Rattle.entries.specs.declared.entry.Listed.TheVariants.{Missing}
-use Rattle.entries.specs.Entry.{lineIn}
-use Rattle.verdict.specs.Step.{firstStanding}
+use Rattle.entries.specs.Entry.{line_in}
+use Rattle.verdict.specs.Step.{first_standing}
 use Rattle.model.specs.Rules.{TableLine}
-use Rattle.model.specs.Model.{Filed, entryOver}
+use Rattle.model.specs.Model.{Filed, entry_over}
 use Rattle.rules.specs.Rules.{standings}
 use Rattle.store.specs.declared.journals.records.Journal.{Journal}
-use Rattle.store.specs.journals.Reads.{readFiles}
-use Rattle.store.specs.numbers.Lines.{lineCount}
-use Rattle.store.specs.entry_slots.Entries.{entryAt}
+use Rattle.store.specs.journals.Reads.{read_files}
+use Rattle.store.specs.numbers.Lines.{line_count}
+use Rattle.store.specs.entry_slots.Entries.{entry_at}
 use Rattle.asking.specs.declared.answer.Answer.{Answer}
 use Rattle.asking.specs.declared.entry.EntryAnswer.{EntryAnswer}
 use Rattle.asking.specs.declared.pairs.WhyAnswer.{WhyAnswer}
@@ -24,79 +24,79 @@ use Rattle.asking.specs.declared.looks.LookedEntry.{LookedEntry}
 use Rattle.asking.specs.declared.looks.LookedWhy.{LookedWhy}
 use Rattle.asking.specs.declared.looks.LookedRecord.{LookedRecord}
 use Rattle.asking.specs.Items.{item_at}
-use Rattle.asking.specs.Showable.{isShowable}
-use Rattle.asking.specs.Standing.{linesIn, noEntry, entryIn, entryBefore, hasEntries}
-use Rattle.asking.specs.Why.{whyIn}
-use Rattle.asking.specs.Record.{askedIn}
+use Rattle.asking.specs.Showable.{is_showable}
+use Rattle.asking.specs.Standing.{lines_in, no_entry, entry_in, entry_before, has_entries}
+use Rattle.asking.specs.Why.{why_in}
+use Rattle.asking.specs.Record.{asked_in}
 
 -- ---- the look that shows what an answer shows
-abbrev pub lookBy : Answer → Look
-lookBy Answer.Shown = Look.Shown
-lookBy Answer.UnknownNumber = Look.UnknownNumber
-lookBy Answer.Unreadable = Look.Unshowable
+abbrev pub look_by : Answer → Look
+look_by Answer.Shown = Look.Shown
+look_by Answer.UnknownNumber = Look.UnknownNumber
+look_by Answer.Unreadable = Look.Unshowable
 
-abbrev pub entryLook : EntryAnswer → LookedEntry
-entryLook a = record { look = lookBy a.answer; entry = a.entry }
+abbrev pub entry_look : EntryAnswer → LookedEntry
+entry_look a = record { look = look_by a.answer; entry = a.entry }
 
-abbrev pub whyLook : WhyAnswer → LookedWhy
-whyLook (WhyAnswer.Pair a b) = LookedWhy.Pair a b
-whyLook WhyAnswer.Nothing = LookedWhy.Nothing
-whyLook WhyAnswer.UnknownNumber = LookedWhy.UnknownNumber
-whyLook WhyAnswer.Unreadable = LookedWhy.Unshowable
+abbrev pub why_look : WhyAnswer → LookedWhy
+why_look (WhyAnswer.Pair a b) = LookedWhy.Pair a b
+why_look WhyAnswer.Nothing = LookedWhy.Nothing
+why_look WhyAnswer.UnknownNumber = LookedWhy.UnknownNumber
+why_look WhyAnswer.Unreadable = LookedWhy.Unshowable
 
-abbrev pub recordLook : Asked → LookedRecord
-recordLook (Asked.Record which place a) = LookedRecord.Record which place a
-recordLook Asked.Beyond = LookedRecord.Beyond
-recordLook Asked.Unreadable = LookedRecord.Unshowable
+abbrev pub record_look : Asked → LookedRecord
+record_look (Asked.Record which place a) = LookedRecord.Record which place a
+record_look Asked.Beyond = LookedRecord.Beyond
+record_look Asked.Unreadable = LookedRecord.Unshowable
 
 -- ---- and the answer that a look is turned into
-abbrev pub answerBy : Look → Answer
-answerBy Look.Shown = Answer.Shown
-answerBy Look.UnknownNumber = Answer.UnknownNumber
-answerBy Look.Unshowable = Answer.Unreadable
+abbrev pub answer_by : Look → Answer
+answer_by Look.Shown = Answer.Shown
+answer_by Look.UnknownNumber = Answer.UnknownNumber
+answer_by Look.Unshowable = Answer.Unreadable
 
-abbrev pub entryAnswer : LookedEntry → EntryAnswer
-entryAnswer l = record { answer = answerBy l.look; entry = l.entry }
+abbrev pub entry_answer : LookedEntry → EntryAnswer
+entry_answer l = record { answer = answer_by l.look; entry = l.entry }
 
-abbrev pub whyAnswer : LookedWhy → WhyAnswer
-whyAnswer (LookedWhy.Pair a b) = WhyAnswer.Pair a b
-whyAnswer LookedWhy.Nothing = WhyAnswer.Nothing
-whyAnswer LookedWhy.UnknownNumber = WhyAnswer.UnknownNumber
-whyAnswer LookedWhy.Unshowable = WhyAnswer.Unreadable
+abbrev pub why_answer : LookedWhy → WhyAnswer
+why_answer (LookedWhy.Pair a b) = WhyAnswer.Pair a b
+why_answer LookedWhy.Nothing = WhyAnswer.Nothing
+why_answer LookedWhy.UnknownNumber = WhyAnswer.UnknownNumber
+why_answer LookedWhy.Unshowable = WhyAnswer.Unreadable
 
-abbrev pub recordAnswer : LookedRecord → Asked
-recordAnswer (LookedRecord.Record which place a) = Asked.Record which place a
-recordAnswer LookedRecord.Beyond = Asked.Beyond
-recordAnswer LookedRecord.Unshowable = Asked.Unreadable
+abbrev pub record_answer : LookedRecord → Asked
+record_answer (LookedRecord.Record which place a) = Asked.Record which place a
+record_answer LookedRecord.Beyond = Asked.Beyond
+record_answer LookedRecord.Unshowable = Asked.Unreadable
 
 -- ---- the entry of a number: as it is held, and as it stood before the file at n arrived
-abbrev pub notSeen : Look → LookedEntry
-notSeen l = record { look = l; entry = noEntry }
+abbrev pub not_seen : Look → LookedEntry
+not_seen l = record { look = l; entry = no_entry }
 
-unfoldable pub entryLooked : List ℕ → List ℕ → Number → LookedEntry
-entryLooked t e number = cond (hasEntries t e) (entryLook (entryIn (linesIn t) (table (lineCount t) (entryAt e)) number)) (notSeen Look.Unshowable)
+unfoldable pub entry_looked : List ℕ → List ℕ → Number → LookedEntry
+entry_looked t e number = cond (has_entries t e) (entry_look (entry_in (lines_in t) (table (line_count t) (entry_at e)) number)) (not_seen Look.Unshowable)
 
-unfoldable pub beforeLooked : List ℕ → List ℕ → List ℕ → List ℕ → ℕ → Number → LookedEntry
-beforeLooked t f r c n number = cond (isShowable t f r c) (entryLook (entryBefore (linesIn t) (readFiles f r c) n number)) (notSeen Look.Unshowable)
+unfoldable pub before_looked : List ℕ → List ℕ → List ℕ → List ℕ → ℕ → Number → LookedEntry
+before_looked t f r c n number = cond (is_showable t f r c) (entry_look (entry_before (lines_in t) (read_files f r c) n number)) (not_seen Look.Unshowable)
 
 -- ---- where a line stands, worked out over the first n files: its entry, and the pair that confirmed last
-abbrev pub notStood : Look → LookedStanding
-notStood l = record { look = l; standing = firstStanding (lineIn Missing) }
+abbrev pub not_stood : Look → LookedStanding
+not_stood l = record { look = l; standing = first_standing (line_in Missing) }
 
-abbrev pub stoodOn : List Filed → Option (TableLine Number) → LookedStanding
-stoodOn files none = notStood Look.UnknownNumber
-stoodOn files (some line) = record { look = Look.Shown; standing = entryOver standings files line }
+abbrev pub stood_on : List Filed → Option (TableLine Number) → LookedStanding
+stood_on files none = not_stood Look.UnknownNumber
+stood_on files (some line) = record { look = Look.Shown; standing = entry_over standings files line }
 
-unfoldable pub stoodAt : List (TableLine Number) → List Filed → ℕ → ℕ → LookedStanding
-stoodAt lines files n i = stoodOn (take n files) (item_at lines i)
+unfoldable pub stood_at : List (TableLine Number) → List Filed → ℕ → ℕ → LookedStanding
+stood_at lines files n i = stood_on (take n files) (item_at lines i)
 
-unfoldable pub standingLooked : List ℕ → List ℕ → List ℕ → List ℕ → ℕ → ℕ → LookedStanding
-standingLooked t f r c n i = cond (isShowable t f r c) (stoodAt (linesIn t) (readFiles f r c) n i) (notStood Look.Unshowable)
+unfoldable pub standing_looked : List ℕ → List ℕ → List ℕ → List ℕ → ℕ → ℕ → LookedStanding
+standing_looked t f r c n i = cond (is_showable t f r c) (stood_at (lines_in t) (read_files f r c) n i) (not_stood Look.Unshowable)
 
 -- ---- why a number stands where it does
-unfoldable pub whyLooked : List ℕ → List ℕ → List ℕ → List ℕ → Number → LookedWhy
-whyLooked t f r c number = cond (isShowable t f r c) (whyLook (whyIn (linesIn t) (readFiles f r c) number)) LookedWhy.Unshowable
+unfoldable pub why_looked : List ℕ → List ℕ → List ℕ → List ℕ → Number → LookedWhy
+why_looked t f r c number = cond (is_showable t f r c) (why_look (why_in (lines_in t) (read_files f r c) number)) LookedWhy.Unshowable
 
 -- ---- the record at a place of a journal
-unfoldable pub recordLooked : List ℕ → List ℕ → List ℕ → List ℕ → Journal → ℕ → LookedRecord
-recordLooked t f r c which place = cond (isShowable t f r c) (recordLook (askedIn (linesIn t) (readFiles f r c) which place)) LookedRecord.Unshowable
+unfoldable pub record_looked : List ℕ → List ℕ → List ℕ → List ℕ → Journal → ℕ → LookedRecord
+record_looked t f r c which place = cond (is_showable t f r c) (record_look (asked_in (lines_in t) (read_files f r c) which place)) LookedRecord.Unshowable

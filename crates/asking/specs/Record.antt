@@ -7,15 +7,15 @@ use Rattle.entries.specs.declared.entry.Listed.TheVariants.{With}
 use Rattle.verdict.specs.declared.verdicts.Verdict.{Verdict}
 use Rattle.verdict.specs.declared.verdicts.Verdict.TheVariants.{UnknownNumber}
 use Rattle.verdict.specs.declared.step.Record.{Record}
-use Rattle.verdict.specs.Step.{verdictOn}
+use Rattle.verdict.specs.Step.{verdict_on}
 use Rattle.model.specs.Rules.{TableLine, Event}
-use Rattle.model.specs.Model.{Filed, journalOf, number_of, history, worked, before, line_of}
-use Rattle.store.specs.journals.Files.{recordsOf}
-use Rattle.store.specs.journals.Records.{shownIn}
+use Rattle.model.specs.Model.{Filed, journal_of, number_of, history, worked, before, line_of}
+use Rattle.store.specs.journals.Files.{records_of}
+use Rattle.store.specs.journals.Records.{shown_in}
 use Rattle.store.specs.declared.journals.files.File.{File}
 use Rattle.store.specs.declared.journals.records.Journal.{Journal}
 use Rattle.store.specs.declared.journals.records.Journal.TheVariants.{Regular, Correction}
-use Rattle.rules.specs.Rules.{rules, recordOf, lineBy}
+use Rattle.rules.specs.Rules.{rules, record_of, line_by}
 use Rattle.asking.specs.declared.record.Asked.{Asked}
 use Rattle.asking.specs.declared.record.AskedRecord.{AskedRecord}
 use Rattle.asking.specs.declared.record.Located.{Located}
@@ -28,55 +28,55 @@ kind_of Regular = 0
 kind_of Correction = 1
 
 -- what a record says
-abbrev pub saidBy : Event → Said
-saidBy e = record { number = number_of rules e; rec = recordOf e }
+abbrev pub said_by : Event → Said
+said_by e = record { number = number_of rules e; rec = record_of e }
 
 -- ---- the verdict at a record's own point of the history of its number: on the entry that the records processed before it lead to. Without a line
 -- it is 12
-abbrev pub pointVerdict : List Filed → Event → Record → Option (TableLine Number) → Verdict
-pointVerdict files e rec none = UnknownNumber
-pointVerdict files e rec (some line) = verdictOn (With (lineBy line)) (worked rules line (before rules e (history rules files line.number))) rec
+abbrev pub point_verdict : List Filed → Event → Record → Option (TableLine Number) → Verdict
+point_verdict files e rec none = UnknownNumber
+point_verdict files e rec (some line) = verdict_on (With (line_by line)) (worked rules line (before rules e (history rules files line.number))) rec
 
 -- ---- the record
-abbrev pub askedAs : List (TableLine Number) → List Filed → Event → AskedRecord
-askedAs lines files e = record {
+abbrev pub asked_as : List (TableLine Number) → List Filed → Event → AskedRecord
+asked_as lines files e = record {
   publisher = record { 0 = e.publisher };
   day = record { 0 = e.day };
   place = e.place;
-  verdict = pointVerdict files e (recordOf e) (line_of rules lines (number_of rules e));
+  verdict = point_verdict files e (record_of e) (line_of rules lines (number_of rules e));
 }
 
 abbrev pub asked_of : List (TableLine Number) → List Filed → Journal → ℕ → Option Event → Asked
 asked_of lines files which place none = Asked.Beyond
-asked_of lines files which place (some e) = Asked.Record which place (askedAs lines files e)
+asked_of lines files which place (some e) = Asked.Record which place (asked_as lines files e)
 
 -- the one at a place of a journal
-unfoldable pub askedIn : List (TableLine Number) → List Filed → Journal → ℕ → Asked
-askedIn lines files which place = asked_of lines files which place (item_at (journalOf (kind_of which) files) place)
+unfoldable pub asked_in : List (TableLine Number) → List Filed → Journal → ℕ → Asked
+asked_in lines files which place = asked_of lines files which place (item_at (journal_of (kind_of which) files) place)
 
 -- ---- its bytes
 -- the journal and the place that an answer shows; where it shows no record, the place is beyond all records
-abbrev pub journalShown : Asked → Journal
-journalShown (Asked.Record which place a) = which
-journalShown Asked.Beyond = Regular
-journalShown Asked.Unreadable = Regular
+abbrev pub journal_shown : Asked → Journal
+journal_shown (Asked.Record which place a) = which
+journal_shown Asked.Beyond = Regular
+journal_shown Asked.Unreadable = Regular
 
-abbrev pub placeShown : Asked → ℕ
-placeShown (Asked.Record which place a) = place
-placeShown Asked.Beyond = 8192
-placeShown Asked.Unreadable = 8192
+abbrev pub place_shown : Asked → ℕ
+place_shown (Asked.Record which place a) = place
+place_shown Asked.Beyond = 8192
+place_shown Asked.Unreadable = 8192
 
 -- the part of that journal at that place; beyond all records it is empty
-abbrev pub partShown : List ℕ → List ℕ → Asked → List ℕ
-partShown regular corrections answer = shownIn (journalShown answer) regular corrections 8192 (placeShown answer)
+abbrev pub part_shown : List ℕ → List ℕ → Asked → List ℕ
+part_shown regular corrections answer = shown_in (journal_shown answer) regular corrections 8192 (place_shown answer)
 
 -- ---- where a record stands: in the file k, of that kind, at a place of it; those of the files before it come before it in the journal
 pub record InFileAt (file : ℕ → File) (n kind place k at : ℕ) : Type 0 where
   pub listed : k < n
   pub same : (file k).kind ≡ kind
   pub within : at < (file k).count
-  pub sum : recordsOf kind (table k file) + at ≡ place
+  pub sum : records_of kind (table k file) + at ≡ place
 
 abbrev pub Locates : (ℕ → File) → ℕ → ℕ → ℕ → Located → Type 0
 Locates file n kind place (Located.In k at) = InFileAt file n kind place k at
-Locates file n kind place Located.Nowhere = recordsOf kind (table n file) ≤ place
+Locates file n kind place Located.Nowhere = records_of kind (table n file) ≤ place

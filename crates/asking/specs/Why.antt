@@ -3,11 +3,11 @@ use Rattle.std.specs.Prelude.{Bool, cond, ◌&&◌, List, [], ◌∷◌, ℕ, �
 use Rattle.std.proofs.Math.Option.{Option, none, some}
 use Rattle.fields.specs.declared.number.Number.{Number}
 use Rattle.entries.specs.declared.entry.Place.{Place}
-use Rattle.entries.specs.Report.{publisherOf}
+use Rattle.entries.specs.Report.{publisher_of}
 use Rattle.verdict.specs.declared.step.Why.{Why}
 use Rattle.model.specs.Rules.{TableLine}
-use Rattle.model.specs.Model.{Filed, entryOver, line_of}
-use Rattle.store.specs.journals.Records.{recordIn}
+use Rattle.model.specs.Model.{Filed, entry_over, line_of}
+use Rattle.store.specs.journals.Records.{record_in}
 use Rattle.rules.specs.Rules.{rules, standings}
 use Rattle.asking.specs.declared.pairs.Stored.{Stored}
 use Rattle.asking.specs.declared.pairs.WhyAnswer.{WhyAnswer}
@@ -15,52 +15,52 @@ use Rattle.asking.specs.declared.pairs.WhyAnswer.TheVariants.{UnknownNumber}
 
 -- ---- over the model's files
 -- the default file of a publisher and a day
-unfoldable pub isFileOf : ℕ → ℕ → Filed → Bool
-isFileOf publisher day f = eqb f.kind 0 && eqb f.publisher publisher && eqb f.day day
+unfoldable pub is_file_of : ℕ → ℕ → Filed → Bool
+is_file_of publisher day f = eqb f.kind 0 && eqb f.publisher publisher && eqb f.day day
 
 -- how many reports a file adds to the regular journal
-unfoldable pub reportsIn : Filed → ℕ
-reportsIn f = cond (eqb f.kind 0) (length f.records) 0
+unfoldable pub reports_in : Filed → ℕ
+reports_in f = cond (eqb f.kind 0) (length f.records) 0
 
 -- where the records of the default file of a publisher and a day begin in the regular journal: behind those of the files before it
 unfoldable pub start_in : ℕ → ℕ → List Filed → ℕ
 start_in publisher day [] = 0
-start_in publisher day (f ∷ fs) = cond (isFileOf publisher day f) 0 (reportsIn f + start_in publisher day fs)
+start_in publisher day (f ∷ fs) = cond (is_file_of publisher day f) 0 (reports_in f + start_in publisher day fs)
 
 -- a report of a pair as the regular journal holds it. Its publisher is the gaining network of a P, the losing one of an L or a Z
-abbrev pub storedAs : List Filed → Place → Stored
-storedAs files p = record {
-  place = start_in (publisherOf p.report).0 p.day.0 files + p.at;
-  publisher = publisherOf p.report;
+abbrev pub stored_as : List Filed → Place → Stored
+stored_as files p = record {
+  place = start_in (publisher_of p.report).0 p.day.0 files + p.at;
+  publisher = publisher_of p.report;
   day = p.day;
 }
 
 -- the pair that confirmed last, the report processed first coming first
 abbrev pub pair_of : List Filed → Why → WhyAnswer
 pair_of files Why.Nothing = WhyAnswer.Nothing
-pair_of files (Why.Pair a b) = WhyAnswer.Pair (storedAs files a) (storedAs files b)
+pair_of files (Why.Pair a b) = WhyAnswer.Pair (stored_as files a) (stored_as files b)
 
-abbrev pub whyOn : List Filed → Option (TableLine Number) → WhyAnswer
-whyOn files none = UnknownNumber
-whyOn files (some line) = pair_of files (entryOver standings files line).why
+abbrev pub why_on : List Filed → Option (TableLine Number) → WhyAnswer
+why_on files none = UnknownNumber
+why_on files (some line) = pair_of files (entry_over standings files line).why
 
-unfoldable pub whyIn : List (TableLine Number) → List Filed → Number → WhyAnswer
-whyIn lines files number = whyOn files (line_of rules lines number)
+unfoldable pub why_in : List (TableLine Number) → List Filed → Number → WhyAnswer
+why_in lines files number = why_on files (line_of rules lines number)
 
 -- ---- the two reports
 -- the places of the pair; where an answer shows no pair, each is beyond all reports
-abbrev pub firstPlace : WhyAnswer → ℕ
-firstPlace (WhyAnswer.Pair a b) = a.place
-firstPlace WhyAnswer.Nothing = 8192
-firstPlace WhyAnswer.UnknownNumber = 8192
-firstPlace WhyAnswer.Unreadable = 8192
+abbrev pub first_place : WhyAnswer → ℕ
+first_place (WhyAnswer.Pair a b) = a.place
+first_place WhyAnswer.Nothing = 8192
+first_place WhyAnswer.UnknownNumber = 8192
+first_place WhyAnswer.Unreadable = 8192
 
-abbrev pub secondPlace : WhyAnswer → ℕ
-secondPlace (WhyAnswer.Pair a b) = b.place
-secondPlace WhyAnswer.Nothing = 8192
-secondPlace WhyAnswer.UnknownNumber = 8192
-secondPlace WhyAnswer.Unreadable = 8192
+abbrev pub second_place : WhyAnswer → ℕ
+second_place (WhyAnswer.Pair a b) = b.place
+second_place WhyAnswer.Nothing = 8192
+second_place WhyAnswer.UnknownNumber = 8192
+second_place WhyAnswer.Unreadable = 8192
 
 -- the part of the regular journal at a place; beyond all reports it is empty
 abbrev pub part_at : List ℕ → ℕ → List ℕ
-part_at regular place = recordIn 45 8192 regular place
+part_at regular place = record_in 45 8192 regular place

@@ -1,7 +1,7 @@
 // The entry of a number: as the store holds it, and as it stood before a file arrived.
 ghost use Rattle.std.specs.Prelude.{◌≡◌};
-ghost use Rattle.asking.specs.Standing.{noEntry, notHeld, hasEntries};
-ghost use Rattle.asking.specs.Looks.{notSeen, entryLooked, beforeLooked};
+ghost use Rattle.asking.specs.Standing.{no_entry, not_held, has_entries};
+ghost use Rattle.asking.specs.Looks.{not_seen, entry_looked, before_looked};
 
 use crate::answer::Answer;
 use crate::looks::{Look, LookedEntry};
@@ -22,7 +22,7 @@ pub struct EntryAnswer {
 
 // The entry of no line.
 fn no_entry() -> Entry
-    ensures { result ≡ noEntry }
+    ensures { result ≡ no_entry }
 {
     let none = entry::line_in(Listed::Missing);
     entry::first(none)
@@ -30,7 +30,7 @@ fn no_entry() -> Entry
 
 // No entry is answered.
 pub(crate) fn not_held(answer: Answer) -> EntryAnswer
-    ensures { result ≡ notHeld answer }
+    ensures { result ≡ not_held answer }
 {
     let e = no_entry();
     EntryAnswer {
@@ -41,7 +41,7 @@ pub(crate) fn not_held(answer: Answer) -> EntryAnswer
 
 // No entry is shown.
 fn not_seen(look: Look) -> LookedEntry
-    ensures { result ≡ notSeen look }
+    ensures { result ≡ not_seen look }
 {
     let e = no_entry();
     LookedEntry {
@@ -52,7 +52,7 @@ fn not_seen(look: Look) -> LookedEntry
 
 // Whether table and entries have room, and how many lines there are is in range.
 fn has_entries(table: &[u8], entries: &[u8]) -> bool
-    ensures { result ≡ hasEntries table.now entries.now }
+    ensures { result ≡ has_entries table.now entries.now }
 {
     if table.len() < lines::TABLE_LENGTH {
         return false;
@@ -65,7 +65,7 @@ fn has_entries(table: &[u8], entries: &[u8]) -> bool
 
 // The stored entry of a number: a look.
 pub fn look(table: &[u8], entries: &[u8], number: Number) -> LookedEntry
-    ensures { result ≡ entryLooked table.now entries.now number }
+    ensures { result ≡ entry_looked table.now entries.now number }
 {
     if !has_entries(table, entries) {
         return not_seen(Look::Unshowable);
@@ -92,7 +92,7 @@ pub fn look_before<'a>(
     corrections: &'a [u8],
     number: Number,
 ) -> LookedEntry
-    ensures { result ≡ beforeLooked table.now files.now regular.now corrections.now n number }
+    ensures { result ≡ before_looked table.now files.now regular.now corrections.now n number }
 {
     if !showable::showable(table, files, regular, corrections) {
         return not_seen(Look::Unshowable);

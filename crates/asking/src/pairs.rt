@@ -1,9 +1,9 @@
 // The two reports of a confirmed pair, as the regular journal holds them.
 ghost use Rattle.std.specs.Prelude.{◌≡◌, ◌+◌, ◌*◌, ◌≤◌, ◌<◌, length};
 ghost use Rattle.laws.specs.Lists.{table as tabled};
-ghost use Rattle.store.specs.journals.Files.{fileAt, recordsOf};
-ghost use Rattle.asking.specs.pairs.Pairs.{isListedOf, start_by, listedAs, listedPair};
-ghost use Rattle.asking.specs.Looks.{whyLook};
+ghost use Rattle.store.specs.journals.Files.{file_at, records_of};
+ghost use Rattle.asking.specs.pairs.Pairs.{is_listed_of, start_by, listed_as, listed_pair};
+ghost use Rattle.asking.specs.Looks.{why_look};
 
 use crate::looks::LookedWhy;
 use calendar::dates::CalendarDays;
@@ -34,7 +34,7 @@ pub enum WhyAnswer {
 
 // Whether a file is the default file of a publisher and a day.
 fn is_listed_of(f: File, publisher: Code, day: CalendarDays) -> bool
-    ensures { result ≡ isListedOf publisher.0 day.0 f }
+    ensures { result ≡ is_listed_of publisher.0 day.0 f }
 {
     (f.kind == 0) & (f.publisher == publisher.0) & (f.day == day.0)
 }
@@ -42,7 +42,7 @@ fn is_listed_of(f: File, publisher: Code, day: CalendarDays) -> bool
 // Where the reports of the default file of a publisher and a day begin in the regular journal.
 fn start_of(files: &[u8], n: usize, publisher: Code, day: CalendarDays) -> usize
     requires { (2 + n * 8 ≤ length files.now) × (n < 65536) }
-    ensures { result ≡ start_by publisher.0 day.0 (tabled n (fileAt files.now)) }
+    ensures { result ≡ start_by publisher.0 day.0 (tabled n (file_at files.now)) }
 {
     let mut start = 0;
     let mut k = 0;
@@ -60,8 +60,8 @@ fn start_of(files: &[u8], n: usize, publisher: Code, day: CalendarDays) -> usize
 // The stored report of a place: its file is that of the report's publisher on its publication day.
 fn stored_of(files: &[u8], n: usize, p: Place) -> Stored
     requires n_in_bounds { (2 + n * 8 ≤ length files.now) × (n < 65536) }
-    requires files_bound { recordsOf 0 (tabled n (fileAt files.now)) ≤ 8192 }
-    ensures { result ≡ listedAs (tabled n (fileAt files.now)) p }
+    requires files_bound { records_of 0 (tabled n (file_at files.now)) ≤ 8192 }
+    ensures { result ≡ listed_as (tabled n (file_at files.now)) p }
 {
     let r = p.report;
     let publisher = report::publisher(r);
@@ -77,8 +77,8 @@ fn stored_of(files: &[u8], n: usize, p: Place) -> Stored
 // The stored reports of a pair, as a look shows them.
 pub(crate) fn pair_in(files: &[u8], n: usize, w: Why) -> LookedWhy
     requires n_in_bounds { (2 + n * 8 ≤ length files.now) × (n < 65536) }
-    requires files_bound { recordsOf 0 (tabled n (fileAt files.now)) ≤ 8192 }
-    ensures { result ≡ whyLook (listedPair (tabled n (fileAt files.now)) w) }
+    requires files_bound { records_of 0 (tabled n (file_at files.now)) ≤ 8192 }
+    ensures { result ≡ why_look (listed_pair (tabled n (file_at files.now)) w) }
 {
     match w {
         Why::Nothing => LookedWhy::Nothing,

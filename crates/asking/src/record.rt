@@ -2,14 +2,14 @@
 ghost use Rattle.std.specs.Prelude.{◌≡◌, ◌+◌, ◌*◌, ◌≤◌, ◌<◌, length, take};
 ghost use Rattle.std.proofs.Math.Option.{some};
 ghost use Rattle.entries.specs.declared.entry.Listed.TheVariants.{With};
-ghost use Rattle.store.specs.journals.Files.{fileAt};
-ghost use Rattle.store.specs.journals.Reads.{readFiles};
-ghost use Rattle.store.specs.numbers.Lines.{lineCount, line_at};
-ghost use Rattle.store.specs.Reads.{tableLine};
-ghost use Rattle.working.specs.Working.{Sound, recordIn};
-ghost use Rattle.asking.specs.Standing.{linesIn};
-ghost use Rattle.asking.specs.Record.{kind_of, Locates, saidBy, pointVerdict, askedAs, journalShown, placeShown, partShown};
-ghost use Rattle.asking.specs.Looks.{recordLooked};
+ghost use Rattle.store.specs.journals.Files.{file_at};
+ghost use Rattle.store.specs.journals.Reads.{read_files};
+ghost use Rattle.store.specs.numbers.Lines.{line_count, line_at};
+ghost use Rattle.store.specs.Reads.{table_line};
+ghost use Rattle.working.specs.Working.{Sound, record_in};
+ghost use Rattle.asking.specs.Standing.{lines_in};
+ghost use Rattle.asking.specs.Record.{kind_of, Locates, said_by, point_verdict, asked_as, journal_shown, place_shown, part_shown};
+ghost use Rattle.asking.specs.Looks.{record_looked};
 
 use crate::looks::LookedRecord;
 use crate::showable;
@@ -70,7 +70,7 @@ fn kind_of(which: Journal) -> u8
 // The file, among the first n, of the record at a place of the journal of a kind.
 fn locate(files: &[u8], n: usize, kind: u8, place: usize) -> Located
     requires { (2 + n * 8 ≤ length files.now) × (n < 65536) }
-    ensures { Locates (fileAt files.now) n kind place result }
+    ensures { Locates (file_at files.now) n kind place result }
 {
     let mut at = place;
     let mut k = 0;
@@ -96,8 +96,8 @@ fn said_at<'a>(
     at: usize,
 ) -> Said
     requires sound { Sound n files.now regular.now corrections.now }
-    requires k_lt_n { (k < n) × (at < (fileAt files.now k).count) }
-    ensures { result ≡ saidBy (recordIn files.now regular.now corrections.now k at) }
+    requires k_lt_n { (k < n) × (at < (file_at files.now k).count) }
+    ensures { result ≡ said_by (record_in files.now regular.now corrections.now k at) }
 {
     let f = files::file_at(files, k);
     let start = sums::records_of(files, k, f.kind);
@@ -132,9 +132,9 @@ fn verdict_at<'a>(
     rec: Record,
 ) -> Verdict
     requires sound { Sound n files.now regular.now corrections.now }
-    requires k_lt_n { (k < n) × (at < (fileAt files.now k).count) }
+    requires k_lt_n { (k < n) × (at < (file_at files.now k).count) }
     requires i_in_bounds { 2 + i * 14 + 14 ≤ length table.now }
-    ensures { result ≡ pointVerdict (take n (readFiles files.now regular.now corrections.now)) (recordIn files.now regular.now corrections.now k at) rec (some (tableLine (line_at table.now i))) }
+    ensures { result ≡ point_verdict (take n (read_files files.now regular.now corrections.now)) (record_in files.now regular.now corrections.now k at) rec (some (table_line (line_at table.now i))) }
 {
     let l = lines::line_at(table, i);
     let number = l.number;
@@ -173,9 +173,9 @@ fn asked_at<'a>(
     at: usize,
 ) -> AskedRecord
     requires sound { Sound n files.now regular.now corrections.now }
-    requires k_lt_n { (k < n) × (at < (fileAt files.now k).count) }
-    requires table_in_bounds { 2 + lineCount table.now * 14 ≤ length table.now }
-    ensures { result ≡ askedAs (linesIn table.now) (take n (readFiles files.now regular.now corrections.now)) (recordIn files.now regular.now corrections.now k at) }
+    requires k_lt_n { (k < n) × (at < (file_at files.now k).count) }
+    requires table_in_bounds { 2 + line_count table.now * 14 ≤ length table.now }
+    ensures { result ≡ asked_as (lines_in table.now) (take n (read_files files.now regular.now corrections.now)) (record_in files.now regular.now corrections.now k at) }
 {
     let s = said_at(files, n, regular, corrections, k, at);
     let number = s.number;
@@ -199,7 +199,7 @@ pub fn look<'a>(
     which: Journal,
     place: usize,
 ) -> LookedRecord
-    ensures { result ≡ recordLooked table.now files.now regular.now corrections.now which place }
+    ensures { result ≡ record_looked table.now files.now regular.now corrections.now which place }
 {
     if !showable::showable(table, files, regular, corrections) {
         return LookedRecord::Unshowable;
@@ -217,7 +217,7 @@ pub fn look<'a>(
 
 // The journal of the record that an answer shows; where it shows none, the regular one.
 fn journal_shown(answer: Asked) -> Journal
-    ensures { result ≡ journalShown answer }
+    ensures { result ≡ journal_shown answer }
 {
     match answer {
         Asked::Record(which, _, _) => which,
@@ -228,7 +228,7 @@ fn journal_shown(answer: Asked) -> Journal
 
 // Its place there; where the answer shows no record, one beyond all records.
 fn place_shown(answer: Asked) -> usize
-    ensures { result ≡ placeShown answer }
+    ensures { result ≡ place_shown answer }
 {
     match answer {
         Asked::Record(_, place, _) => place,
@@ -239,7 +239,7 @@ fn place_shown(answer: Asked) -> usize
 
 // The bytes of the record that an answer shows, a part of its journal; empty where it shows none.
 pub fn part<'a>(regular: &'a [u8], corrections: &'a [u8], answer: Asked) -> &'a [u8]
-    ensures { result.now ≡ partShown regular.now corrections.now answer }
+    ensures { result.now ≡ part_shown regular.now corrections.now answer }
 {
     let which = journal_shown(answer);
     let place = place_shown(answer);

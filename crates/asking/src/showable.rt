@@ -2,7 +2,7 @@
 // is a look at the files alone, so that it can be taken for each question; whether the store reads is judged once
 // (`store::readable`).
 ghost use Rattle.std.specs.Prelude.{◌≡◌, ◌≤◌, length};
-ghost use Rattle.asking.specs.Showable.{filesInRange, isShowable};
+ghost use Rattle.asking.specs.Showable.{files_in_range, is_showable};
 
 use store::journals::records::{CORRECTIONS, CORRECTIONS_LENGTH, REGULAR_LENGTH, REPORTS};
 use store::journals::{files, sums};
@@ -11,7 +11,7 @@ use store::numbers::lines;
 // Whether the list of files is in range.
 fn files_in_range(files: &[u8]) -> bool
     requires { 8194 ≤ length files.now }
-    ensures { result ≡ filesInRange files.now }
+    ensures { result ≡ files_in_range files.now }
 {
     let n = files::file_count(files);
     if files::FILES < n {
@@ -28,7 +28,7 @@ fn files_in_range(files: &[u8]) -> bool
 
 // Whether the buffers can be shown from.
 pub fn showable(table: &[u8], files: &[u8], regular: &[u8], corrections: &[u8]) -> bool
-    ensures { result ≡ isShowable table.now files.now regular.now corrections.now }
+    ensures { result ≡ is_showable table.now files.now regular.now corrections.now }
 {
     if table.len() < lines::TABLE_LENGTH {
         return false;

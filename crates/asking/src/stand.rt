@@ -1,13 +1,13 @@
 // Where a line of the number table stands over the first files, worked out afresh.
 ghost use Rattle.std.specs.Prelude.{◌≡◌, cond, ◌+◌, ◌*◌, ◌≤◌, ltb, length, take};
-ghost use Rattle.model.specs.Model.{entryOver};
-ghost use Rattle.store.specs.journals.Files.{fileCount};
-ghost use Rattle.store.specs.journals.Reads.{readFiles};
+ghost use Rattle.model.specs.Model.{entry_over};
+ghost use Rattle.store.specs.journals.Files.{file_count};
+ghost use Rattle.store.specs.journals.Reads.{read_files};
 ghost use Rattle.store.specs.numbers.Lines.{line_at};
-ghost use Rattle.store.specs.Reads.{tableLine};
+ghost use Rattle.store.specs.Reads.{table_line};
 ghost use Rattle.rules.specs.Rules.{standings};
 ghost use Rattle.working.specs.Working.{Sound};
-ghost use Rattle.asking.specs.Looks.{notStood, standingLooked};
+ghost use Rattle.asking.specs.Looks.{not_stood, standing_looked};
 
 use crate::looks::{Look, LookedStanding};
 use crate::showable;
@@ -21,7 +21,7 @@ use working::work;
 
 // Nothing is shown.
 fn not_stood(look: Look) -> LookedStanding
-    ensures { result ≡ notStood look }
+    ensures { result ≡ not_stood look }
 {
     let none = entry::line_in(Listed::Missing);
     let s = step::first(none);
@@ -34,7 +34,7 @@ fn not_stood(look: Look) -> LookedStanding
 // How many files the first n are.
 pub fn files_among(files: &[u8], n: usize) -> usize
     requires { 2 ≤ length files.now }
-    ensures { result ≡ cond (ltb n (fileCount files.now)) n (fileCount files.now) }
+    ensures { result ≡ cond (ltb n (file_count files.now)) n (file_count files.now) }
 {
     let count = files::file_count(files);
     if n < count {
@@ -54,7 +54,7 @@ pub(crate) fn standing_at<'a>(
 ) -> Standing
     requires sound { Sound n files.now regular.now corrections.now }
     requires i_in_bounds { 2 + i * 14 + 14 ≤ length table.now }
-    ensures { result ≡ entryOver standings (take n (readFiles files.now regular.now corrections.now)) (tableLine (line_at table.now i)) }
+    ensures { result ≡ entry_over standings (take n (read_files files.now regular.now corrections.now)) (table_line (line_at table.now i)) }
 {
     let l = lines::line_at(table, i);
     let number = l.number;
@@ -77,7 +77,7 @@ pub fn look<'a>(
     corrections: &'a [u8],
     i: usize,
 ) -> LookedStanding
-    ensures { result ≡ standingLooked table.now files.now regular.now corrections.now n i }
+    ensures { result ≡ standing_looked table.now files.now regular.now corrections.now n i }
 {
     if !showable::showable(table, files, regular, corrections) {
         return not_stood(Look::Unshowable);

@@ -1,7 +1,7 @@
 // Why a number stands where it does: the two stored reports of its last confirmed pair.
 ghost use Rattle.std.specs.Prelude.{◌≡◌};
-ghost use Rattle.asking.specs.Why.{firstPlace, secondPlace, part_at};
-ghost use Rattle.asking.specs.Looks.{whyLooked};
+ghost use Rattle.asking.specs.Why.{first_place, second_place, part_at};
+ghost use Rattle.asking.specs.Looks.{why_looked};
 
 use crate::looks::LookedWhy;
 use crate::pairs::WhyAnswer;
@@ -20,7 +20,7 @@ pub fn look<'a>(
     corrections: &'a [u8],
     number: Number,
 ) -> LookedWhy
-    ensures { result ≡ whyLooked table.now files.now regular.now corrections.now number }
+    ensures { result ≡ why_looked table.now files.now regular.now corrections.now number }
 {
     if !showable::showable(table, files, regular, corrections) {
         return LookedWhy::Unshowable;
@@ -39,7 +39,7 @@ pub fn look<'a>(
 
 // The place of the pair's first report; where no pair is shown, one beyond all reports.
 fn first_place(answer: WhyAnswer) -> usize
-    ensures { result ≡ firstPlace answer }
+    ensures { result ≡ first_place answer }
 {
     match answer {
         WhyAnswer::Pair(a, _) => a.place,
@@ -51,7 +51,7 @@ fn first_place(answer: WhyAnswer) -> usize
 
 // The place of its second report.
 fn second_place(answer: WhyAnswer) -> usize
-    ensures { result ≡ secondPlace answer }
+    ensures { result ≡ second_place answer }
 {
     match answer {
         WhyAnswer::Pair(_, b) => b.place,
@@ -63,7 +63,7 @@ fn second_place(answer: WhyAnswer) -> usize
 
 // The bytes of the pair's first report, a part of the regular journal; empty where no pair is shown.
 pub fn first_part<'a>(regular: &'a [u8], corrections: &'a [u8], answer: WhyAnswer) -> &'a [u8]
-    ensures { result.now ≡ part_at regular.now (firstPlace answer) }
+    ensures { result.now ≡ part_at regular.now (first_place answer) }
 {
     let first = first_place(answer);
     records::record_bytes(regular, corrections, Journal::Regular, REPORTS, first)
@@ -71,7 +71,7 @@ pub fn first_part<'a>(regular: &'a [u8], corrections: &'a [u8], answer: WhyAnswe
 
 // The bytes of its second report.
 pub fn second_part<'a>(regular: &'a [u8], corrections: &'a [u8], answer: WhyAnswer) -> &'a [u8]
-    ensures { result.now ≡ part_at regular.now (secondPlace answer) }
+    ensures { result.now ≡ part_at regular.now (second_place answer) }
 {
     let second = second_place(answer);
     records::record_bytes(regular, corrections, Journal::Regular, REPORTS, second)

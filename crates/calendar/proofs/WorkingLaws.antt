@@ -10,29 +10,29 @@ use borrow.Author.Tests.{eqb-true, eqb-false}
 use Rattle.laws.specs.Lists.{table, keep}
 use Rattle.laws.proofs.Lists.{length-keep-end}
 use Rattle.laws.proofs.Tests.{le-or-lt}
-use Rattle.calendar.specs.Dates.{lastDay}
+use Rattle.calendar.specs.Dates.{last_day}
 use Rattle.calendar.specs.Holidays.{working}
-use Rattle.calendar.specs.WorkingDays.{daysAfter, workingAfter, smallest, workingDayAfter}
+use Rattle.calendar.specs.WorkingDays.{days_after, working_after, smallest, working_day_after}
 use Rattle.calendar.specs.Meaning.{KthAfter, After}
 use Rattle.calendar.specs.declared.working_days.Later.{Later}
 use Rattle.calendar.specs.declared.working_days.Later.TheVariants.{On, Ends}
 
 -- ---- the count: none at first, and with each day one more if that is a working day
-pub count_none : (d : ℕ) → workingAfter d d ≡ 0
-unfolding workingAfter daysAfter table keep
+pub count_none : (d : ℕ) → working_after d d ≡ 0
+unfolding working_after days_after table keep
 count_none d = let e : d - d ≡ 0 = omega arith in rw e
 
-count_next : (d e : ℕ) → d ≤ e → workingAfter d (e + 1) ≡ workingAfter d e + cond (working (e + 1)) 1 0
-unfolding workingAfter daysAfter table
+count_next : (d e : ℕ) → d ≤ e → working_after d (e + 1) ≡ working_after d e + cond (working (e + 1)) 1 0
+unfolding working_after days_after table
 count_next d e h =
     let n : e + 1 - d ≡ suc (e - d) = omega arith in
     let x : d + 1 + (e - d) ≡ e + 1 = omega arith in
     rw (n, ← x) (length-keep-end working (table (e - d) (λ (i : ℕ). d + 1 + i)) (d + 1 + (e - d)))
 
-pub count-working : (d e : ℕ) → d ≤ e → working (e + 1) ≡ true → workingAfter d (e + 1) ≡ workingAfter d e + 1
+pub count-working : (d e : ℕ) → d ≤ e → working (e + 1) ≡ true → working_after d (e + 1) ≡ working_after d e + 1
 count-working d e h w = rw w at (count_next d e h)
 
-pub count-free : (d e : ℕ) → d ≤ e → working (e + 1) ≡ false → workingAfter d (e + 1) ≡ workingAfter d e
+pub count-free : (d e : ℕ) → d ≤ e → working (e + 1) ≡ false → working_after d (e + 1) ≡ working_after d e
 count-free d e h w = let p = rw w at (count_next d e h) in omega arith
 
 -- ---- the definition's search: the first day that passes, and none before it
@@ -54,14 +54,14 @@ smallest-finds p (suc n) e = go (p e) refl (smallest p n (suc e)) (smallest-find
     go false q Ends f = λ i h k. here_or_on q i (e + suc n) h k (λ j r s. f j r (omega arith))
 
 -- ---- the definition has the paper's meaning
-pub after : (d k : ℕ) → After d k (workingDayAfter d k)
-unfolding workingDayAfter Finds
-after d k = go (smallest test (suc lastDay - d) d) (smallest-finds test (suc lastDay - d) d)
+pub after : (d k : ℕ) → After d k (working_day_after d k)
+unfolding working_day_after Finds
+after d k = go (smallest test (suc last_day - d) d) (smallest-finds test (suc last_day - d) d)
   where
     test : ℕ → Bool
-    test e = eqb (workingAfter d e) k
+    test e = eqb (working_after d e) k
 
-    go : (o : Later) → Finds test (suc lastDay - d) d o → After d k o
+    go : (o : Later) → Finds test (suc last_day - d) d o → After d k o
     go (On x) (a, b, c, h) = record { not-before = a; inside = omega arith; counted = eqb-true _ _ c; smallest = λ i p q. eqb-false _ _ (h i p q) }
     go Ends h = λ e p q. eqb-false _ _ (h e p (omega arith))
 
@@ -76,59 +76,59 @@ after_one d k (On x) Ends p q = absurd (q x.0 p.not-before p.inside p.counted)
 after_one d k Ends (On y) p q = absurd (p y.0 q.not-before q.inside q.counted)
 after_one d k Ends Ends p q = refl
 
-pub after_is : (d k : ℕ) (a : Later) → After d k a → a ≡ workingDayAfter d k
-after_is d k a h = after_one d k a (workingDayAfter d k) h (after d k)
+pub after_is : (d k : ℕ) (a : Later) → After d k a → a ≡ working_day_after d k
+after_is d k a h = after_one d k a (working_day_after d k) h (after d k)
 
 -- for k = 0 it is d
-pub after_none : (d : ℕ) → d ≤ lastDay → On (record { 0 = d }) ≡ workingDayAfter d 0
+pub after_none : (d : ℕ) → d ≤ last_day → On (record { 0 = d }) ≡ working_day_after d 0
 after_none d h = after_is d 0 (On (record { 0 = d })) (record { not-before = omega arith; inside = h; counted = count_none d; smallest = λ i p q s. omega arith })
 
 -- a day outside the calendar has no day after it
-pub after-outside : (d k : ℕ) → lastDay < d → Ends ≡ workingDayAfter d k
+pub after-outside : (d k : ℕ) → last_day < d → Ends ≡ working_day_after d k
 after-outside d k h = after_is d k Ends (λ e p q s. omega arith)
 
 -- where there is an answer, it is a day of the calendar and not before d
-pub after-found : (d k e : ℕ) → workingDayAfter d k ≡ On (record { 0 = e }) → KthAfter d k e
+pub after-found : (d k e : ℕ) → working_day_after d k ≡ On (record { 0 = e }) → KthAfter d k e
 after-found d k e q = subst (After d k) q (after d k)
 
 -- ---- a loop that counts day by day: at the day d `left` of k are left, and at each earlier day fewer than k were counted
 pub record Counting (first k d left : ℕ) : Type 0 where
   pub from : first ≤ d
-  pub inside : d ≤ lastDay
-  pub whole : workingAfter first d + left ≡ k
-  pub fewer : (e : ℕ) → first ≤ e → e < d → workingAfter first e < k
+  pub inside : d ≤ last_day
+  pub whole : working_after first d + left ≡ k
+  pub fewer : (e : ℕ) → first ≤ e → e < d → working_after first e < k
 
-pub counting-starts : (d k : ℕ) → d ≤ lastDay → Counting d k d k
+pub counting-starts : (d k : ℕ) → d ≤ last_day → Counting d k d k
 counting-starts d k h = record { from = omega arith; inside = h; whole = omega (arith, count_none d); fewer = λ e p q. absurd (omega arith) }
 
 module _ (first k d left : ℕ) (c : Counting first k d left) where
-  fewer-on : 0 < left → (e : ℕ) → first ≤ e → e < d + 1 → workingAfter first e < k
-  fewer-on h e p q = ⊎_elim (λ (l : d ≤ e). let s : workingAfter first e ≡ workingAfter first d = ap (workingAfter first) (omega arith) in omega arith) (λ (l : e < d). c.fewer e p l) (le-or-lt d e)
+  fewer-on : 0 < left → (e : ℕ) → first ≤ e → e < d + 1 → working_after first e < k
+  fewer-on h e p q = ⊎_elim (λ (l : d ≤ e). let s : working_after first e ≡ working_after first d = ap (working_after first) (omega arith) in omega arith) (λ (l : e < d). c.fewer e p l) (le-or-lt d e)
 
-  pub counting-on : d < lastDay → 0 < left → working (d + 1) ≡ true → Counting first k (d + 1) (left - 1)
+  pub counting-on : d < last_day → 0 < left → working (d + 1) ≡ true → Counting first k (d + 1) (left - 1)
   counting-on l h w = record { from = omega arith; inside = omega arith; whole = omega (arith, count-working first d c.from w); fewer = fewer-on h }
 
-  pub counting-past : d < lastDay → 0 < left → working (d + 1) ≡ false → Counting first k (d + 1) left
+  pub counting-past : d < last_day → 0 < left → working (d + 1) ≡ false → Counting first k (d + 1) left
   counting-past l h w = record { from = omega arith; inside = omega arith; whole = omega (arith, count-free first d c.from w); fewer = fewer-on h }
 
-  pub counting-there : left ≤ 0 → On (record { 0 = d }) ≡ workingDayAfter first k
+  pub counting-there : left ≤ 0 → On (record { 0 = d }) ≡ working_day_after first k
   counting-there h = after_is first k (On (record { 0 = d })) (record { not-before = c.from; inside = c.inside; counted = omega arith; smallest = λ i p q s. omega (arith, c.fewer i p q) })
 
-  pub counting-ends : 0 < left → d ≡ lastDay → Ends ≡ workingDayAfter first k
+  pub counting-ends : 0 < left → d ≡ last_day → Ends ≡ working_day_after first k
   counting-ends h l = after_is first k Ends (λ e p q s. omega (arith, fewer-on h e p (omega arith)))
 
 -- ---- a working day at which k working days are counted is the k-th
-count-grows : (d e n : ℕ) → d ≤ e → workingAfter d e ≤ workingAfter d (e + n)
+count-grows : (d e n : ℕ) → d ≤ e → working_after d e ≤ working_after d (e + n)
 count-grows d e zero h = let s : e + 0 ≡ e = omega arith in rw s (omega arith)
 count-grows d e (suc n) h =
     let s : e + suc n ≡ e + n + 1 = omega arith in
     rw s (omega (arith, count_next d (e + n) (omega arith), count-grows d e n h))
 
-pub kth : (d k e : ℕ) → d < e → e ≤ lastDay → working e ≡ true → workingAfter d e ≡ k → workingDayAfter d k ≡ On (record { 0 = e })
+pub kth : (d k e : ℕ) → d < e → e ≤ last_day → working e ≡ true → working_after d e ≡ k → working_day_after d k ≡ On (record { 0 = e })
 kth d k e h l w s =
     sym (after_is d k (On (record { 0 = e })) (record { not-before = omega arith; inside = l; counted = s; smallest = earlier }))
   where
-    earlier : (i : ℕ) → d ≤ i → i < e → workingAfter d i ≡ k → ⊥
+    earlier : (i : ℕ) → d ≤ i → i < e → working_after d i ≡ k → ⊥
     earlier i p q r =
         let x : e - 1 + 1 ≡ e = omega arith in
         let y : i + (e - 1 - i) ≡ e - 1 = omega arith in

@@ -1,9 +1,9 @@
 -- What the answers mean, in the paper's words. `proofs/` shows that each definition has this meaning, and that one answer alone has it.
 -- Assumes nothing: these are definitions.
 use Rattle.std.specs.Prelude.{◌≡◌, ℕ, ◌≤◌, ◌<◌}
-use Rattle.calendar.specs.Dates.{lastDay}
-use Rattle.calendar.specs.WorkingDays.{workingAfter}
-use Rattle.calendar.specs.Answers.{dayOf}
+use Rattle.calendar.specs.Dates.{last_day}
+use Rattle.calendar.specs.WorkingDays.{working_after}
+use Rattle.calendar.specs.Answers.{day_of}
 use Rattle.calendar.specs.declared.dates.Dated.{Dated}
 use Rattle.calendar.specs.declared.dates.Dated.TheVariants.{At, Beyond}
 use Rattle.calendar.specs.declared.dates.Found.TheVariants.{Day}
@@ -12,17 +12,17 @@ use Rattle.calendar.specs.declared.working_days.Later.TheVariants.{On, Ends}
 
 -- a day's date is the one whose day it is; a number past the last day's has none
 abbrev pub IsDated : ℕ → Dated → Type 0
-IsDated n (At x) = dayOf x ≡ Day (record { 0 = n })
-IsDated n Beyond = lastDay < n
+IsDated n (At x) = day_of x ≡ Day (record { 0 = n })
+IsDated n Beyond = last_day < n
 
 -- e is the smallest day, not before d, with exactly k working days after d up to and including e
 pub record KthAfter (d k e : ℕ) : Type 0 where
   pub not-before : d ≤ e
-  pub inside : e ≤ lastDay
-  pub counted : workingAfter d e ≡ k
-  pub smallest : (i : ℕ) → d ≤ i → i < e → workingAfter d i ≡ k → ⊥
+  pub inside : e ≤ last_day
+  pub counted : working_after d e ≡ k
+  pub smallest : (i : ℕ) → d ≤ i → i < e → working_after d i ≡ k → ⊥
 
 -- the k-th working day after d is that day; the calendar ends where no day of it is
 abbrev pub After : ℕ → ℕ → Later → Type 0
 After d k (On e) = KthAfter d k e.0
-After d k Ends = (e : ℕ) → d ≤ e → e ≤ lastDay → workingAfter d e ≡ k → ⊥
+After d k Ends = (e : ℕ) → d ≤ e → e ≤ last_day → working_after d e ≡ k → ⊥

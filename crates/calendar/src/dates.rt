@@ -1,7 +1,7 @@
 // Dates, day numbers and weekdays.
 ghost use Rattle.std.specs.Prelude.{◌≡◌, ◌<◌, ◌≤◌};
-ghost use Rattle.calendar.specs.Dates.{leap, yearDays, monthDays, yearStart, monthStart, yearOf, monthOf, inCalendar};
-ghost use Rattle.calendar.specs.Answers.{dayOf, dateOf, fullYear, weekdayOf};
+ghost use Rattle.calendar.specs.Dates.{leap, year_days, month_days, year_start, month_start, year_of, month_of, in_calendar};
+ghost use Rattle.calendar.specs.Answers.{day_of, date_of, full_year, weekday_of};
 
 // A count of calendar days (KT); as a day's number, those since 1998-01-01.
 #[derive(Drop)]
@@ -76,7 +76,7 @@ fn leap_in_calendar(year: u16) -> bool
 
 fn month_days(year: u16, month: u8) -> u16
     requires { (1998 ≤ year) × (year ≤ 2049) }
-    ensures { result ≡ monthDays year month }
+    ensures { result ≡ month_days year month }
 {
     if 12 < month {
         return 0;
@@ -94,7 +94,7 @@ fn month_days(year: u16, month: u8) -> u16
 // The day number of 1 January: 365 for each year since 1998, and the leap days among them.
 fn year_start(year: u16) -> u16
     requires { (1998 ≤ year) × (year ≤ 2049) }
-    ensures { result ≡ yearStart year }
+    ensures { result ≡ year_start year }
 {
     365 * (year - 1998) + (year - 1997) / 4
 }
@@ -102,7 +102,7 @@ fn year_start(year: u16) -> u16
 // The days of a year before the first of a month.
 fn month_start(year: u16, month: u8) -> u16
     requires { (1998 ≤ year) × (year ≤ 2049) × (month ≤ 12) }
-    ensures { result ≡ monthStart year month }
+    ensures { result ≡ month_start year month }
 {
     let i = month as usize;
     let before = MONTH_STARTS[i];
@@ -117,7 +117,7 @@ fn month_start(year: u16, month: u8) -> u16
 
 // The day of a date.
 pub fn day_of(date: Date) -> Found
-    ensures { result ≡ dayOf date }
+    ensures { result ≡ day_of date }
 {
     let year = date.year;
     let month = date.month;
@@ -141,7 +141,7 @@ pub fn day_of(date: Date) -> Found
 // The year of a day: four years have 1461 days.
 fn year_of(n: u16) -> u16
     requires { n ≤ 18992 }
-    ensures { result ≡ yearOf n }
+    ensures { result ≡ year_of n }
 {
     let quarters = 4 * (n as u32) + 2;
     1998 + (quarters / 1461) as u16
@@ -149,8 +149,8 @@ fn year_of(n: u16) -> u16
 
 // The month in which the day `n` of a year lies, from 0.
 fn month_of(year: u16, n: u16) -> u8
-    requires { (1998 ≤ year) × (year ≤ 2049) × (n < yearDays year) }
-    ensures { result ≡ monthOf year n }
+    requires { (1998 ≤ year) × (year ≤ 2049) × (n < year_days year) }
+    ensures { result ≡ month_of year n }
 {
     let mut month: u8 = 1;
     let mut next = month_days(year, 1);
@@ -163,7 +163,7 @@ fn month_of(year: u16, n: u16) -> u8
 
 // The date of a day.
 pub fn date_of(day: CalendarDays) -> Dated
-    ensures { result ≡ dateOf day.0 }
+    ensures { result ≡ date_of day.0 }
 {
     let n = day.0;
     if LAST_DAY < n {
@@ -182,7 +182,7 @@ pub fn date_of(day: CalendarDays) -> Dated
 
 // The year that two digits stand for.
 pub fn full_year(two: u8) -> FullYear
-    ensures { result ≡ fullYear two }
+    ensures { result ≡ full_year two }
 {
     let y = two as u16;
     if two < 50 {
@@ -199,14 +199,14 @@ pub fn full_year(two: u8) -> FullYear
 
 // Whether a day lies in the calendar.
 pub fn in_calendar(day: CalendarDays) -> bool
-    ensures { result ≡ inCalendar day.0 }
+    ensures { result ≡ in_calendar day.0 }
 {
     day.0 <= LAST_DAY
 }
 
 // The day of the week on which a day falls.
 pub fn weekday_of(day: CalendarDays) -> Weekday
-    ensures { result ≡ weekdayOf day.0 }
+    ensures { result ≡ weekday_of day.0 }
 {
     let n = day.0;
     if LAST_DAY < n {

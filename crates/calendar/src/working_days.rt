@@ -1,8 +1,8 @@
 // Working days, and counting them.
 ghost use Rattle.std.specs.Prelude.{◌≡◌, ◌≤◌};
 ghost use Rattle.calendar.specs.Holidays.{working};
-ghost use Rattle.calendar.specs.Answers.{dayKind};
-ghost use Rattle.calendar.specs.WorkingDays.{workingDayAfter};
+ghost use Rattle.calendar.specs.Answers.{day_kind};
+ghost use Rattle.calendar.specs.WorkingDays.{working_day_after};
 
 use crate::dates::{CalendarDays, LAST_DAY};
 use crate::holidays::is_holiday;
@@ -42,7 +42,7 @@ fn works(day: u16) -> bool
 
 // Whether a day is a working day.
 pub fn kind_of(day: CalendarDays) -> DayKind
-    ensures { result ≡ dayKind day.0 }
+    ensures { result ≡ day_kind day.0 }
 {
     let d = day.0;
     if LAST_DAY < d {
@@ -56,7 +56,7 @@ pub fn kind_of(day: CalendarDays) -> DayKind
 
 // The day that is `count` working days after `day`.
 pub fn working_day_after(day: CalendarDays, count: WorkingDays) -> Later
-    ensures { result ≡ workingDayAfter day.0 count.0 }
+    ensures { result ≡ working_day_after day.0 count.0 }
 {
     let mut d = day.0;
     let mut left = count.0;

@@ -4,14 +4,14 @@ use Rattle.std.proofs.Math.Option.{Option}
 use Rattle.laws.specs.Told.{value_at}
 use Rattle.store.specs.Reads.{Buffers, Held}
 use Rattle.reworking.specs.declared.rework.Reworked.{Reworked}
-use Rattle.reworking.specs.Reworking.{allFiles, reworkedTold, reworkAnswer, entriesAfter, listAfter, withRoom}
+use Rattle.reworking.specs.Reworking.{all_files, reworked_told, rework_answer, entries_after, list_after, with_room}
 
 -- what reworking answers over all files of a store, where the list has room
-abbrev pub reworkOf : Option Held → Reworked
-reworkOf store = reworkAnswer allFiles store
+abbrev pub rework_of : Option Held → Reworked
+rework_of store = rework_answer all_files store
 
 pub record ReworksAs (b : Buffers) (list : List ℕ) (answer more : ℕ) (entries listed : List ℕ) : Type 0 where
-  pub answers : answer ≡ (reworkedTold (reworkOf (withRoom list b))).number
-  pub tells : more ≡ value_at 0 (reworkedTold (reworkOf (withRoom list b)))
-  pub leaves : entries ≡ entriesAfter allFiles (withRoom list b) b.entries
-  pub lists : listed ≡ listAfter allFiles (withRoom list b) list
+  pub answers : answer ≡ (reworked_told (rework_of (with_room list b))).number
+  pub tells : more ≡ value_at 0 (reworked_told (rework_of (with_room list b)))
+  pub leaves : entries ≡ entries_after all_files (with_room list b) b.entries
+  pub lists : listed ≡ list_after all_files (with_room list b) list

@@ -11,26 +11,26 @@ use Rattle.calendar.specs.declared.working_days.Later.{Later}
 use Rattle.calendar.specs.declared.working_days.Later.TheVariants.{On, Ends}
 
 -- no day
-abbrev pub noDay : ℕ
-noDay = 65535
+abbrev pub no_day : ℕ
+no_day = 65535
 
-abbrev pub dayWord : Found → ℕ
-dayWord (Day d) = d.0
-dayWord Fault = noDay
+abbrev pub day_word : Found → ℕ
+day_word (Day d) = d.0
+day_word Fault = no_day
 
 -- ddmmyyyy as one number
 abbrev pub spelt : Date → ℕ
 spelt x = x.day * 1000000 + x.month * 10000 + x.year
 
-abbrev pub dateWord : Dated → ℕ
-dateWord (At x) = spelt x
-dateWord Beyond = 0
+abbrev pub date_word : Dated → ℕ
+date_word (At x) = spelt x
+date_word Beyond = 0
 
-abbrev pub kindWord : DayKind → ℕ
-kindWord Working = 1
-kindWord Free = 0
-kindWord Outside = 2
+abbrev pub kind_word : DayKind → ℕ
+kind_word Working = 1
+kind_word Free = 0
+kind_word Outside = 2
 
-abbrev pub laterWord : Later → ℕ
-laterWord (On d) = d.0
-laterWord Ends = noDay
+abbrev pub later_word : Later → ℕ
+later_word (On d) = d.0
+later_word Ends = no_day

@@ -1,18 +1,18 @@
 -- An entry in 100 bytes, as other languages get it. Assumes nothing: these are definitions.
 use Rattle.std.specs.Prelude.{◌≡◌, cond, List, ℕ, eqb, leb, length}
 use Rattle.laws.specs.Overlay.{overlay}
-use Rattle.store.specs.entry_slots.Entries.{entrySlot}
+use Rattle.store.specs.entry_slots.Entries.{entry_slot}
 use Rattle.asking.specs.declared.entry.EntryAnswer.{EntryAnswer}
-use Rattle.asking.specs.Numbers.{entryTold}
+use Rattle.asking.specs.Numbers.{entry_told}
 
 -- 41 where an entry is to be shown and there is no room for it
-unfoldable pub shownNumber : EntryAnswer → ℕ → ℕ
-shownNumber a room = cond (eqb (entryTold a).number 0) (cond (leb 100 room) 0 41) (entryTold a).number
+unfoldable pub shown_number : EntryAnswer → ℕ → ℕ
+shown_number a room = cond (eqb (entry_told a).number 0) (cond (leb 100 room) 0 41) (entry_told a).number
 
 -- only 0 writes
-unfoldable pub shownInto : EntryAnswer → List ℕ → List ℕ
-shownInto a out = cond (eqb (shownNumber a (length out)) 0) (overlay out 0 (entrySlot a.entry)) out
+unfoldable pub shown_into : EntryAnswer → List ℕ → List ℕ
+shown_into a out = cond (eqb (shown_number a (length out)) 0) (overlay out 0 (entry_slot a.entry)) out
 
 pub record ShowsEntry (a : EntryAnswer) (before : List ℕ) (answer : ℕ) (after : List ℕ) : Type 0 where
-  pub answers : answer ≡ shownNumber a (length before)
-  pub leaves : after ≡ shownInto a before
+  pub answers : answer ≡ shown_number a (length before)
+  pub leaves : after ≡ shown_into a before

@@ -1,11 +1,11 @@
 -- What an answer tells in plain numbers: its own, and the values that go with it. Assumes nothing: these are definitions.
 use Rattle.std.specs.Prelude.{◌≡◌, ℕ}
-use Rattle.laws.specs.Told.{Told, valueOr, value_at}
+use Rattle.laws.specs.Told.{Told, value_or, value_at}
 use Rattle.capi.specs.declared.told.Numbers.{Numbers}
 
 -- four values at most; `none` stands where there is none
-abbrev pub inNumbers : ℕ → Told → Numbers
-inNumbers none t = record { number = t.number; first = valueOr none 0 t; second = valueOr none 1 t; third = valueOr none 2 t; fourth = valueOr none 3 t }
+abbrev pub in_numbers : ℕ → Told → Numbers
+in_numbers none t = record { number = t.number; first = value_or none 0 t; second = value_or none 1 t; third = value_or none 2 t; fourth = value_or none 3 t }
 
 -- what reading a file answers: beside the number the count or the place of the faulty record, its faulty field, the cause
 pub record Tells (right : Told) (answer more field cause : ℕ) : Type 0 where

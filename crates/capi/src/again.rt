@@ -1,8 +1,8 @@
 // Working out all entries of a store again, as when the holiday list has changed.
 ghost use Rattle.std.specs.Prelude.{◌≡◌};
 ghost use Rattle.store.specs.Reads.{lent};
-ghost use Rattle.reworking.specs.Reworking.{reworkedTold};
-ghost use Rattle.capi.specs.Told.{inNumbers};
+ghost use Rattle.reworking.specs.Reworking.{reworked_told};
+ghost use Rattle.capi.specs.Told.{in_numbers};
 ghost use Rattle.capi.specs.Again.{ReworksAs};
 
 use crate::told;
@@ -11,7 +11,7 @@ use reworking::rework;
 use reworking::rework::{ALL_FILES, Reworked};
 
 fn tell(r: Reworked) -> Numbers
-    ensures { result ≡ inNumbers 0 (reworkedTold r) }
+    ensures { result ≡ in_numbers 0 (reworked_told r) }
 {
     match r {
         Reworked::Changed(n) => told::with(0, n),

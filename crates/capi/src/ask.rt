@@ -2,11 +2,11 @@
 ghost use Rattle.std.specs.Prelude.{◌≡◌, [], ◌∷◌};
 ghost use Rattle.laws.specs.Told.{told};
 ghost use Rattle.store.specs.Reads.{lent, reads};
-ghost use Rattle.asking.specs.Numbers.{whyTold, recordValues, askedTold};
-ghost use Rattle.asking.specs.answering.Whole.{numberGiven, whyAsked, recordAsked};
-ghost use Rattle.asking.specs.answering.Figure.{figureAsked, figureTold};
-ghost use Rattle.capi.specs.Told.{inNumbers};
-ghost use Rattle.capi.specs.Ask.{journalBy, nowhere, TellsWhy, TellsRecord, TellsFigure};
+ghost use Rattle.asking.specs.Numbers.{why_told, record_values, asked_told};
+ghost use Rattle.asking.specs.answering.Whole.{number_given, why_asked, record_asked};
+ghost use Rattle.asking.specs.answering.Figure.{figure_asked, figure_told};
+ghost use Rattle.capi.specs.Told.{in_numbers};
+ghost use Rattle.capi.specs.Ask.{journal_by, nowhere, TellsWhy, TellsRecord, TellsFigure};
 
 use crate::told;
 use crate::told::Numbers;
@@ -22,7 +22,7 @@ pub const NOWHERE: u64 = 8192;
 
 // 0, and the places of a pair.
 fn pair(a: Stored, b: Stored) -> Numbers
-    ensures { result ≡ inNumbers nowhere (told 0 (a.place ∷ b.place ∷ [])) }
+    ensures { result ≡ in_numbers nowhere (told 0 (a.place ∷ b.place ∷ [])) }
 {
     Numbers {
         number: 0,
@@ -35,7 +35,7 @@ fn pair(a: Stored, b: Stored) -> Numbers
 
 // A number with which no pair goes.
 fn no_pair(number: u8) -> Numbers
-    ensures { result ≡ inNumbers nowhere (told number []) }
+    ensures { result ≡ in_numbers nowhere (told number []) }
 {
     Numbers {
         number,
@@ -47,7 +47,7 @@ fn no_pair(number: u8) -> Numbers
 }
 
 fn tell_why(w: WhyAnswer) -> Numbers
-    ensures { result ≡ inNumbers nowhere (whyTold w) }
+    ensures { result ≡ in_numbers nowhere (why_told w) }
 {
     match w {
         WhyAnswer::Pair(a, b) => pair(a, b),
@@ -59,7 +59,7 @@ fn tell_why(w: WhyAnswer) -> Numbers
 
 // The journal by number: 0 the regular one, any other the correction journal.
 fn journal_by(journal: u8) -> Journal
-    ensures { result ≡ journalBy journal }
+    ensures { result ≡ journal_by journal }
 {
     if journal == 0 {
         return Journal::Regular;
@@ -68,7 +68,7 @@ fn journal_by(journal: u8) -> Journal
 }
 
 fn record_told(x: AskedRecord) -> Numbers
-    ensures { result ≡ inNumbers 0 (told 0 (recordValues x)) }
+    ensures { result ≡ in_numbers 0 (told 0 (record_values x)) }
 {
     let v = x.verdict;
     Numbers {
@@ -81,7 +81,7 @@ fn record_told(x: AskedRecord) -> Numbers
 }
 
 fn tell_record(r: Asked) -> Numbers
-    ensures { result ≡ inNumbers 0 (askedTold r) }
+    ensures { result ≡ in_numbers 0 (asked_told r) }
 {
     match r {
         Asked::Record(_, _, x) => record_told(x),
@@ -91,7 +91,7 @@ fn tell_record(r: Asked) -> Numbers
 }
 
 fn tell_figure(f: FigureAnswer) -> Numbers
-    ensures { result ≡ inNumbers 0 (figureTold f) }
+    ensures { result ≡ in_numbers 0 (figure_told f) }
 {
     match f {
         FigureAnswer::Differ(n) => told::with(0, n),
@@ -114,7 +114,7 @@ pub extern "C" fn dagskimra_why<'a>(
     one: &mut u64,
     two: &mut u64,
 ) -> u8
-    ensures { TellsWhy (whyAsked (reads (lent table.now files.now regular.now corrections.now entries.now)) (numberGiven first.now last.now)) result one.new two.new }
+    ensures { TellsWhy (why_asked (reads (lent table.now files.now regular.now corrections.now entries.now)) (number_given first.now last.now)) result one.new two.new }
 {
     let number = whole::given(first, last);
     let w = whole::why(table, files, regular, corrections, entries, number);
@@ -139,7 +139,7 @@ pub extern "C" fn dagskimra_record<'a>(
     at: &mut u64,
     verdict: &mut u64,
 ) -> u8
-    ensures { TellsRecord (recordAsked (reads (lent table.now files.now regular.now corrections.now entries.now)) (journalBy journal) place) result publisher.new day.new at.new verdict.new }
+    ensures { TellsRecord (record_asked (reads (lent table.now files.now regular.now corrections.now entries.now)) (journal_by journal) place) result publisher.new day.new at.new verdict.new }
 {
     let which = journal_by(journal);
     let x = whole::record(table, files, regular, corrections, entries, which, place);
@@ -161,7 +161,7 @@ pub extern "C" fn dagskimra_figure<'a>(
     entries: &[u8],
     more: &mut u64,
 ) -> u8
-    ensures { TellsFigure (figureAsked (reads (lent table.now files.now regular.now corrections.now entries.now))) result more.new }
+    ensures { TellsFigure (figure_asked (reads (lent table.now files.now regular.now corrections.now entries.now))) result more.new }
 {
     let f = figure::figure(table, files, regular, corrections, entries);
     let t = tell_figure(f);

@@ -1,8 +1,8 @@
 // Starting a store, and whether five buffers read as one.
 ghost use Rattle.std.specs.Prelude.{◌≡◌};
-ghost use Rattle.store.specs.Reads.{lent, isReadable};
-ghost use Rattle.starting.specs.Start.{startedTold};
-ghost use Rattle.capi.specs.Told.{inNumbers};
+ghost use Rattle.store.specs.Reads.{lent, is_readable};
+ghost use Rattle.starting.specs.Start.{started_told};
+ghost use Rattle.capi.specs.Told.{in_numbers};
 ghost use Rattle.capi.specs.Starting.{StartsAs};
 
 use crate::told;
@@ -12,7 +12,7 @@ use starting::start::Started;
 use store::readable;
 
 fn tell(s: Started) -> Numbers
-    ensures { result ≡ inNumbers 0 (startedTold s) }
+    ensures { result ≡ in_numbers 0 (started_told s) }
 {
     match s {
         Started::Done(n) => told::with(0, n),
@@ -49,7 +49,7 @@ pub extern "C" fn dagskimra_readable(
     corrections: &[u8],
     entries: &[u8],
 ) -> bool
-    ensures { result ≡ isReadable (lent table.now files.now regular.now corrections.now entries.now) }
+    ensures { result ≡ is_readable (lent table.now files.now regular.now corrections.now entries.now) }
 {
     readable::readable(table, files, regular, corrections, entries)
 }

@@ -1,9 +1,9 @@
 // Day numbers and working days.
 ghost use Rattle.std.specs.Prelude.{◌≡◌, length};
-ghost use Rattle.calendar.specs.Answers.{dayOf, dateOf, dayKind};
+ghost use Rattle.calendar.specs.Answers.{day_of, date_of, day_kind};
 ghost use Rattle.calendar.specs.Holidays.{holidays, mark_of};
-ghost use Rattle.calendar.specs.WorkingDays.{workingDayAfter};
-ghost use Rattle.capi.specs.Days.{dayWord, spelt, dateWord, kindWord, laterWord};
+ghost use Rattle.calendar.specs.WorkingDays.{working_day_after};
+ghost use Rattle.capi.specs.Days.{day_word, spelt, date_word, kind_word, later_word};
 
 use calendar::dates::{CalendarDays, Date, Dated, Found};
 use calendar::table::COUNT;
@@ -15,7 +15,7 @@ pub const NO_DAY: u16 = 65535;
 
 // ---- what is found, as a number
 fn day_word(found: Found) -> u16
-    ensures { result ≡ dayWord found }
+    ensures { result ≡ day_word found }
 {
     match found {
         Found::Day(d) => d.0,
@@ -30,7 +30,7 @@ fn spelt(x: Date) -> u32
 }
 
 fn date_word(dated: Dated) -> u32
-    ensures { result ≡ dateWord dated }
+    ensures { result ≡ date_word dated }
 {
     match dated {
         Dated::At(x) => spelt(x),
@@ -39,7 +39,7 @@ fn date_word(dated: Dated) -> u32
 }
 
 fn kind_word(kind: DayKind) -> u8
-    ensures { result ≡ kindWord kind }
+    ensures { result ≡ kind_word kind }
 {
     match kind {
         DayKind::Working => 1,
@@ -49,7 +49,7 @@ fn kind_word(kind: DayKind) -> u8
 }
 
 fn later_word(later: Later) -> u16
-    ensures { result ≡ laterWord later }
+    ensures { result ≡ later_word later }
 {
     match later {
         Later::On(d) => d.0,
@@ -61,7 +61,7 @@ fn later_word(later: Later) -> u16
 // The day of a date, or NO_DAY.
 #[unsafe(no_mangle)]
 pub extern "C" fn dagskimra_day_of(year: u16, month: u8, day: u8) -> u16
-    ensures { result ≡ dayWord (dayOf (record { year = year; month = month; day = day })) }
+    ensures { result ≡ day_word (day_of (record { year = year; month = month; day = day })) }
 {
     day_word(dates::day_of(Date { year, month, day }))
 }
@@ -69,7 +69,7 @@ pub extern "C" fn dagskimra_day_of(year: u16, month: u8, day: u8) -> u16
 // The date of a day, ddmmyyyy as one number; 0 past the calendar's end.
 #[unsafe(no_mangle)]
 pub extern "C" fn dagskimra_date_of(day: u16) -> u32
-    ensures { result ≡ dateWord (dateOf day) }
+    ensures { result ≡ date_word (date_of day) }
 {
     date_word(dates::date_of(CalendarDays(day)))
 }
@@ -77,7 +77,7 @@ pub extern "C" fn dagskimra_date_of(day: u16) -> u32
 // Whether a day is a working day: 1 if it is, 0 if it is not, 2 past the calendar's end.
 #[unsafe(no_mangle)]
 pub extern "C" fn dagskimra_kind_of_day(day: u16) -> u8
-    ensures { result ≡ kindWord (dayKind day) }
+    ensures { result ≡ kind_word (day_kind day) }
 {
     kind_word(working_days::kind_of(CalendarDays(day)))
 }
@@ -85,7 +85,7 @@ pub extern "C" fn dagskimra_kind_of_day(day: u16) -> u8
 // The day that is `count` working days after a day, or NO_DAY where the calendar ends.
 #[unsafe(no_mangle)]
 pub extern "C" fn dagskimra_working_day_after(day: u16, count: u8) -> u16
-    ensures { result ≡ laterWord (workingDayAfter day count) }
+    ensures { result ≡ later_word (working_day_after day count) }
 {
     later_word(working_days::working_day_after(CalendarDays(day), WorkingDays(count)))
 }

@@ -1,12 +1,12 @@
 // The kinds of file by number.
 ghost use Rattle.std.specs.Prelude.{◌≡◌};
-ghost use Rattle.capi.specs.Kinds.{kindBy};
+ghost use Rattle.capi.specs.Kinds.{kind_by};
 
 use records::names::kind::FileKind;
 
 // 0 default, 1 correction, 2 request; any other number is a response file.
 pub fn kind_by(kind: u8) -> FileKind
-    ensures { result ≡ kindBy kind }
+    ensures { result ≡ kind_by kind }
 {
     match kind {
         0 => FileKind::Default,

@@ -1,9 +1,9 @@
 // Filing a file.
 ghost use Rattle.std.specs.Prelude.{◌≡◌};
 ghost use Rattle.store.specs.Reads.{lent};
-ghost use Rattle.filing.specs.checking.Answers.{answerTold};
-ghost use Rattle.capi.specs.Told.{inNumbers};
-ghost use Rattle.capi.specs.Offer.{filableBy, dayFor, FilesAs};
+ghost use Rattle.filing.specs.checking.Answers.{answer_told};
+ghost use Rattle.capi.specs.Told.{in_numbers};
+ghost use Rattle.capi.specs.Offer.{filable_by, day_for, FilesAs};
 
 use crate::days::NO_DAY;
 use crate::told;
@@ -15,7 +15,7 @@ use filing::file;
 
 // The kind that is filed: 0 default, any other number correction.
 fn filable_by(kind: u8) -> Filable
-    ensures { result ≡ filableBy kind }
+    ensures { result ≡ filable_by kind }
 {
     if kind == 0 {
         return Filable::Default;
@@ -25,7 +25,7 @@ fn filable_by(kind: u8) -> Filable
 
 // The publication day; a kind that is neither 0 nor 1 is not filed, and so has no day.
 fn day_for(kind: u8, day: u16) -> u16
-    ensures { result ≡ dayFor kind day }
+    ensures { result ≡ day_for kind day }
 {
     if kind <= 1 {
         return day;
@@ -34,7 +34,7 @@ fn day_for(kind: u8, day: u16) -> u16
 }
 
 fn tell(a: Answer) -> Numbers
-    ensures { result ≡ inNumbers 0 (answerTold a) }
+    ensures { result ≡ in_numbers 0 (answer_told a) }
 {
     match a {
         Answer::Filed(n) => told::with(0, n),

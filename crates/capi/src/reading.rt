@@ -1,10 +1,10 @@
 // Reading files of each kind.
 ghost use Rattle.std.specs.Prelude.{◌≡◌};
 ghost use Rattle.laws.specs.Split.{end_of};
-ghost use Rattle.files.specs.Judged.{judgedFile, judgedTold};
-ghost use Rattle.files.specs.Reading.{found_at, foundTold};
-ghost use Rattle.capi.specs.Kinds.{kindBy};
-ghost use Rattle.capi.specs.Told.{inNumbers, Tells};
+ghost use Rattle.files.specs.Judged.{judged_file, judged_told};
+ghost use Rattle.files.specs.Reading.{found_at, found_told};
+ghost use Rattle.capi.specs.Kinds.{kind_by};
+ghost use Rattle.capi.specs.Told.{in_numbers, Tells};
 
 use crate::told::Numbers;
 use crate::{kinds, told};
@@ -13,7 +13,7 @@ use files::read::Found;
 use files::{judge, read};
 
 fn tell(j: Judged) -> Numbers
-    ensures { result ≡ inNumbers 0 (judgedTold j) }
+    ensures { result ≡ in_numbers 0 (judged_told j) }
 {
     match j {
         Judged::Records(n) => told::with(0, n),
@@ -22,7 +22,7 @@ fn tell(j: Judged) -> Numbers
 }
 
 fn tell_found(f: Found) -> Numbers
-    ensures { result ≡ inNumbers 0 (foundTold f) }
+    ensures { result ≡ in_numbers 0 (found_told f) }
 {
     match f {
         Found::Record => told::alone(0),
@@ -41,7 +41,7 @@ pub extern "C" fn dagskimra_judge(
     field: &mut u64,
     cause: &mut u64,
 ) -> u8
-    ensures { Tells (judgedTold (judgedFile (kindBy kind) file.now)) result more.new field.new cause.new }
+    ensures { Tells (judged_told (judged_file (kind_by kind) file.now)) result more.new field.new cause.new }
 {
     let j = judge::judge(kinds::kind_by(kind), file);
     let t = tell(j);
@@ -61,7 +61,7 @@ pub extern "C" fn dagskimra_find(
     field: &mut u64,
     cause: &mut u64,
 ) -> u8
-    ensures { Tells (foundTold (found_at (kindBy kind) file.now place)) result more.new field.new cause.new }
+    ensures { Tells (found_told (found_at (kind_by kind) file.now place)) result more.new field.new cause.new }
 {
     let f = read::find(kinds::kind_by(kind), file, place);
     let found = tell_found(f);

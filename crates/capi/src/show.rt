@@ -1,8 +1,8 @@
 // The entry of a number in 100 bytes: holder and last confirmed date, then eight places.
 ghost use Rattle.std.specs.Prelude.{◌≡◌, []};
 ghost use Rattle.store.specs.Reads.{lent, reads};
-ghost use Rattle.asking.specs.Numbers.{shownTold};
-ghost use Rattle.asking.specs.answering.Whole.{numberGiven, entryAsked, beforeAsked};
+ghost use Rattle.asking.specs.Numbers.{shown_told};
+ghost use Rattle.asking.specs.answering.Whole.{number_given, entry_asked, before_asked};
 ghost use Rattle.capi.specs.Show.{ShowsEntry};
 
 use asking::answer::Answer;
@@ -11,7 +11,7 @@ use asking::entry::EntryAnswer;
 use store::entry_slots::entry;
 
 fn number(a: Answer) -> u8
-    ensures { result ≡ (shownTold a []).number }
+    ensures { result ≡ (shown_told a []).number }
 {
     match a {
         Answer::Shown => 0,
@@ -49,7 +49,7 @@ pub extern "C" fn dagskimra_entry<'a>(
     last: &[u8],
     out: &mut [u8],
 ) -> u8
-    ensures { ShowsEntry (entryAsked (reads (lent table.now files.now regular.now corrections.now entries.now)) (numberGiven first.now last.now)) out.old result out.new }
+    ensures { ShowsEntry (entry_asked (reads (lent table.now files.now regular.now corrections.now entries.now)) (number_given first.now last.now)) out.old result out.new }
 {
     let n = whole::given(first, last);
     let a = whole::entry(table, files, regular, corrections, entries, n);
@@ -69,7 +69,7 @@ pub extern "C" fn dagskimra_entry_before<'a>(
     last: &[u8],
     out: &mut [u8],
 ) -> u8
-    ensures { ShowsEntry (beforeAsked (reads (lent table.now files.now regular.now corrections.now entries.now)) file (numberGiven first.now last.now)) out.old result out.new }
+    ensures { ShowsEntry (before_asked (reads (lent table.now files.now regular.now corrections.now entries.now)) file (number_given first.now last.now)) out.old result out.new }
 {
     let n = whole::given(first, last);
     let a = whole::before(table, files, regular, corrections, entries, file, n);

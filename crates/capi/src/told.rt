@@ -1,8 +1,8 @@
 // What an answer tells in plain numbers: its own, and four values at most.
 ghost use Rattle.std.specs.Prelude.{◌≡◌, [], ◌∷◌};
 ghost use Rattle.laws.specs.Told.{told};
-ghost use Rattle.faults.specs.Cause.{faultTold};
-ghost use Rattle.capi.specs.Told.{inNumbers};
+ghost use Rattle.faults.specs.Cause.{fault_told};
+ghost use Rattle.capi.specs.Told.{in_numbers};
 
 use faults::cause::{Cause, FaultPlace};
 
@@ -17,7 +17,7 @@ pub struct Numbers {
 
 // A number with which nothing goes.
 pub(crate) fn alone(number: u8) -> Numbers
-    ensures { result ≡ inNumbers 0 (told number []) }
+    ensures { result ≡ in_numbers 0 (told number []) }
 {
     Numbers {
         number,
@@ -30,7 +30,7 @@ pub(crate) fn alone(number: u8) -> Numbers
 
 // A number, and one value.
 pub(crate) fn with(number: u8, value: usize) -> Numbers
-    ensures { result ≡ inNumbers 0 (told number (value ∷ [])) }
+    ensures { result ≡ in_numbers 0 (told number (value ∷ [])) }
 {
     Numbers {
         number,
@@ -43,7 +43,7 @@ pub(crate) fn with(number: u8, value: usize) -> Numbers
 
 // 4, and the fault.
 pub(crate) fn fault(at: FaultPlace, cause: Cause) -> Numbers
-    ensures { result ≡ inNumbers 0 (faultTold at cause) }
+    ensures { result ≡ in_numbers 0 (fault_told at cause) }
 {
     Numbers {
         number: 4,

@@ -1,9 +1,9 @@
 // Writing files of each kind.
 ghost use Rattle.std.specs.Prelude.{◌≡◌, length};
-ghost use Rattle.records.specs.names.Written.{writtenTold};
-ghost use Rattle.files.specs.Writing.{fileOf, fileAnswer};
-ghost use Rattle.capi.specs.Kinds.{kindBy};
-ghost use Rattle.capi.specs.Told.{inNumbers};
+ghost use Rattle.records.specs.names.Written.{written_told};
+ghost use Rattle.files.specs.Writing.{file_of, file_answer};
+ghost use Rattle.capi.specs.Kinds.{kind_by};
+ghost use Rattle.capi.specs.Told.{in_numbers};
 ghost use Rattle.capi.specs.Writing.{Writes};
 
 use crate::told::Numbers;
@@ -12,7 +12,7 @@ use composing::write;
 use records::names::written::Written;
 
 fn tell(w: Written) -> Numbers
-    ensures { result ≡ inNumbers 0 (writtenTold w) }
+    ensures { result ≡ in_numbers 0 (written_told w) }
 {
     match w {
         Written::Length(n) => told::with(0, n),
@@ -25,7 +25,7 @@ fn tell(w: Written) -> Numbers
 // where `out` is too short. On both refusals `out` keeps its bytes; bytes behind a written file stay.
 #[unsafe(no_mangle)]
 pub extern "C" fn dagskimra_write(kind: u8, words: &[u64], out: &mut [u8], more: &mut u64) -> u8
-    ensures { Writes (fileAnswer (kindBy kind) words.now (length out.old)) (fileOf (kindBy kind) words.now) out.old out.new result more.new }
+    ensures { Writes (file_answer (kind_by kind) words.now (length out.old)) (file_of (kind_by kind) words.now) out.old out.new result more.new }
 {
     let w = write::write(kinds::kind_by(kind), words, out);
     let t = tell(w);

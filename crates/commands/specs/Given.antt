@@ -4,14 +4,14 @@ use Rattle.records.specs.names.Name.{name_of}
 use Rattle.records.specs.declared.names.name.NameRead.{NameRead}
 
 -- the place behind the last slash (47) among the first n bytes; 0 where there is none
-unfoldable pub behindSlash : ℕ → List ℕ → ℕ
-behindSlash zero path = zero
-behindSlash (suc n) path = cond (eqb (get_or path n 0) 47) (suc n) (behindSlash n path)
+unfoldable pub behind_slash : ℕ → List ℕ → ℕ
+behind_slash zero path = zero
+behind_slash (suc n) path = cond (eqb (get_or path n 0) 47) (suc n) (behind_slash n path)
 
 -- where a path's last component begins
-abbrev pub nameStart : List ℕ → ℕ
-nameStart path = behindSlash (length path) path
+abbrev pub name_start : List ℕ → ℕ
+name_start path = behind_slash (length path) path
 
 -- what the last component tells
-abbrev pub nameIn : List ℕ → NameRead
-nameIn path = name_of (drop (nameStart path) path)
+abbrev pub name_in : List ℕ → NameRead
+name_in path = name_of (drop (name_start path) path)

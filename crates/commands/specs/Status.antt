@@ -2,10 +2,10 @@
 -- Assumes nothing: these are definitions.
 use Rattle.std.specs.Prelude.{◌≡◌, true, ◌⊎◌, List, ℕ}
 use Rattle.files.specs.declared.judge.Judged.{Judged}
-use Rattle.store.specs.Reads.{Buffers, isReadable}
+use Rattle.store.specs.Reads.{Buffers, is_readable}
 use Rattle.starting.specs.declared.start.Started.{Started}
 use Rattle.starting.specs.declared.start.Started.TheVariants.{Done, Short, BadTable}
-use Rattle.starting.specs.Start.{startAnswer, startBuffers}
+use Rattle.starting.specs.Start.{start_answer, start_buffers}
 
 -- as it should be, or 2 where the answer can't be written or kept
 abbrev pub Ends : ℕ → ℕ → Type 0
@@ -13,19 +13,19 @@ Ends status r = (r ≡ status) ⊎ (r ≡ 2)
 
 -- 0 only where the buffers read as a store
 abbrev pub Opens : ℕ → Buffers → Type 0
-Opens r b = r ≡ 0 → isReadable b ≡ true
+Opens r b = r ≡ 0 → is_readable b ≡ true
 
 -- of a file that is read, by what it was judged to be
-abbrev pub readStatus : Judged → ℕ
-readStatus (Judged.Records n) = 0
-readStatus (Judged.Fault place cause) = 1
+abbrev pub read_status : Judged → ℕ
+read_status (Judged.Records n) = 0
+read_status (Judged.Fault place cause) = 1
 
 -- of starting, by what it answers
-abbrev pub startStatus : Started → ℕ
-startStatus (Done n) = 0
-startStatus Short = 1
-startStatus BadTable = 1
+abbrev pub start_status : Started → ℕ
+start_status (Done n) = 0
+start_status Short = 1
+start_status BadTable = 1
 
 pub record StartsBy (text : List ℕ) (before : Buffers) (status : ℕ) (after : Buffers) : Type 0 where
-  pub ends : Ends (startStatus (startAnswer text before)) status
-  pub leaves : after ≡ startBuffers text before
+  pub ends : Ends (start_status (start_answer text before)) status
+  pub leaves : after ≡ start_buffers text before

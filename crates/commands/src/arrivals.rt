@@ -1,13 +1,13 @@
 // The list of filed files, read from any bytes.
 ghost use Rattle.std.specs.Prelude.{◌≡◌, ◌≤◌};
-ghost use Rattle.commands.specs.Arrivals.{filesIn, fileIn};
+ghost use Rattle.commands.specs.Arrivals.{files_in, file_in};
 
 use store::journals::files::File;
 
 // How many files there are, and at most as many as the list takes.
 pub fn count(files: &[u8]) -> usize
     ensures upper_bound { result ≤ 1024 }
-    ensures value { result ≡ filesIn files.now }
+    ensures value { result ≡ files_in files.now }
 {
     if files.len() < 2 {
         return 0;
@@ -18,7 +18,7 @@ pub fn count(files: &[u8]) -> usize
 
 // The file at a place of the list; one of no records where there is none.
 pub fn file_at(files: &[u8], i: usize) -> File
-    ensures { result ≡ fileIn files.now i }
+    ensures { result ≡ file_in files.now i }
 {
     if 1023 < i {
         return File {

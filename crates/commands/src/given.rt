@@ -1,6 +1,6 @@
 // Files that are given to be read: their names, and their bytes.
 ghost use Rattle.std.specs.Prelude.{◌≡◌, ◌≤◌, length};
-ghost use Rattle.commands.specs.Given.{nameStart, nameIn};
+ghost use Rattle.commands.specs.Given.{name_start, name_in};
 
 use crate::LONGEST;
 use desk::file;
@@ -9,7 +9,7 @@ use desk::file::Whole;
 // Where the last component of a path begins: behind its last slash.
 fn name_at(path: &[u8]) -> usize
     ensures upper_bound { result ≤ length path.now }
-    ensures value { result ≡ nameStart path.now }
+    ensures value { result ≡ name_start path.now }
 {
     let mut n = path.len();
     while 0 < n {
@@ -23,7 +23,7 @@ fn name_at(path: &[u8]) -> usize
 
 // The kind and the publication day that a path's last component tells.
 pub fn name_of(path: &[u8]) -> records::names::name::NameRead
-    ensures { result ≡ nameIn path.now }
+    ensures { result ≡ name_in path.now }
 {
     let at = name_at(path);
     records::names::name::Name::read(&path[at..])

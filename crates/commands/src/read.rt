@@ -1,6 +1,6 @@
 // read FILE: the records of a file of any of the four kinds.
-ghost use Rattle.files.specs.Judged.{judgedFile};
-ghost use Rattle.commands.specs.Status.{Ends, readStatus};
+ghost use Rattle.files.specs.Judged.{judged_file};
+ghost use Rattle.commands.specs.Status.{Ends, read_status};
 
 use crate::{LONGEST, end, fault, given};
 use desk::{args, page, within};
@@ -61,7 +61,7 @@ fn refused(at: FaultPlace, cause: Cause) -> u8
 
 // What is printed is what the file was judged to be.
 fn read_bytes(path: &[u8], kind: FileKind, file: &[u8]) -> u8
-    ensures { Ends (readStatus (judgedFile kind file.now)) result }
+    ensures { Ends (read_status (judged_file kind file.now)) result }
 {
     match files::judge::judge(kind, file) {
         Judged::Fault(at, cause) => {

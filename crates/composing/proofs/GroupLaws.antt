@@ -12,8 +12,8 @@ use Rattle.records.specs.declared.names.kind.FileKind.TheVariants.{Default, Corr
 use Rattle.records.specs.Record.{width_of, fits, text_of}
 use Rattle.records.proofs.RecordLaws.{fits_width, fits-short}
 use Rattle.composing.specs.declared.measure.Measured.TheVariants.{Length, Fault}
-use Rattle.files.specs.Writing.{groupsTo, groups, valuesIn}
-use Rattle.composing.specs.Measuring.{measuredFrom}
+use Rattle.files.specs.Writing.{groups_to, groups, values_in}
+use Rattle.composing.specs.Measuring.{measured_from}
 
 pub width_some : (k : FileKind) → 1 ≤ width_of k
 width_some Default = omega arith
@@ -23,8 +23,8 @@ width_some Response = omega arith
 
 -- ---- the first group, and the others
 -- more room than words changes nothing
-groups-room : (most n w : ℕ) (ws : List ℕ) → 1 ≤ w → length ws ≤ most → length ws ≤ n → groupsTo most w ws ≡ groupsTo n w ws
-unfolding groupsTo
+groups-room : (most n w : ℕ) (ws : List ℕ) → 1 ≤ w → length ws ≤ most → length ws ≤ n → groups_to most w ws ≡ groups_to n w ws
+unfolding groups_to
 groups-room zero zero w ws o h k = refl
 groups-room zero (suc n) w [] o h k = refl
 groups-room zero (suc n) w (x ∷ ws) o h k = absurd (omega arith)
@@ -35,12 +35,12 @@ groups-room (suc most) (suc n) w (x ∷ ws) o h k =
     ap (λ (gs : List (List ℕ)). take w (x ∷ ws) ∷ gs) (groups-room most n w (drop w (x ∷ ws)) o (omega (arith, length-drop w (x ∷ ws))) (omega (arith, length-drop w (x ∷ ws))))
 
 pub groups_none : (w : ℕ) (ws : List ℕ) → length ws ≤ 0 → groups w ws ≡ []
-unfolding groups groupsTo
+unfolding groups groups_to
 groups_none w [] h = refl
 groups_none w (x ∷ ws) h = absurd (omega arith)
 
 pub groups-some : (w : ℕ) (ws : List ℕ) → 1 ≤ w → 0 < length ws → groups w ws ≡ take w ws ∷ groups w (drop w ws)
-unfolding groups groupsTo
+unfolding groups groups_to
 groups-some w [] o h = absurd (omega arith)
 groups-some w (x ∷ ws) o h =
     ap (λ (gs : List (List ℕ)). take w (x ∷ ws) ∷ gs) (groups-room (length ws) (length (drop w (x ∷ ws))) w (drop w (x ∷ ws)) o (omega (arith, length-drop w (x ∷ ws))) (omega arith))
@@ -68,19 +68,19 @@ module _ (kind : FileKind) (ws : List ℕ) (at w : ℕ) (g : List ℕ) (ew : w �
         short = omega (arith, fits-short kind g e, fits_width kind g e);
       }
 
-  pub group-more : at < length ws → valuesIn kind (drop at ws) ≡ g ∷ valuesIn kind (drop (at + w) ws)
+  pub group-more : at < length ws → values_in kind (drop at ws) ≡ g ∷ values_in kind (drop (at + w) ws)
   group-more h = rw (eg, ew) (groups-more (width_of kind) ws at (width_some kind) h)
 
   module _ (k total : ℕ) where
     pub measure-on : (n : ℕ) → at < length ws → fits kind g ≡ true → n ≡ length (text_of kind g)
-        → measuredFrom kind k total (valuesIn kind (drop at ws)) ≡ measuredFrom kind (k + 1) (total + (n + 1)) (valuesIn kind (drop (at + w) ws))
-    unfolding measuredFrom
+        → measured_from kind k total (values_in kind (drop at ws)) ≡ measured_from kind (k + 1) (total + (n + 1)) (values_in kind (drop (at + w) ws))
+    unfolding measured_from
     measure-on n h e en = rw (group-more h, e, en)
 
-    pub measure-stop : at < length ws → fits kind g ≡ false → measuredFrom kind k total (valuesIn kind (drop at ws)) ≡ Fault k
-    unfolding measuredFrom
+    pub measure-stop : at < length ws → fits kind g ≡ false → measured_from kind k total (values_in kind (drop at ws)) ≡ Fault k
+    unfolding measured_from
     measure-stop h e = rw (group-more h, e)
 
-pub measure-done : (kind : FileKind) (ws : List ℕ) (at k total : ℕ) → length ws ≤ at → measuredFrom kind k total (valuesIn kind (drop at ws)) ≡ Length k total
-unfolding measuredFrom
+pub measure-done : (kind : FileKind) (ws : List ℕ) (at k total : ℕ) → length ws ≤ at → measured_from kind k total (values_in kind (drop at ws)) ≡ Length k total
+unfolding measured_from
 measure-done kind ws at k total h = rw (groups-end (width_of kind) ws at h)

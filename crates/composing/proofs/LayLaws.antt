@@ -12,54 +12,54 @@ use Rattle.laws.specs.Overlay.{overlay, Laid}
 use Rattle.laws.proofs.Tests.{and_left, and_right}
 use Rattle.laws.proofs.Ended.{ended-append}
 use Rattle.laws.proofs.Overlay.{overlay-append, laid_then, laid-length}
-use Rattle.records.specs.closing.Closing.{closingText}
+use Rattle.records.specs.closing.Closing.{closing_text}
 use Rattle.records.specs.declared.names.kind.FileKind.{FileKind}
-use Rattle.records.specs.names.Kind.{hasClosing}
+use Rattle.records.specs.names.Kind.{has_closing}
 use Rattle.records.specs.Record.{width_of, fits, text_of}
 use Rattle.composing.specs.declared.measure.Measured.{Measured}
-use Rattle.files.specs.Writing.{Holding, valuesIn, unfit, heldAll}
-use Rattle.composing.specs.Measuring.{measuredFrom, recordLines, closedText}
+use Rattle.files.specs.Writing.{Holding, values_in, unfit, held_all}
+use Rattle.composing.specs.Measuring.{measured_from, record_lines, closed_text}
 use Rattle.composing.proofs.GroupLaws.{groups-end, group-more}
 
 -- ---- the lines of records
-pub lines_cons : (kind : FileKind) (v : List ℕ) (vs : List (List ℕ)) → recordLines kind (v ∷ vs) ≡ text_of kind v ++ 13 ∷ recordLines kind vs
-unfolding recordLines ended
+pub lines_cons : (kind : FileKind) (v : List ℕ) (vs : List (List ℕ)) → record_lines kind (v ∷ vs) ≡ text_of kind v ++ 13 ∷ record_lines kind vs
+unfolding record_lines ended
 lines_cons kind v vs = refl
 
-pub lines_none : (kind : FileKind) → recordLines kind [] ≡ []
-unfolding recordLines ended
+pub lines_none : (kind : FileKind) → record_lines kind [] ≡ []
+unfolding record_lines ended
 lines_none kind = refl
 
-pub length-lines : (kind : FileKind) (v : List ℕ) (vs : List (List ℕ)) → length (recordLines kind (v ∷ vs)) ≡ length (text_of kind v) + 1 + length (recordLines kind vs)
-length-lines kind v vs = ap length (lines_cons kind v vs) ∙ length-append (text_of kind v) (13 ∷ recordLines kind vs) ∙ omega arith
+pub length-lines : (kind : FileKind) (v : List ℕ) (vs : List (List ℕ)) → length (record_lines kind (v ∷ vs)) ≡ length (text_of kind v) + 1 + length (record_lines kind vs)
+length-lines kind v vs = ap length (lines_cons kind v vs) ∙ length-append (text_of kind v) (13 ∷ record_lines kind vs) ∙ omega arith
 
 -- a line has at least its CR
-pub lines_long : (kind : FileKind) (vs : List (List ℕ)) → length vs ≤ length (recordLines kind vs)
+pub lines_long : (kind : FileKind) (vs : List (List ℕ)) → length vs ≤ length (record_lines kind vs)
 lines_long kind [] = omega arith
 lines_long kind (v ∷ vs) = omega (arith, length-lines kind v vs, lines_long kind vs)
 
 -- ---- what was measured
 fits-cons : (kind : FileKind) (k total : ℕ) (v : List ℕ) (vs : List (List ℕ)) (t : Bool) → fits kind v ≡ t
-    → measuredFrom kind (k + 1) (total + (length (text_of kind v) + 1)) vs ≡ cond (all (fits kind) vs) (Measured.Length (k + 1 + length vs) (total + (length (text_of kind v) + 1) + length (recordLines kind vs))) (Measured.Fault (k + 1 + first_at (unfit kind) vs))
-    → measuredFrom kind k total (v ∷ vs) ≡ cond (all (fits kind) (v ∷ vs)) (Measured.Length (k + length (v ∷ vs)) (total + length (recordLines kind (v ∷ vs)))) (Measured.Fault (k + first_at (unfit kind) (v ∷ vs)))
-unfolding measuredFrom all unfit
+    → measured_from kind (k + 1) (total + (length (text_of kind v) + 1)) vs ≡ cond (all (fits kind) vs) (Measured.Length (k + 1 + length vs) (total + (length (text_of kind v) + 1) + length (record_lines kind vs))) (Measured.Fault (k + 1 + first_at (unfit kind) vs))
+    → measured_from kind k total (v ∷ vs) ≡ cond (all (fits kind) (v ∷ vs)) (Measured.Length (k + length (v ∷ vs)) (total + length (record_lines kind (v ∷ vs)))) (Measured.Fault (k + first_at (unfit kind) (v ∷ vs)))
+unfolding measured_from all unfit
 fits-cons kind k total v vs true e ih =
     let a : k + 1 + length vs ≡ k + suc (length vs) = omega arith in
-    let b : total + (length (text_of kind v) + 1) + length (recordLines kind vs) ≡ total + length (recordLines kind (v ∷ vs)) = omega (arith, length-lines kind v vs) in
+    let b : total + (length (text_of kind v) + 1) + length (record_lines kind vs) ≡ total + length (record_lines kind (v ∷ vs)) = omega (arith, length-lines kind v vs) in
     let d : k + 1 + first_at (unfit kind) vs ≡ k + suc (first_at (unfit kind) vs) = omega arith in
     rw e (ih ∙ rw (a, b, d))
 fits-cons kind k total v vs false e ih = rw (e, add-zero)
 
-measured-is : (kind : FileKind) (k total : ℕ) (vs : List (List ℕ)) → measuredFrom kind k total vs ≡ cond (all (fits kind) vs) (Measured.Length (k + length vs) (total + length (recordLines kind vs))) (Measured.Fault (k + first_at (unfit kind) vs))
-unfolding measuredFrom all recordLines ended
+measured-is : (kind : FileKind) (k total : ℕ) (vs : List (List ℕ)) → measured_from kind k total vs ≡ cond (all (fits kind) vs) (Measured.Length (k + length vs) (total + length (record_lines kind vs))) (Measured.Fault (k + first_at (unfit kind) vs))
+unfolding measured_from all record_lines ended
 measured-is kind k total [] = rw (add-zero, add-zero)
 measured-is kind k total (v ∷ vs) = fits-cons kind k total v vs (fits kind v) refl (measured-is kind (k + 1) (total + (length (text_of kind v) + 1)) vs)
 
-pub measured-fault : (kind : FileKind) (vs : List (List ℕ)) (i : ℕ) → measuredFrom kind 0 0 vs ≡ Measured.Fault i → heldAll kind vs ≡ Holding.Fault i
-unfolding heldAll
+pub measured-fault : (kind : FileKind) (vs : List (List ℕ)) (i : ℕ) → measured_from kind 0 0 vs ≡ Measured.Fault i → held_all kind vs ≡ Holding.Fault i
+unfolding held_all
 measured-fault kind vs i e = go (all (fits kind) vs) (sym (measured-is kind 0 0 vs) ∙ e)
   where
-    go : (t : Bool) → cond t (Measured.Length (0 + length vs) (0 + length (recordLines kind vs))) (Measured.Fault (0 + first_at (unfit kind) vs)) ≡ Measured.Fault i
+    go : (t : Bool) → cond t (Measured.Length (0 + length vs) (0 + length (record_lines kind vs))) (Measured.Fault (0 + first_at (unfit kind) vs)) ≡ Measured.Fault i
         → cond t (Holding.Records (length vs)) (Holding.Fault (first_at (unfit kind) vs)) ≡ Holding.Fault i
     go true e = absurd (let z : ◌≡◌ {A = ℕ} 0 1 = cc in omega arith)
     go false e =
@@ -71,27 +71,27 @@ measured-fault kind vs i e = go (all (fits kind) vs) (sym (measured-is kind 0 0 
 pub record Whole (kind : FileKind) (vs : List (List ℕ)) (n total : ℕ) : Type 0 where
   pub fit : all (fits kind) vs ≡ true
   pub count : n ≡ length vs
-  pub bytes : total ≡ length (recordLines kind vs)
+  pub bytes : total ≡ length (record_lines kind vs)
 
-pub measured-length : (kind : FileKind) (vs : List (List ℕ)) (n total : ℕ) → measuredFrom kind 0 0 vs ≡ Measured.Length n total → Whole kind vs n total
+pub measured-length : (kind : FileKind) (vs : List (List ℕ)) (n total : ℕ) → measured_from kind 0 0 vs ≡ Measured.Length n total → Whole kind vs n total
 measured-length kind vs n total e = go (all (fits kind) vs) refl (sym (measured-is kind 0 0 vs) ∙ e)
   where
-    go : (t : Bool) → all (fits kind) vs ≡ t → cond t (Measured.Length (0 + length vs) (0 + length (recordLines kind vs))) (Measured.Fault (0 + first_at (unfit kind) vs)) ≡ Measured.Length n total → Whole kind vs n total
+    go : (t : Bool) → all (fits kind) vs ≡ t → cond t (Measured.Length (0 + length vs) (0 + length (record_lines kind vs))) (Measured.Fault (0 + first_at (unfit kind) vs)) ≡ Measured.Length n total → Whole kind vs n total
     go true p e =
         let a : 0 + length vs ≡ n = cc in
-        let b : 0 + length (recordLines kind vs) ≡ total = cc in
+        let b : 0 + length (record_lines kind vs) ≡ total = cc in
         record { fit = p; count = omega arith; bytes = omega arith }
     go false p e = absurd (let z : ◌≡◌ {A = ℕ} 0 1 = cc in omega arith)
 
-pub held_all : (kind : FileKind) (vs : List (List ℕ)) → all (fits kind) vs ≡ true → heldAll kind vs ≡ Holding.Records (length vs)
-unfolding heldAll
-held_all kind vs p = rw p
+pub held_all_lem : (kind : FileKind) (vs : List (List ℕ)) → all (fits kind) vs ≡ true → held_all kind vs ≡ Holding.Records (length vs)
+unfolding held_all
+held_all_lem kind vs p = rw p
 
-pub length-closed : (kind : FileKind) (vs : List (List ℕ)) → length (closedText kind vs) ≡ length (recordLines kind vs) + length (closingText (length vs + 1)) + 1
-unfolding closedText
+pub length-closed : (kind : FileKind) (vs : List (List ℕ)) → length (closed_text kind vs) ≡ length (record_lines kind vs) + length (closing_text (length vs + 1)) + 1
+unfolding closed_text
 length-closed kind vs =
-    length-append (recordLines kind vs ++ closingText (length vs + 1)) (13 ∷ [])
-    ∙ omega (arith, length-append (recordLines kind vs) (closingText (length vs + 1)))
+    length-append (record_lines kind vs ++ closing_text (length vs + 1)) (13 ∷ [])
+    ∙ omega (arith, length-append (record_lines kind vs) (closing_text (length vs + 1)))
 
 -- ---- a record laid with its CR, and what is left to lay
 module _ {o o₁ o₂ t : List ℕ} {at m n : ℕ} (p : Laid o at t o₁ m) (q : Laid o₁ m (13 ∷ []) o₂ n) where
@@ -110,21 +110,21 @@ module _ {o o₁ o₂ t : List ℕ} {at m n : ℕ} (p : Laid o at t o₁ m) (q :
 
 -- ---- the records from a place on
 module _ (kind : FileKind) (ws : List ℕ) (at w : ℕ) (g : List ℕ) (ew : w ≡ width_of kind) (eg : g ≡ take w (drop at ws)) (h : at < length ws) where
-  pub left-lines : recordLines kind (valuesIn kind (drop at ws)) ≡ text_of kind g ++ 13 ∷ recordLines kind (valuesIn kind (drop (at + w) ws))
-  left-lines = ap (recordLines kind) (group-more kind ws at w g ew eg h) ∙ lines_cons kind g (valuesIn kind (drop (at + w) ws))
+  pub left-lines : record_lines kind (values_in kind (drop at ws)) ≡ text_of kind g ++ 13 ∷ record_lines kind (values_in kind (drop (at + w) ws))
+  left-lines = ap (record_lines kind) (group-more kind ws at w g ew eg h) ∙ lines_cons kind g (values_in kind (drop (at + w) ws))
 
-  pub left-length : length (recordLines kind (valuesIn kind (drop at ws))) ≡ length (text_of kind g) + 1 + length (recordLines kind (valuesIn kind (drop (at + w) ws)))
-  left-length = ap (λ (vs : List (List ℕ)). length (recordLines kind vs)) (group-more kind ws at w g ew eg h) ∙ length-lines kind g (valuesIn kind (drop (at + w) ws))
+  pub left-length : length (record_lines kind (values_in kind (drop at ws))) ≡ length (text_of kind g) + 1 + length (record_lines kind (values_in kind (drop (at + w) ws)))
+  left-length = ap (λ (vs : List (List ℕ)). length (record_lines kind vs)) (group-more kind ws at w g ew eg h) ∙ length-lines kind g (values_in kind (drop (at + w) ws))
 
-  both : all (fits kind) (valuesIn kind (drop at ws)) ≡ true → (fits kind g && all (fits kind) (valuesIn kind (drop (at + w) ws))) ≡ true
+  both : all (fits kind) (values_in kind (drop at ws)) ≡ true → (fits kind g && all (fits kind) (values_in kind (drop (at + w) ws))) ≡ true
   unfolding all
   both e = sym (ap (all (fits kind)) (group-more kind ws at w g ew eg h)) ∙ e
 
-  pub first_fits : all (fits kind) (valuesIn kind (drop at ws)) ≡ true → fits kind g ≡ true
-  first_fits e = and_left (fits kind g) (all (fits kind) (valuesIn kind (drop (at + w) ws))) (both e)
+  pub first_fits : all (fits kind) (values_in kind (drop at ws)) ≡ true → fits kind g ≡ true
+  first_fits e = and_left (fits kind g) (all (fits kind) (values_in kind (drop (at + w) ws))) (both e)
 
-  pub left-fit : all (fits kind) (valuesIn kind (drop at ws)) ≡ true → all (fits kind) (valuesIn kind (drop (at + w) ws)) ≡ true
-  left-fit e = and_right (fits kind g) (all (fits kind) (valuesIn kind (drop (at + w) ws))) (both e)
+  pub left-fit : all (fits kind) (values_in kind (drop at ws)) ≡ true → all (fits kind) (values_in kind (drop (at + w) ws)) ≡ true
+  left-fit e = and_right (fits kind g) (all (fits kind) (values_in kind (drop (at + w) ws))) (both e)
 
-pub left-none : (kind : FileKind) (ws : List ℕ) (at : ℕ) → length ws ≤ at → recordLines kind (valuesIn kind (drop at ws)) ≡ []
-left-none kind ws at h = ap (recordLines kind) (groups-end (width_of kind) ws at h) ∙ lines_none kind
+pub left-none : (kind : FileKind) (ws : List ℕ) (at : ℕ) → length ws ≤ at → record_lines kind (values_in kind (drop at ws)) ≡ []
+left-none kind ws at h = ap (record_lines kind) (groups-end (width_of kind) ws at h) ∙ lines_none kind

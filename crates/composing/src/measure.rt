@@ -1,7 +1,7 @@
 // Records given as plain words: one group of words after the other, judged and measured before anything is written.
 ghost use Rattle.std.specs.Prelude.{◌≡◌, ◌≤◌, length, take, drop};
-ghost use Rattle.files.specs.Writing.{valuesIn};
-ghost use Rattle.composing.specs.Measuring.{measuredFrom};
+ghost use Rattle.files.specs.Writing.{values_in};
+ghost use Rattle.composing.specs.Measuring.{measured_from};
 
 use records::names::kind::FileKind;
 
@@ -25,7 +25,7 @@ pub(crate) fn group<'a>(words: &'a [u64], at: usize, w: usize) -> &'a [u64]
 }
 
 pub(crate) fn measure(kind: FileKind, words: &[u64]) -> Measured
-    ensures { result ≡ measuredFrom kind 0 0 (valuesIn kind words.now) }
+    ensures { result ≡ measured_from kind 0 0 (values_in kind words.now) }
 {
     let w = records::words::width(kind);
     let mut at: usize = 0;

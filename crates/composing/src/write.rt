@@ -4,8 +4,8 @@ ghost use Rattle.laws.specs.Lists.{all};
 ghost use Rattle.laws.specs.Overlay.{Laid};
 ghost use Rattle.records.specs.names.Written.{Wrote};
 ghost use Rattle.records.specs.Record.{fits};
-ghost use Rattle.files.specs.Writing.{valuesIn, heldAll, heldOne, answerTo, fileOf, fileAnswer};
-ghost use Rattle.composing.specs.Measuring.{recordLines, closedText};
+ghost use Rattle.files.specs.Writing.{values_in, held_all, held_one, answer_to, file_of, file_answer};
+ghost use Rattle.composing.specs.Measuring.{record_lines, closed_text};
 
 use crate::measure::Measured;
 use records::names::kind::FileKind;
@@ -13,8 +13,8 @@ use records::names::written::Written;
 
 // Each record with its CR, from the start of a lent buffer on; what follows them is the answer.
 fn put_records(kind: FileKind, words: &[u64], out: &mut [u8]) -> usize
-    requires { (all (fits kind) (valuesIn kind words.now) ≡ true) × (length (recordLines kind (valuesIn kind words.now)) ≤ length out.old) }
-    ensures { Laid out.old 0 (recordLines kind (valuesIn kind words.now)) out.new result }
+    requires { (all (fits kind) (values_in kind words.now) ≡ true) × (length (record_lines kind (values_in kind words.now)) ≤ length out.old) }
+    ensures { Laid out.old 0 (record_lines kind (values_in kind words.now)) out.new result }
 {
     let w = records::words::width(kind);
     let mut at: usize = 0;
@@ -30,8 +30,8 @@ fn put_records(kind: FileKind, words: &[u64], out: &mut [u8]) -> usize
 
 // The records and the closing record of `lines` lines, from the start of a lent buffer on; what follows them is the answer.
 fn put_closed(kind: FileKind, words: &[u64], lines: u64, out: &mut [u8]) -> usize
-    requires { (all (fits kind) (valuesIn kind words.now) ≡ true) × ((lines ≡ length (valuesIn kind words.now) + 1) × (length (closedText kind (valuesIn kind words.now)) ≤ length out.old)) }
-    ensures { Laid out.old 0 (closedText kind (valuesIn kind words.now)) out.new result }
+    requires { (all (fits kind) (values_in kind words.now) ≡ true) × ((lines ≡ length (values_in kind words.now) + 1) × (length (closed_text kind (values_in kind words.now)) ≤ length out.old)) }
+    ensures { Laid out.old 0 (closed_text kind (values_in kind words.now)) out.new result }
 {
     let at = put_records(kind, words, out);
     let end = records::closing::put(out, at, lines);
@@ -40,7 +40,7 @@ fn put_closed(kind: FileKind, words: &[u64], lines: u64, out: &mut [u8]) -> usiz
 
 // A file with a closing record.
 fn write_closed(kind: FileKind, words: &[u64], out: &mut [u8]) -> Written
-    ensures { Wrote (answerTo (heldAll kind (valuesIn kind words.now)) (closedText kind (valuesIn kind words.now)) (length out.old)) (closedText kind (valuesIn kind words.now)) out.old out.new result }
+    ensures { Wrote (answer_to (held_all kind (values_in kind words.now)) (closed_text kind (values_in kind words.now)) (length out.old)) (closed_text kind (values_in kind words.now)) out.old out.new result }
 {
     let m = crate::measure::measure(kind, words);
     match m {
@@ -60,7 +60,7 @@ fn write_closed(kind: FileKind, words: &[u64], out: &mut [u8]) -> Written
 
 // A file of one record, without a closing record.
 fn write_one(kind: FileKind, words: &[u64], out: &mut [u8]) -> Written
-    ensures { Wrote (answerTo (heldOne kind (valuesIn kind words.now)) (recordLines kind (valuesIn kind words.now)) (length out.old)) (recordLines kind (valuesIn kind words.now)) out.old out.new result }
+    ensures { Wrote (answer_to (held_one kind (values_in kind words.now)) (record_lines kind (values_in kind words.now)) (length out.old)) (record_lines kind (values_in kind words.now)) out.old out.new result }
 {
     let w = records::words::width(kind);
     let values = crate::measure::group(words, 0, w);
@@ -79,7 +79,7 @@ fn write_one(kind: FileKind, words: &[u64], out: &mut [u8]) -> Written
 // A file of a kind, from the words of its records. 4 and the place of the first record whose values its layout can't hold, then 41
 // where the buffer is too short: on both the buffer keeps its bytes. Bytes behind a written file stay.
 pub fn write(kind: FileKind, words: &[u64], out: &mut [u8]) -> Written
-    ensures { Wrote (fileAnswer kind words.now (length out.old)) (fileOf kind words.now) out.old out.new result }
+    ensures { Wrote (file_answer kind words.now (length out.old)) (file_of kind words.now) out.old out.new result }
 {
     if kind.has_closing() {
         return write_closed(kind, words, out);

@@ -9,7 +9,7 @@ use lib.Seq.{length-take-le, set_out}
 use Rattle.laws.specs.Overlay.{overlay}
 use Rattle.laws.proofs.Overlay.{overlay-append, overlay-none, length-overlay}
 use Rattle.laws.proofs.Tests.{le-or-lt}
-use Rattle.desk.specs.Desk.{Copied, pathOf}
+use Rattle.desk.specs.Desk.{Copied, path_of}
 
 -- what would begin behind the end is not written
 pub overlay-out : (xs : List ℕ) (at : ℕ) (ys : List ℕ) → length xs ≤ at → overlay xs at ys ≡ xs
@@ -39,10 +39,10 @@ copied-then {o} {a} {b} {o₁} {o₂} {at} {m} {n} p q =
     }
 
 -- ---- a path: with no folder nothing is written, else the folder, a slash and the name, one behind the other
-pub path-none : (f n o : List ℕ) (r : ℕ) → length f ≡ 0 → r ≡ min 0 (length o) → Copied o 0 (pathOf f n) o r
+pub path-none : (f n o : List ℕ) (r : ℕ) → length f ≡ 0 → r ≡ min 0 (length o) → Copied o 0 (path_of f n) o r
 path-none [] n o r e h = record { bytes = overlay-none o 0; ends = h }
 path-none (b ∷ f) n o r e h = absurd (omega arith)
 
-pub path-copied : (f : List ℕ) {n o o₁ o₂ o₃ : List ℕ} {a b r : ℕ} → (length f ≡ 0 → ⊥) → Copied o 0 f o₁ a → Copied o₁ a (47 ∷ []) o₂ b → Copied o₂ b n o₃ r → Copied o 0 (pathOf f n) o₃ r
+pub path-copied : (f : List ℕ) {n o o₁ o₂ o₃ : List ℕ} {a b r : ℕ} → (length f ≡ 0 → ⊥) → Copied o 0 f o₁ a → Copied o₁ a (47 ∷ []) o₂ b → Copied o₂ b n o₃ r → Copied o 0 (path_of f n) o₃ r
 path-copied [] some p q s = absurd (some refl)
 path-copied (x ∷ f) some p q s = copied-then p (copied-then q s)

@@ -17,9 +17,9 @@ pub record Copied (before : List ℕ) (at : ℕ) (src after : List ℕ) (next : 
   pub ends : next ≡ min (at + length src) (length before)
 
 -- FOLDER/NAME; with no folder it leads nowhere
-abbrev pub pathOf : List ℕ → List ℕ → List ℕ
-pathOf [] name = []
-pathOf (b ∷ folder) name = (b ∷ folder) ++ (47 ∷ name)
+abbrev pub path_of : List ℕ → List ℕ → List ℕ
+path_of [] name = []
+path_of (b ∷ folder) name = (b ∷ folder) ++ (47 ∷ name)
 
 -- as many bytes as a file is said to have stand at the start of the buffer
 abbrev pub Within : Whole → List ℕ → Type 0
@@ -28,5 +28,5 @@ Within TooLong buf = Unit
 Within Failed buf = Unit
 
 -- a page on which nothing stands
-abbrev pub emptyPage : ℤ → Page
-emptyPage fd = record { fd = fd; used = 0; failed = false }
+abbrev pub empty_page : ℤ → Page
+empty_page fd = record { fd = fd; used = 0; failed = false }

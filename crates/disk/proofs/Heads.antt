@@ -7,8 +7,8 @@ use Rattle.laws.specs.Overlay.{overlay}
 use Rattle.laws.specs.Lists.{same_lists}
 use Rattle.laws.proofs.Tests.{le-or-lt}
 use Rattle.disk.specs.declared.sum.Sum.{Sum}
-use Rattle.disk.specs.Sums.{sumOver, noSum}
-use Rattle.disk.specs.Head.{hex, title, versionOf, headText, headOver, isFirst, listLine}
+use Rattle.disk.specs.Sums.{sum_over, no_sum}
+use Rattle.disk.specs.Head.{hex, title, version_of, head_text, head_over, is_first, list_line}
 use Rattle.disk.proofs.Sums.{sum-append}
 
 -- the first n of a list, or all where there are fewer
@@ -19,17 +19,17 @@ take-least n l =
     (λ (h : length l < n). take_all (min n (length l)) l (omega arith) ∙ sym (take_all n l (omega arith)))
     (le-or-lt n (length l))
 
-pub first-name : (head : List ℕ) (n : ℕ) (r : Bool) → n ≡ min 18 (length head) → r ≡ same_lists eqb (take n head) (title ++ (49 ∷ 10 ∷ [])) → r ≡ isFirst head
+pub first-name : (head : List ℕ) (n : ℕ) (r : Bool) → n ≡ min 18 (length head) → r ≡ same_lists eqb (take n head) (title ++ (49 ∷ 10 ∷ [])) → r ≡ is_first head
 first-name head n r e f = f ∙ ap (λ (k : ℕ). same_lists eqb (take k head) (title ++ (49 ∷ 10 ∷ []))) e ∙ ap (λ (l : List ℕ). same_lists eqb l (title ++ (49 ∷ 10 ∷ []))) (take-least 18 head)
 
-sum_then : (s u : Sum) (xs ys : List ℕ) → u ≡ sumOver s xs → sumOver s (xs ++ ys) ≡ sumOver u ys
-sum_then s u xs ys e = sum-append s xs ys ∙ ap (λ (w : Sum). sumOver w ys) (sym e)
+sum_then : (s u : Sum) (xs ys : List ℕ) → u ≡ sum_over s xs → sum_over s (xs ++ ys) ≡ sum_over u ys
+sum_then s u xs ys e = sum-append s xs ys ∙ ap (λ (w : Sum). sum_over w ys) (sym e)
 
-pub head-sums : (line t f r c head : List ℕ) (s₁ s₂ s₃ s₄ s₅ : Sum) (v : ℕ) → s₁ ≡ sumOver noSum line → s₂ ≡ sumOver s₁ t → s₃ ≡ sumOver s₂ f → s₄ ≡ sumOver s₃ r → s₅ ≡ sumOver s₄ c
-    → v ≡ versionOf line → head ≡ headText v s₅ → head ≡ headOver line (t ++ (f ++ (r ++ c)))
+pub head-sums : (line t f r c head : List ℕ) (s₁ s₂ s₃ s₄ s₅ : Sum) (v : ℕ) → s₁ ≡ sum_over no_sum line → s₂ ≡ sum_over s₁ t → s₃ ≡ sum_over s₂ f → s₄ ≡ sum_over s₃ r → s₅ ≡ sum_over s₄ c
+    → v ≡ version_of line → head ≡ head_text v s₅ → head ≡ head_over line (t ++ (f ++ (r ++ c)))
 head-sums line t f r c head s₁ s₂ s₃ s₄ s₅ v e₁ e₂ e₃ e₄ e₅ ev e =
-    let all : sumOver noSum (line ++ (t ++ (f ++ (r ++ c)))) ≡ s₅ = sum_then noSum s₁ line _ e₁ ∙ sum_then s₁ s₂ t _ e₂ ∙ sum_then s₂ s₃ f _ e₃ ∙ sum_then s₃ s₄ r c e₄ ∙ sym e₅ in
-    e ∙ ap (λ (w : ℕ). headText w s₅) ev ∙ ap (headText (versionOf line)) (sym all)
+    let all : sum_over no_sum (line ++ (t ++ (f ++ (r ++ c)))) ≡ s₅ = sum_then no_sum s₁ line _ e₁ ∙ sum_then s₁ s₂ t _ e₂ ∙ sum_then s₂ s₃ f _ e₃ ∙ sum_then s₃ s₄ r c e₄ ∙ sym e₅ in
+    e ∙ ap (λ (w : ℕ). head_text w s₅) ev ∙ ap (head_text (version_of line)) (sym all)
 
 -- ---- sixteen hexadecimal digits hold any word
 hex-count : (n k : ℕ) → n < 2 ^ 64 → IsDigitCount 16 16 n k → k ≡ 16
@@ -48,14 +48,14 @@ unfolding hex
 hex-laid out at d k n after small f t e = e ∙ ap (overlay out at) (t ∙ ap (λ (j : ℕ). last_digits 16 j n) (hex-count n k small f))
 
 -- ---- the head and the line of the list, as they are laid
-pub spelled_is : (v : ℕ) (s : Sum) (h₁ h₂ h₃ : List ℕ) → h₁ ≡ overlay (replicate 51 10) 0 title → h₂ ≡ overlay (set h₁ 16 v) 18 (hex s.a) → h₃ ≡ overlay h₂ 34 (hex s.b) → h₃ ≡ headText v s
-unfolding hex overlay headText
+pub spelled_is : (v : ℕ) (s : Sum) (h₁ h₂ h₃ : List ℕ) → h₁ ≡ overlay (replicate 51 10) 0 title → h₂ ≡ overlay (set h₁ 16 v) 18 (hex s.a) → h₃ ≡ overlay h₂ 34 (hex s.b) → h₃ ≡ head_text v s
+unfolding hex overlay head_text
 spelled_is v s h₁ h₂ h₃ e₁ e₂ e₃ =
     e₃ ∙ ap (λ (l : List ℕ). overlay l 34 (hex s.b)) (e₂ ∙ ap (λ (l : List ℕ). overlay (set l 16 v) 18 (hex s.a)) e₁)
 
 pub line-is : (x : ℕ) (l₁ l₂ l₃ days : List ℕ) → l₁ ≡ overlay (replicate 31 10) 0 (104 ∷ 111 ∷ 108 ∷ 105 ∷ 100 ∷ 97 ∷ 121 ∷ 115 ∷ 32 ∷ 48 ∷ 48 ∷ 48 ∷ 48 ∷ 32 ∷ []) → l₂ ≡ overlay l₁ 9 (decimals 4 469) → l₃ ≡ overlay l₂ 14 (hex x)
-    → length days ≡ 469 → x ≡ (sumOver noSum days).b → l₃ ≡ listLine days
-unfolding hex overlay decimals listLine
+    → length days ≡ 469 → x ≡ (sum_over no_sum days).b → l₃ ≡ list_line days
+unfolding hex overlay decimals list_line
 line-is x l₁ l₂ l₃ days e₁ e₂ e₃ n e =
     e₃ ∙ ap (λ (l : List ℕ). overlay l 14 (hex x)) (e₂ ∙ ap (λ (l : List ℕ). overlay l 9 (decimals 4 469)) e₁)
     ∙ ap (λ (k : ℕ). 104 ∷ 111 ∷ 108 ∷ 105 ∷ 100 ∷ 97 ∷ 121 ∷ 115 ∷ 32 ∷ (decimals 4 k ++ (32 ∷ (hex x ++ (10 ∷ []))))) (sym n)

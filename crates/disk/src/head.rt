@@ -2,7 +2,7 @@
 // the table, the files and the journals. The entries are not summed: whether they are what the journals say is what the figure tells.
 ghost use Rattle.std.specs.Prelude.{◌≡◌, ◌++◌, if◌then◌else◌, nat_eq};
 ghost use Rattle.laws.specs.Overlay.{overlay};
-ghost use Rattle.disk.specs.Head.{hex, isFirst, headText, headOver};
+ghost use Rattle.disk.specs.Head.{hex, is_first, head_text, head_over};
 
 use crate::sum::{Sum, summed};
 use crate::{CORRECTIONS, FILES, REGULAR, TABLE};
@@ -13,7 +13,7 @@ pub const HEAD: usize = 51;
 
 // Whether a head is of version 1, which has no line of the list: its entries were worked out with the list of 468 days.
 pub fn is_first(head: &[u8]) -> bool
-    ensures { result ≡ isFirst head.now }
+    ensures { result ≡ is_first head.now }
 {
     let n = within(18, head);
     same(&head[..n], b"dagskimra store 1\n")
@@ -36,7 +36,7 @@ pub(crate) fn put_hex(out: &mut [u8], at: usize, n: u64)
 }
 
 fn spelled(version: u8, sum: Sum) -> [u8; HEAD]
-    ensures { result ≡ headText version sum }
+    ensures { result ≡ head_text version sum }
 {
     let mut head = [b'\n'; HEAD];
     copy_in(&mut head, 0, b"dagskimra store ");
@@ -54,7 +54,7 @@ pub fn head_of(
     regular: &[u8; REGULAR],
     corrections: &[u8; CORRECTIONS],
 ) -> [u8; HEAD]
-    ensures { result ≡ headOver line.now (table.now ++ (files.now ++ (regular.now ++ corrections.now))) }
+    ensures { result ≡ head_over line.now (table.now ++ (files.now ++ (regular.now ++ corrections.now))) }
 {
     let mut sum = Sum { a: 1, b: 0 };
     sum = summed(sum, line);

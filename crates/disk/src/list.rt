@@ -2,8 +2,8 @@
 // hexadecimal. It is made from the list itself, so that whoever changes the list has no number to raise by hand.
 ghost use Rattle.std.specs.Prelude.{◌≡◌};
 ghost use Rattle.calendar.specs.Holidays.{holidays};
-ghost use Rattle.disk.specs.Sums.{sumOver, noSum};
-ghost use Rattle.disk.specs.Head.{listLine};
+ghost use Rattle.disk.specs.Sums.{sum_over, no_sum};
+ghost use Rattle.disk.specs.Head.{list_line};
 
 use crate::head::put_hex;
 use crate::sum::days_summed;
@@ -15,7 +15,7 @@ pub const LINE: usize = 31;
 
 // The sum over this program's list.
 fn sum_of_list() -> u64
-    ensures { result ≡ (sumOver noSum holidays).b }
+    ensures { result ≡ (sum_over no_sum holidays).b }
 {
     let list = HOLIDAYS;
     let sum = days_summed(&list);
@@ -24,7 +24,7 @@ fn sum_of_list() -> u64
 
 // The line of this program's list.
 pub fn line() -> [u8; LINE]
-    ensures { result ≡ listLine holidays }
+    ensures { result ≡ list_line holidays }
 {
     let mut line = [b'\n'; LINE];
     copy_in(&mut line, 0, b"holidays 0000 ");

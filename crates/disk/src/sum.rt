@@ -1,6 +1,6 @@
 // Two running sums over bytes: of the bytes, and of the sums so far, so that two bytes that change places are seen too.
 ghost use Rattle.std.specs.Prelude.{◌≡◌};
-ghost use Rattle.disk.specs.Sums.{sumOver, noSum};
+ghost use Rattle.disk.specs.Sums.{sum_over, no_sum};
 
 #[derive(Drop)]
 pub struct Sum {
@@ -15,7 +15,7 @@ fn wide(x: u8) -> u64
 }
 
 pub fn summed(sum: Sum, bytes: &[u8]) -> Sum
-    ensures { result ≡ sumOver sum bytes.now }
+    ensures { result ≡ sum_over sum bytes.now }
 {
     let mut a = sum.a;
     let mut b = sum.b;
@@ -36,7 +36,7 @@ fn wide_day(x: u16) -> u64
 
 // The same over day numbers, from 1 and 0 on.
 pub fn days_summed(days: &[u16]) -> Sum
-    ensures { result ≡ sumOver noSum days.now }
+    ensures { result ≡ sum_over no_sum days.now }
 {
     let mut a: u64 = 1;
     let mut b: u64 = 0;

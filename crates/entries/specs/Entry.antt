@@ -9,22 +9,22 @@ use Rattle.entries.specs.declared.entry.Listed.{Listed}
 use Rattle.entries.specs.declared.entry.Listed.TheVariants.{With, Missing}
 
 -- how many places an entry has for open reports
-abbrev pub placeCount : ℕ
-placeCount = 8
+abbrev pub place_count : ℕ
+place_count = 8
 
-abbrev pub freePlace : Place
-freePlace = record { taken = false; report = record { kind = P; date = record { 0 = 0 }; losing = record { 0 = 0 }; gaining = record { 0 = 0 } }; day = record { 0 = 0 }; at = 0 }
+abbrev pub free_place : Place
+free_place = record { taken = false; report = record { kind = P; date = record { 0 = 0 }; losing = record { 0 = 0 }; gaining = record { 0 = 0 } }; day = record { 0 = 0 }; at = 0 }
 
 -- the first entry of a line: holder the owner, no confirmed date, all places free
-abbrev pub firstEntry : Line → Entry
-firstEntry line = record { holder = line.owner; last = Never; places = replicate placeCount freePlace }
+abbrev pub first_entry : Line → Entry
+first_entry line = record { holder = line.owner; last = Never; places = replicate place_count free_place }
 
 -- the number is not in the table
-abbrev pub isMissing : Listed → Bool
-isMissing (With line) = false
-isMissing Missing = true
+abbrev pub is_missing : Listed → Bool
+is_missing (With line) = false
+is_missing Missing = true
 
 -- the number's line; where it has none, one that no rule comes to ask for
-abbrev pub lineIn : Listed → Line
-lineIn (With line) = line
-lineIn Missing = record { owner = record { 0 = 0 }; setup = record { 0 = 0 } }
+abbrev pub line_in : Listed → Line
+line_in (With line) = line
+line_in Missing = record { owner = record { 0 = 0 }; setup = record { 0 = 0 } }

@@ -15,31 +15,31 @@ by_kind P p l z = p
 by_kind L p l z = l
 by_kind Z p l z = z
 
-abbrev pub kindNo : Kind → ℕ
-kindNo k = by_kind k 0 1 2
+abbrev pub kind_no : Kind → ℕ
+kind_no k = by_kind k 0 1 2
 
-abbrev pub sameKind : Kind → Kind → Bool
-sameKind j k = eqb (kindNo j) (kindNo k)
+abbrev pub same_kind : Kind → Kind → Bool
+same_kind j k = eqb (kind_no j) (kind_no k)
 
-abbrev pub sameCode : Code → Code → Bool
-sameCode a b = eqb a.0 b.0
+abbrev pub same_code : Code → Code → Bool
+same_code a b = eqb a.0 b.0
 
-abbrev pub sameDay : CalendarDays → CalendarDays → Bool
-sameDay a b = eqb a.0 b.0
+abbrev pub same_day : CalendarDays → CalendarDays → Bool
+same_day a b = eqb a.0 b.0
 
 -- a gaining network that is left out is the owner: the number goes back
-abbrev pub gainingOf : Code → Gaining → Code
-gainingOf owner (To c) = c
-gainingOf owner Owner = owner
+abbrev pub gaining_of : Code → Gaining → Code
+gaining_of owner (To c) = c
+gaining_of owner Owner = owner
 
 -- the report that is meant where the number has this owner
-abbrev pub meantBy : Code → Published → Report
-meantBy owner p = record { kind = p.kind; date = p.date; losing = p.losing; gaining = gainingOf owner p.gaining }
+abbrev pub meant_by : Code → Published → Report
+meant_by owner p = record { kind = p.kind; date = p.date; losing = p.losing; gaining = gaining_of owner p.gaining }
 
 -- the network that publishes a report: the gaining one a P, the losing one an L or a Z
-abbrev pub publisherOf : Report → Code
-publisherOf r = by_kind r.kind r.gaining r.losing r.losing
+abbrev pub publisher_of : Report → Code
+publisher_of r = by_kind r.kind r.gaining r.losing r.losing
 
 -- the same date, losing and gaining network; the number is the entry's
 abbrev pub matches : Report → Report → Bool
-matches q r = sameDay q.date r.date && sameCode q.losing r.losing && sameCode q.gaining r.gaining
+matches q r = same_day q.date r.date && same_code q.losing r.losing && same_code q.gaining r.gaining

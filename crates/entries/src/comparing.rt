@@ -1,13 +1,13 @@
 // Whether two entries are equal.
 ghost use Rattle.std.specs.Prelude.{◌≡◌};
 ghost use Rattle.laws.specs.Lists.{same_lists};
-ghost use Rattle.entries.specs.comparing.Same.{samePlace, sameLast, sameEntry};
+ghost use Rattle.entries.specs.comparing.Same.{same_place, same_last, same_entry};
 
 use crate::entry::{Entry, Last, PLACES, Place};
 use crate::report;
 
 pub fn same_place(p: Place, q: Place) -> bool
-    ensures { result ≡ samePlace p q }
+    ensures { result ≡ same_place p q }
 {
     let a = p.report;
     let b = q.report;
@@ -21,7 +21,7 @@ pub fn same_place(p: Place, q: Place) -> bool
 }
 
 pub fn same_places(ps: [Place; PLACES], qs: [Place; PLACES]) -> bool
-    ensures { result ≡ same_lists samePlace ps qs }
+    ensures { result ≡ same_lists same_place ps qs }
 {
     let mut i = 0;
     while i < PLACES {
@@ -34,7 +34,7 @@ pub fn same_places(ps: [Place; PLACES], qs: [Place; PLACES]) -> bool
 }
 
 pub fn same_last(l: Last, m: Last) -> bool
-    ensures { result ≡ sameLast l m }
+    ensures { result ≡ same_last l m }
 {
     match l {
         Last::Never => match m {
@@ -49,7 +49,7 @@ pub fn same_last(l: Last, m: Last) -> bool
 }
 
 pub fn same_entry(e: Entry, f: Entry) -> bool
-    ensures { result ≡ sameEntry e f }
+    ensures { result ≡ same_entry e f }
 {
     let ps = e.places;
     let qs = f.places;

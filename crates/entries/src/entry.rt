@@ -1,6 +1,6 @@
 // What is worked out for a number: its holder, the last confirmed porting date, and the places for open reports.
 ghost use Rattle.std.specs.Prelude.{◌≡◌};
-ghost use Rattle.entries.specs.Entry.{freePlace, firstEntry, isMissing, lineIn};
+ghost use Rattle.entries.specs.Entry.{free_place, first_entry, is_missing, line_in};
 
 use crate::report::Report;
 use calendar::dates::CalendarDays;
@@ -11,7 +11,7 @@ use fields::kind::Kind;
 pub const PLACES: usize = 8;
 
 // A place: an open report with its publication day and its place in its file. A free place has `taken` false and holds what
-// `freePlace` in specs/ says, so that two entries with the same open reports in the same places are equal.
+// `free_place` in specs/ says, so that two entries with the same open reports in the same places are equal.
 #[derive(Drop)]
 pub struct Place {
     pub taken: bool,
@@ -50,7 +50,7 @@ pub enum Listed {
 
 // A place that holds nothing.
 pub fn free_place() -> Place
-    ensures { result ≡ freePlace }
+    ensures { result ≡ free_place }
 {
     let none = Code(0);
     let day = CalendarDays(0);
@@ -70,7 +70,7 @@ pub fn free_place() -> Place
 
 // The first entry of a line: the owner holds the number, nothing is confirmed, all places are free.
 pub fn first(line: Line) -> Entry
-    ensures { result ≡ firstEntry line }
+    ensures { result ≡ first_entry line }
 {
     let owner = line.owner;
     let p = free_place();
@@ -84,7 +84,7 @@ pub fn first(line: Line) -> Entry
 
 // The number is not in the table.
 pub fn is_missing(n: Listed) -> bool
-    ensures { result ≡ isMissing n }
+    ensures { result ≡ is_missing n }
 {
     match n {
         Listed::With(_) => false,
@@ -94,7 +94,7 @@ pub fn is_missing(n: Listed) -> bool
 
 // The number's line; where it has none, one that no rule comes to ask for.
 pub fn line_in(n: Listed) -> Line
-    ensures { result ≡ lineIn n }
+    ensures { result ≡ line_in n }
 {
     match n {
         Listed::With(line) => line,

@@ -1,7 +1,7 @@
 // The places for open reports: searched, filled and freed.
 ghost use Rattle.std.specs.Prelude.{◌≡◌, map, get_or, set};
-ghost use Rattle.entries.specs.Entry.{freePlace};
-ghost use Rattle.entries.specs.places.Places.{holdsOpen, lowestFree, place_of, isOpen, isFull, lapsed, keptIn};
+ghost use Rattle.entries.specs.Entry.{free_place};
+ghost use Rattle.entries.specs.places.Places.{holds_open, lowest_free, place_of, is_open, is_full, lapsed, kept_in};
 
 use crate::entry::{PLACES, Place};
 use crate::report::Report;
@@ -11,7 +11,7 @@ use fields::kind::Kind;
 
 // The place holds an open report of the kind k that matches r.
 pub fn holds(p: Place, k: Kind, r: Report) -> bool
-    ensures { result ≡ holdsOpen k r p }
+    ensures { result ≡ holds_open k r p }
 {
     let q = p.report;
     let j = q.kind;
@@ -20,7 +20,7 @@ pub fn holds(p: Place, k: Kind, r: Report) -> bool
 
 // The lowest free place, or the number of places.
 pub fn lowest_free(places: [Place; PLACES]) -> usize
-    ensures { result ≡ lowestFree places }
+    ensures { result ≡ lowest_free places }
 {
     let mut i = 0;
     while i < PLACES {
@@ -49,21 +49,21 @@ pub fn place_of(places: [Place; PLACES], k: Kind, r: Report) -> usize
 
 // A report of the kind k that matches r is open.
 pub fn is_open(places: [Place; PLACES], k: Kind, r: Report) -> bool
-    ensures { result ≡ isOpen k r places }
+    ensures { result ≡ is_open k r places }
 {
     place_of(places, k, r) < PLACES
 }
 
 // All places are taken.
 pub fn is_full(places: [Place; PLACES]) -> bool
-    ensures { result ≡ isFull places }
+    ensures { result ≡ is_full places }
 {
     !(lowest_free(places) < PLACES)
 }
 
 // The place at i, and a free one past the last.
 pub fn place_at(places: [Place; PLACES], i: usize) -> Place
-    ensures { result ≡ get_or places i freePlace }
+    ensures { result ≡ get_or places i free_place }
 {
     if i < PLACES {
         return places[i];
@@ -73,7 +73,7 @@ pub fn place_at(places: [Place; PLACES], i: usize) -> Place
 
 // The places with the one at i freed.
 pub fn freed(places: [Place; PLACES], i: usize) -> [Place; PLACES]
-    ensures { result ≡ set places i freePlace }
+    ensures { result ≡ set places i free_place }
 {
     let mut ps = places;
     if i < PLACES {
@@ -108,7 +108,7 @@ pub fn lapse_all(places: [Place; PLACES], d: CalendarDays) -> [Place; PLACES]
 
 // The report takes the lowest free place; where there is none the places stay.
 pub fn keep(places: [Place; PLACES], p: Place) -> [Place; PLACES]
-    ensures { result ≡ keptIn places p }
+    ensures { result ≡ kept_in places p }
 {
     let mut ps = places;
     let i = lowest_free(places);

@@ -1,6 +1,6 @@
 // A report on a number: as published, and as it is meant, with the gaining network known.
 ghost use Rattle.std.specs.Prelude.{◌≡◌};
-ghost use Rattle.entries.specs.Report.{kindNo, gainingOf, meantBy, publisherOf, matches};
+ghost use Rattle.entries.specs.Report.{kind_no, gaining_of, meant_by, publisher_of, matches};
 
 use calendar::dates::CalendarDays;
 use fields::code::Code;
@@ -27,7 +27,7 @@ pub struct Report {
 
 // A kind's number, by which two kinds are compared.
 pub fn kind_no(k: Kind) -> u8
-    ensures { result ≡ kindNo k }
+    ensures { result ≡ kind_no k }
 {
     match k {
         Kind::P => 0,
@@ -38,7 +38,7 @@ pub fn kind_no(k: Kind) -> u8
 
 // The gaining network; one that is left out is the owner.
 pub fn gaining(owner: Code, g: Gaining) -> Code
-    ensures { result ≡ gainingOf owner g }
+    ensures { result ≡ gaining_of owner g }
 {
     match g {
         Gaining::Code(c) => c,
@@ -48,7 +48,7 @@ pub fn gaining(owner: Code, g: Gaining) -> Code
 
 // The report that is meant where the number has this owner.
 pub fn meant(owner: Code, p: Published) -> Report
-    ensures { result ≡ meantBy owner p }
+    ensures { result ≡ meant_by owner p }
 {
     let kind = p.kind;
     let date = p.date;
@@ -65,7 +65,7 @@ pub fn meant(owner: Code, p: Published) -> Report
 
 // The network that has to publish a report.
 pub fn publisher(r: Report) -> Code
-    ensures { result ≡ publisherOf r }
+    ensures { result ≡ publisher_of r }
 {
     let k = r.kind;
     match k {

@@ -17,60 +17,60 @@ use Rattle.laws.proofs.Split.{joined-split, rest-piece}
 use Rattle.laws.proofs.Digits.{length_digits}
 use Rattle.fields.specs.declared.correction_code.CorrectionCode.{CorrectionCode}
 use Rattle.fields.specs.declared.correction_code.CorrectionCodeRead.{CorrectionCodeRead}
-use Rattle.fields.specs.Bytes.{fieldByte}
-use Rattle.fields.specs.Code.{maybeCodeText}
-use Rattle.fields.specs.CorrectionCode.{correctionCodeOf, correctionCodeText, isObjection}
-use Rattle.fields.specs.Date.{maybeDateText}
-use Rattle.fields.specs.Kind.{maybeKindText}
-use Rattle.fields.specs.Number.{digitsSize, digitsText, is_empty}
+use Rattle.fields.specs.Bytes.{field_byte}
+use Rattle.fields.specs.Code.{maybe_code_text}
+use Rattle.fields.specs.CorrectionCode.{correction_code_of, correction_code_text, is_objection}
+use Rattle.fields.specs.Date.{maybe_date_text}
+use Rattle.fields.specs.Kind.{maybe_kind_text}
+use Rattle.fields.specs.Number.{digits_size, digits_text, is_empty}
 use Rattle.fields.proofs.ByteLaws.{bytes-digits, bytes-maybe-code, bytes-maybe-date, bytes-maybe-kind}
 use Rattle.layout.specs.declared.part.Part.{Part}
 use Rattle.layout.specs.declared.part.PartRead.{PartRead}
 use Rattle.layout.specs.declared.correction.Correction.{Correction}
 use Rattle.layout.specs.declared.correction.CorrectionRead.{CorrectionRead}
-use Rattle.layout.specs.Part.{partText}
-use Rattle.layout.specs.Correction.{onHead, onPart, isSound, soundOf, correctionOf, correctionText}
+use Rattle.layout.specs.Part.{part_text}
+use Rattle.layout.specs.Correction.{on_head, on_part, is_sound, sound_of, correction_of, correction_text}
 use Rattle.layout.proofs.CorrectionTrip.{correction-back}
-use Rattle.records.specs.Record.{isCorrection}
+use Rattle.records.specs.Record.{is_correction}
 use Rattle.faults.specs.declared.cause.Cause.TheVariants.{Value}
 use Rattle.faults.specs.declared.cause.FieldCheck.{FieldCheck}
-use Rattle.faults.specs.Cut.{field_at, rest_at, codeWidth, code_in, markIn, number_in}
-use Rattle.faults.specs.Field.{isCharacter, isCorrectionCode, correctionCodeAlone, objects, objectsBy}
-use Rattle.faults.specs.Six.{isRight}
-use Rattle.faults.specs.Record.{isFaultless, commas, wholeFor, numberFor, uFault, kFault, correctionFrom, correctionFault}
+use Rattle.faults.specs.Cut.{field_at, rest_at, code_width, code_in, mark_in, number_in}
+use Rattle.faults.specs.Field.{is_character, is_correction_code, correction_code_alone, objects, objects_by}
+use Rattle.faults.specs.Six.{is_right}
+use Rattle.faults.specs.Record.{is_faultless, commas, whole_for, number_for, u_fault, k_fault, correction_from, correction_fault}
 use Rattle.faults.proofs.CutLaws.{fields-counted}
 use Rattle.faults.proofs.FieldExact.{needed, correction-code-right, correction-code-made, mark-right}
-use Rattle.faults.proofs.SixExact.{field-then, record-then, commas-then, isFilled, filledOr, six-exact, six-bytes, first-empty, whole-exact}
-use Rattle.faults.proofs.CorrectionLine.{Six, fieldsIn, partIn, line_of, headField, commaPieces, line-joined, Line, comma-pieces, line_read, line-fault}
+use Rattle.faults.proofs.SixExact.{field-then, record-then, commas-then, is_filled, filled_or, six-exact, six-bytes, first-empty, whole-exact}
+use Rattle.faults.proofs.CorrectionLine.{Six, fields_in, part_in, line_of, head_field, comma_pieces, line-joined, Line, comma-pieces, line_read, line-fault}
 
 -- ---- a line that is read
 module _ (p : Part) where
-  abbrev textsOf : Six
-  textsOf =
-      record { first = digitsText p.number.first; last = digitsText p.number.last; date = maybeDateText p.date; gaining = maybeCodeText p.gaining; losing = maybeCodeText p.losing; status = maybeKindText p.kind }
+  abbrev texts_of : Six
+  texts_of =
+      record { first = digits_text p.number.first; last = digits_text p.number.last; date = maybe_date_text p.date; gaining = maybe_code_text p.gaining; losing = maybe_code_text p.losing; status = maybe_kind_text p.kind }
 
-  texts-bytes : all (all fieldByte) (fieldsIn textsOf) ≡ true
+  texts-bytes : all (all field_byte) (fields_in texts_of) ≡ true
   unfolding all
   texts-bytes =
       rw (
-        bytes-digits (digitsSize p.number.first) p.number.first.0,
-        bytes-digits (digitsSize p.number.last) p.number.last.0,
+        bytes-digits (digits_size p.number.first) p.number.first.0,
+        bytes-digits (digits_size p.number.last) p.number.last.0,
         bytes-maybe-date p.date,
         bytes-maybe-code p.gaining,
         bytes-maybe-code p.losing,
         bytes-maybe-kind p.kind,
       )
 
-read-line : (s : List ℕ) → isCorrection (correctionOf s) ≡ true → Line s
-unfolding correctionText partText
-read-line s h = go (correctionOf s) refl h
+read-line : (s : List ℕ) → is_correction (correction_of s) ≡ true → Line s
+unfolding correction_text part_text
+read-line s h = go (correction_of s) refl h
   where
-    go : (r : CorrectionRead) → correctionOf s ≡ r → isCorrection r ≡ true → Line s
+    go : (r : CorrectionRead) → correction_of s ≡ r → is_correction r ≡ true → Line s
     go (CorrectionRead.Correction c) q e =
         record {
-          code = correctionCodeText c.code;
-          u = textsOf c.u;
-          k = textsOf c.k;
+          code = correction_code_text c.code;
+          u = texts_of c.u;
+          k = texts_of c.k;
           spelt = (correction-back s c q).0;
           four = length_digits 4 c.code.0;
           code-bytes = bytes-digits 4 c.code.0;
@@ -80,15 +80,15 @@ read-line s h = go (correctionOf s) refl h
     go CorrectionRead.Fault q e = never e
 
 -- ---- what no fault asks
-correction-tests : (code mark first s : List ℕ) → isFaultless (correctionFrom code mark first s)
-    ≡ (isRight (correctionCodeAlone code) && (same_lists eqb mark (85 ∷ 58 ∷ []) && (isFaultless (uFault code first s) && (same_lists eqb (take 2 (field_at s 6)) (75 ∷ 58 ∷ []) && (isFaultless (kFault code first s) && leb 11 (commas s))))))
-unfolding correctionFrom isCharacter
+correction-tests : (code mark first s : List ℕ) → is_faultless (correction_from code mark first s)
+    ≡ (is_right (correction_code_alone code) && (same_lists eqb mark (85 ∷ 58 ∷ []) && (is_faultless (u_fault code first s) && (same_lists eqb (take 2 (field_at s 6)) (75 ∷ 58 ∷ []) && (is_faultless (k_fault code first s) && leb 11 (commas s))))))
+unfolding correction_from is_character
 correction-tests code mark first s =
     simp (field-then, record-then, commas-then, mark-right mark 85 refl, mark-right (take 2 (field_at s 6)) 75 refl)
 
-code-needed : (f : List ℕ) → isRight (correctionCodeAlone f) ≡ isCorrectionCode (correctionCodeOf f)
-unfolding correctionCodeOf
-code-needed f = correction-code-right f ∙ needed (λ g. isCorrectionCode (correctionCodeOf g)) refl f
+code-needed : (f : List ℕ) → is_right (correction_code_alone f) ≡ is_correction_code (correction_code_of f)
+unfolding correction_code_of
+code-needed f = correction-code-right f ∙ needed (λ g. is_correction_code (correction_code_of g)) refl f
 
 -- ---- a line without a fault
 -- a list as what stands before two bytes, these, and what stands behind them
@@ -96,19 +96,19 @@ two-between : (w : ℕ) (f two : List ℕ) → take 2 (drop w f) ≡ two → tak
 two-between w f two e =
     ap (λ (t : List ℕ). take w f ++ (t ++ drop 2 (drop w f))) (sym e) ∙ ap (λ (t : List ℕ). take w f ++ t) (take-append-drop 2 (drop w f)) ∙ take-append-drop w f
 
-faultless-line : (s : List ℕ) → isFaultless (correctionFault s) ≡ true → Line s
-unfolding correctionFault uFault kFault rest_at table
+faultless-line : (s : List ℕ) → is_faultless (correction_fault s) ≡ true → Line s
+unfolding correction_fault u_fault k_fault rest_at table
 faultless-line s h =
     let h₁ = sym (correction-tests code mark first s) ∙ h in
-    let h₂ = and_right (isRight (correctionCodeAlone code)) _ h₁ in
+    let h₂ = and_right (is_right (correction_code_alone code)) _ h₁ in
     let h₃ = and_right (same_lists eqb mark (85 ∷ 58 ∷ [])) _ h₂ in
-    let h₄ = and_right (isFaultless (uFault code first s)) _ h₃ in
+    let h₄ = and_right (is_faultless (u_fault code first s)) _ h₃ in
     let h₅ = and_right (same_lists eqb (take 2 (field_at s 6)) (75 ∷ 58 ∷ [])) _ h₄ in
-    let made = correction-code-made code (sym (code-needed code) ∙ and_left (isRight (correctionCodeAlone code)) _ h₁) in
-    let u-made = six-bytes 3 (wholeFor code) (wholeFor code) first (field_at s 1) (field_at s 2) (field_at s 3) (field_at s 4) (field_at s 5) (and_left (isFaultless (uFault code first s)) _ h₃) in
-    let k_made = six-bytes 16 (numberFor code first) FieldCheck.Right (drop 2 (field_at s 6)) (field_at s 7) (field_at s 8) (field_at s 9) (field_at s 10) (rest_at s 11) (and_left (isFaultless (kFault code first s)) _ h₅) in
-    let most = fields-counted s 11 (all-at (all fieldByte) _ 5 [] k_made (omega arith)) in
-    let least = leb-true 11 (commas s) (and_right (isFaultless (kFault code first s)) _ h₅) in
+    let made = correction-code-made code (sym (code-needed code) ∙ and_left (is_right (correction_code_alone code)) _ h₁) in
+    let u-made = six-bytes 3 (whole_for code) (whole_for code) first (field_at s 1) (field_at s 2) (field_at s 3) (field_at s 4) (field_at s 5) (and_left (is_faultless (u_fault code first s)) _ h₃) in
+    let k_made = six-bytes 16 (number_for code first) FieldCheck.Right (drop 2 (field_at s 6)) (field_at s 7) (field_at s 8) (field_at s 9) (field_at s 10) (rest_at s 11) (and_left (is_faultless (k_fault code first s)) _ h₅) in
+    let most = fields-counted s 11 (all-at (all field_byte) _ 5 [] k_made (omega arith)) in
+    let least = leb-true 11 (commas s) (and_right (is_faultless (k_fault code first s)) _ h₅) in
     record {
       code = code;
       u = u;
@@ -124,7 +124,7 @@ faultless-line s h =
     code = code_in (field_at s 0)
 
     mark : List ℕ
-    mark = markIn (field_at s 0)
+    mark = mark_in (field_at s 0)
 
     first : List ℕ
     first = number_in (field_at s 0)
@@ -137,10 +137,10 @@ faultless-line s h =
 
     spelt : mark ≡ 85 ∷ 58 ∷ [] → take 2 (field_at s 6) ≡ 75 ∷ 58 ∷ [] → length (split 44 s) ≡ 12 → line_of code u k ≡ s
     spelt m₁ m₂ l =
-        let p₀ : headField code first ≡ field_at s 0 = two-between (codeWidth (field_at s 0)) (field_at s 0) (85 ∷ 58 ∷ []) m₁ in
+        let p₀ : head_field code first ≡ field_at s 0 = two-between (code_width (field_at s 0)) (field_at s 0) (85 ∷ 58 ∷ []) m₁ in
         let p₆ : 75 ∷ 58 ∷ drop 2 (field_at s 6) ≡ field_at s 6 = two-between 0 (field_at s 6) (75 ∷ 58 ∷ []) m₂ in
         let p₁₁ : rest_at s 11 ≡ field_at s 11 = rest-piece 44 (split 44 s) 11 l in
-        let pieces : commaPieces code u k ≡ split 44 s =
+        let pieces : comma_pieces code u k ≡ split 44 s =
         (λ i. p₀ i ∷ field_at s 1 ∷ field_at s 2 ∷ field_at s 3 ∷ field_at s 4 ∷ field_at s 5 ∷ p₆ i ∷ field_at s 7 ∷ field_at s 8 ∷ field_at s 9 ∷ field_at s 10 ∷ p₁₁ i ∷ [])
         ∙ table-self (split 44 s) [] 12 l in
         line-joined code u k ∙ ap (joined 44) pieces ∙ joined-split 44 s
@@ -149,64 +149,64 @@ faultless-line s h =
 abbrev numbered : Six → Bool
 numbered x = not (eqb (length x.first) 0)
 
-part-empty : (x : Six) (p : Part) → partIn x ≡ PartRead.Part p → is_empty p.number.first ≡ eqb (length x.first) 0
+part-empty : (x : Six) (p : Part) → part_in x ≡ PartRead.Part p → is_empty p.number.first ≡ eqb (length x.first) 0
 part-empty x p e = first-empty x.first x.last x.date x.gaining x.losing x.status p e
 
-whole-right : (code : List ℕ) → isRight (wholeFor code) ≡ not (objects code)
-unfolding wholeFor
+whole-right : (code : List ℕ) → is_right (whole_for code) ≡ not (objects code)
+unfolding whole_for
 whole-right code = go (objects code)
   where
-    go : (t : Bool) → isRight (cond t (FieldCheck.Wrong Value) FieldCheck.Right) ≡ not t
+    go : (t : Bool) → is_right (cond t (FieldCheck.Wrong Value) FieldCheck.Right) ≡ not t
     go true = refl
     go false = refl
 
-number-right : (code first : List ℕ) → isRight (numberFor code first) ≡ (objects code || not (eqb (length first) 0))
-unfolding numberFor
-number-right code first = chosen isRight FieldCheck.Right (FieldCheck.Wrong Value) refl refl (objects code || not (eqb (length first) 0))
+number-right : (code first : List ℕ) → is_right (number_for code first) ≡ (objects code || not (eqb (length first) 0))
+unfolding number_for
+number-right code first = chosen is_right FieldCheck.Right (FieldCheck.Wrong Value) refl refl (objects code || not (eqb (length first) 0))
 
 -- the rule of the code
-sound-exact : (c : CorrectionCode) (u k : Six) → isCorrection (onPart (partIn u) (λ p. onPart (partIn k) (λ q. soundOf c p q)))
-    ≡ (((not (isObjection c) || numbered u) && filledOr (not (isObjection c)) (partIn u)) && (((isObjection c || numbered u) || numbered k) && filledOr true (partIn k)))
-unfolding soundOf isSound
-sound-exact c u k = go (partIn u) (partIn k) refl refl
+sound-exact : (c : CorrectionCode) (u k : Six) → is_correction (on_part (part_in u) (λ p. on_part (part_in k) (λ q. sound_of c p q)))
+    ≡ (((not (is_objection c) || numbered u) && filled_or (not (is_objection c)) (part_in u)) && (((is_objection c || numbered u) || numbered k) && filled_or true (part_in k)))
+unfolding sound_of is_sound
+sound-exact c u k = go (part_in u) (part_in k) refl refl
   where
     rule : (o a b f : Bool) → cond o (a && f) (a || b) ≡ (((not o || a) && (not o || f)) && (((o || a) || b) && true))
     rule true a b f = sym (and-true (a && f))
     rule false a b f = sym (and-true (a || b))
 
-    go : (x y : PartRead) → partIn u ≡ x → partIn k ≡ y → isCorrection (onPart x (λ p. onPart y (λ q. soundOf c p q)))
-        ≡ (((not (isObjection c) || numbered u) && filledOr (not (isObjection c)) x) && (((isObjection c || numbered u) || numbered k) && filledOr true y))
+    go : (x y : PartRead) → part_in u ≡ x → part_in k ≡ y → is_correction (on_part x (λ p. on_part y (λ q. sound_of c p q)))
+        ≡ (((not (is_objection c) || numbered u) && filled_or (not (is_objection c)) x) && (((is_objection c || numbered u) || numbered k) && filled_or true y))
     go PartRead.Fault y e₁ e₂ = simp and-false
     go (PartRead.Part p) PartRead.Fault e₁ e₂ = simp and-false
     go (PartRead.Part p) (PartRead.Part q) e₁ e₂ =
-        chosen isCorrection (CorrectionRead.Correction (record { code = c; u = p; k = q })) CorrectionRead.Fault refl refl (isSound c p q)
-        ∙ rw (whole-exact p, part-empty u p e₁, part-empty k q e₂) (rule (isObjection c) (numbered u) (numbered k) (isFilled p))
+        chosen is_correction (CorrectionRead.Correction (record { code = c; u = p; k = q })) CorrectionRead.Fault refl refl (is_sound c p q)
+        ∙ rw (whole-exact p, part-empty u p e₁, part-empty k q e₂) (rule (is_objection c) (numbered u) (numbered k) (is_filled p))
 
 module _ {s : List ℕ} (l : Line s) where
-  fault-tests : isFaultless (correctionFault s)
-      ≡ (isCorrectionCode (correctionCodeOf l.code) && (((not (objects l.code) || numbered l.u) && filledOr (not (objects l.code)) (partIn l.u)) && (((objects l.code || numbered l.u) || numbered l.k) && filledOr true (partIn l.k))))
-  unfolding uFault kFault rest_at same_lists
+  fault-tests : is_faultless (correction_fault s)
+      ≡ (is_correction_code (correction_code_of l.code) && (((not (objects l.code) || numbered l.u) && filled_or (not (objects l.code)) (part_in l.u)) && (((objects l.code || numbered l.u) || numbered l.k) && filled_or true (part_in l.k))))
+  unfolding u_fault k_fault rest_at same_lists
   fault-tests =
-      ap isFaultless (line-fault l)
+      ap is_faultless (line-fault l)
       ∙ correction-tests l.code (85 ∷ 58 ∷ []) l.u.first s
       ∙ rw (
         comma-pieces l,
         code-needed l.code,
-        six-exact 3 (wholeFor l.code) (wholeFor l.code) l.u.first l.u.last l.u.date l.u.gaining l.u.losing l.u.status,
-        six-exact 16 (numberFor l.code l.u.first) FieldCheck.Right l.k.first l.k.last l.k.date l.k.gaining l.k.losing l.k.status,
+        six-exact 3 (whole_for l.code) (whole_for l.code) l.u.first l.u.last l.u.date l.u.gaining l.u.losing l.u.status,
+        six-exact 16 (number_for l.code l.u.first) FieldCheck.Right l.k.first l.k.last l.k.date l.k.gaining l.k.losing l.k.status,
         whole-right l.code,
         number-right l.code l.u.first,
-        and-true (((objects l.code || numbered l.u) || numbered l.k) && filledOr true (partIn l.k)),
+        and-true (((objects l.code || numbered l.u) || numbered l.k) && filled_or true (part_in l.k)),
       )
 
-  line-agree : isCorrection (correctionOf s) ≡ isFaultless (correctionFault s)
+  line-agree : is_correction (correction_of s) ≡ is_faultless (correction_fault s)
   unfolding objects
-  line-agree = ap isCorrection (line_read l) ∙ go (correctionCodeOf l.code) ∙ sym fault-tests
+  line-agree = ap is_correction (line_read l) ∙ go (correction_code_of l.code) ∙ sym fault-tests
     where
-      go : (r : CorrectionCodeRead) → isCorrection (onHead r (λ c. onPart (partIn l.u) (λ p. onPart (partIn l.k) (λ q. soundOf c p q))))
-          ≡ (isCorrectionCode r && (((not (objectsBy r) || numbered l.u) && filledOr (not (objectsBy r)) (partIn l.u)) && (((objectsBy r || numbered l.u) || numbered l.k) && filledOr true (partIn l.k))))
+      go : (r : CorrectionCodeRead) → is_correction (on_head r (λ c. on_part (part_in l.u) (λ p. on_part (part_in l.k) (λ q. sound_of c p q))))
+          ≡ (is_correction_code r && (((not (objects_by r) || numbered l.u) && filled_or (not (objects_by r)) (part_in l.u)) && (((objects_by r || numbered l.u) || numbered l.k) && filled_or true (part_in l.k))))
       go (CorrectionCodeRead.CorrectionCode c) = sound-exact c l.u l.k
       go CorrectionCodeRead.Fault = refl
 
-pub correction-exact : (s : List ℕ) → isCorrection (correctionOf s) ≡ isFaultless (correctionFault s)
-correction-exact s = agree-where (isCorrection (correctionOf s)) (isFaultless (correctionFault s)) (read-line s) (faultless-line s) line-agree
+pub correction-exact : (s : List ℕ) → is_correction (correction_of s) ≡ is_faultless (correction_fault s)
+correction-exact s = agree-where (is_correction (correction_of s)) (is_faultless (correction_fault s)) (read-line s) (faultless-line s) line-agree

@@ -14,7 +14,7 @@ use lib.Dec.{eqb, leb}
 use lib.ListN.{length}
 use borrow.Author.Tests.{eq-eqb, ne_eqb, eqb-true, leb-true, le-leb}
 use Rattle.laws.specs.Lists.{all, same_lists}
-use Rattle.laws.specs.Digits.{isDigit}
+use Rattle.laws.specs.Digits.{is_digit}
 use Rattle.laws.proofs.Tests.{and_left, and_right, and-true, never, either, chosen}
 use Rattle.laws.proofs.Tables.{all_weaker}
 use Rattle.laws.proofs.Digits.{length_digits}
@@ -26,12 +26,12 @@ use Rattle.fields.specs.declared.date.MaybeDate.{MaybeDate}
 use Rattle.fields.specs.declared.kind.KindRead.{KindRead}
 use Rattle.fields.specs.declared.kind.MaybeKind.{MaybeKind}
 use Rattle.fields.specs.declared.number.DigitsRead.{DigitsRead}
-use Rattle.fields.specs.Bytes.{fieldByte}
+use Rattle.fields.specs.Bytes.{field_byte}
 use Rattle.fields.specs.Code.{code_of}
-use Rattle.fields.specs.CorrectionCode.{correctionCodeOf}
-use Rattle.fields.specs.Date.{dateFieldOf}
+use Rattle.fields.specs.CorrectionCode.{correction_code_of}
+use Rattle.fields.specs.Date.{date_field_of}
 use Rattle.fields.specs.Kind.{kind_of}
-use Rattle.fields.specs.Number.{digitsFieldOf, digitsSize}
+use Rattle.fields.specs.Number.{digits_field_of, digits_size}
 use Rattle.fields.proofs.ByteLaws.{bytes-digits, bytes-code, bytes-maybe-date, bytes-maybe-kind}
 use Rattle.fields.proofs.CodeLaws.{code-back, length-code}
 use Rattle.fields.proofs.CorrectionCodeLaws.{correction-code-back}
@@ -42,12 +42,12 @@ use Rattle.faults.specs.declared.cause.Cause.{Cause}
 use Rattle.faults.specs.declared.cause.Cause.TheVariants.{Character, Length, Value}
 use Rattle.faults.specs.declared.cause.FieldCheck.{FieldCheck}
 use Rattle.faults.specs.declared.cause.FieldCheck.TheVariants.{Right, Wrong}
-use Rattle.faults.specs.Field.{isCharacter, isDigits, isDate, is_code, isKind, isCorrectionCode, alone, digitsAlone, dateAlone, codeAlone, kindAlone, correctionCodeAlone, markAlone, nothingAlone}
-use Rattle.faults.specs.Six.{isRight}
+use Rattle.faults.specs.Field.{is_character, is_digits, is_date, is_code, is_kind, is_correction_code, alone, digits_alone, date_alone, code_alone, kind_alone, correction_code_alone, mark_alone, nothing_alone}
+use Rattle.faults.specs.Six.{is_right}
 
 -- ---- the bytes of fields are characters of 4.4.1
-between-character : (b : ℕ) → leb 32 b ≡ true → leb b 126 ≡ true → isCharacter b ≡ true
-unfolding isCharacter
+between-character : (b : ℕ) → leb 32 b ≡ true → leb b 126 ≡ true → is_character b ≡ true
+unfolding is_character
 between-character b p q = go (eqb b 9) (eqb b 10) (eqb b 13)
   where
     go : (s t u : Bool) → (s || (t || (u || ((leb 32 b && leb b 126) || (leb 192 b && leb b 255))))) ≡ true
@@ -56,30 +56,30 @@ between-character b p q = go (eqb b 9) (eqb b 10) (eqb b 13)
     go false false true = refl
     go false false false = rw (p, q)
 
-byte-character : (b : ℕ) → fieldByte b ≡ true → isCharacter b ≡ true
-unfolding fieldByte isDigit
+byte-character : (b : ℕ) → field_byte b ≡ true → is_character b ≡ true
+unfolding field_byte is_digit
 byte-character b h =
     either (leb 48 b && leb b 57) _ h digit
     (λ h₁. either (eqb b 68) _ h₁ (letter 68 refl refl) (λ h₂. either (eqb b 80) _ h₂ (letter 80 refl refl) (λ h₃. either (eqb b 76) _ h₃ (letter 76 refl refl) (letter 90 refl refl))))
   where
-    letter : (n : ℕ) → leb 32 n ≡ true → leb n 126 ≡ true → eqb b n ≡ true → isCharacter b ≡ true
-    letter n p q e = ap isCharacter (eqb-true b n e) ∙ between-character n p q
+    letter : (n : ℕ) → leb 32 n ≡ true → leb n 126 ≡ true → eqb b n ≡ true → is_character b ≡ true
+    letter n p q e = ap is_character (eqb-true b n e) ∙ between-character n p q
 
-    digit : (leb 48 b && leb b 57) ≡ true → isCharacter b ≡ true
+    digit : (leb 48 b && leb b 57) ≡ true → is_character b ≡ true
     digit e =
         between-character b
         (le-leb 32 b (omega (arith, leb-true 48 b (and_left (leb 48 b) (leb b 57) e))))
         (le-leb b 126 (omega (arith, leb-true b 57 (and_right (leb 48 b) (leb b 57) e))))
 
 -- ---- any form: what is read is as long as the form asks, and made of characters
-pub alone-right : (empty : FieldCheck) (long good : Bool) (cause : Cause) (f : List ℕ) → (good ≡ true → (long ≡ true) × (all isCharacter f ≡ true))
-    → isRight (alone empty long good cause f) ≡ cond (eqb (length f) 0) (isRight empty) good
+pub alone-right : (empty : FieldCheck) (long good : Bool) (cause : Cause) (f : List ℕ) → (good ≡ true → (long ≡ true) × (all is_character f ≡ true))
+    → is_right (alone empty long good cause f) ≡ cond (eqb (length f) 0) (is_right empty) good
 unfolding alone all
 alone-right empty long good cause [] h = refl
 alone-right empty long true cause (b ∷ f) h = rw ((h refl).1, (h refl).0, ne_eqb (length (b ∷ f)) 0 (λ z. omega arith))
-alone-right empty long false cause (b ∷ f) h = rw (ne_eqb (length (b ∷ f)) 0 (λ z. omega arith)) (go (all isCharacter (b ∷ f)) long)
+alone-right empty long false cause (b ∷ f) h = rw (ne_eqb (length (b ∷ f)) 0 (λ z. omega arith)) (go (all is_character (b ∷ f)) long)
   where
-    go : (s t : Bool) → isRight (cond s (cond t (Wrong cause) (Wrong Length)) (Wrong Character)) ≡ false
+    go : (s t : Bool) → is_right (cond s (cond t (Wrong cause) (Wrong Length)) (Wrong Character)) ≡ false
     go true true = refl
     go true false = refl
     go false t = refl
@@ -90,112 +90,112 @@ needed good none [] = sym none
 needed good none (b ∷ f) = rw (ne_eqb (length (b ∷ f)) 0 (λ z. omega arith))
 
 -- a form whose values are made of the bytes of fields
-module _ (empty : FieldCheck) (long good : Bool) (cause : Cause) (f : List ℕ) (read : good ≡ true → (long ≡ true) × (all fieldByte f ≡ true)) where
-  pub field-right : isRight (alone empty long good cause f) ≡ cond (eqb (length f) 0) (isRight empty) good
-  field-right = alone-right empty long good cause f (λ g. ((read g).0, all_weaker fieldByte isCharacter byte-character f (read g).1))
+module _ (empty : FieldCheck) (long good : Bool) (cause : Cause) (f : List ℕ) (read : good ≡ true → (long ≡ true) × (all field_byte f ≡ true)) where
+  pub field-right : is_right (alone empty long good cause f) ≡ cond (eqb (length f) 0) (is_right empty) good
+  field-right = alone-right empty long good cause f (λ g. ((read g).0, all_weaker field_byte is_character byte-character f (read g).1))
 
-  pub field-bytes : isRight (alone empty long good cause f) ≡ true → all fieldByte f ≡ true
+  pub field-bytes : is_right (alone empty long good cause f) ≡ true → all field_byte f ≡ true
   field-bytes r = go f read (sym field-right ∙ r)
     where
-      go : (f : List ℕ) → (good ≡ true → (long ≡ true) × (all fieldByte f ≡ true)) → cond (eqb (length f) 0) (isRight empty) good ≡ true → all fieldByte f ≡ true
+      go : (f : List ℕ) → (good ≡ true → (long ≡ true) × (all field_byte f ≡ true)) → cond (eqb (length f) 0) (is_right empty) good ≡ true → all field_byte f ≡ true
       go [] h e = unfold all in refl
       go (b ∷ f) h e = (h (rw (ne_eqb (length (b ∷ f)) 0 (λ z. omega arith)) at e)).1
 
 -- ---- what each form's values are made of
 module _ (f : List ℕ) where
-  digits-made : isDigits (digitsFieldOf f) ≡ true → (leb (length f) 11 ≡ true) × (all fieldByte f ≡ true)
-  digits-made h = go (digitsFieldOf f) refl h
+  digits-made : is_digits (digits_field_of f) ≡ true → (leb (length f) 11 ≡ true) × (all field_byte f ≡ true)
+  digits-made h = go (digits_field_of f) refl h
     where
-      go : (r : DigitsRead) → digitsFieldOf f ≡ r → isDigits r ≡ true → (leb (length f) 11 ≡ true) × (all fieldByte f ≡ true)
+      go : (r : DigitsRead) → digits_field_of f ≡ r → is_digits r ≡ true → (leb (length f) 11 ≡ true) × (all field_byte f ≡ true)
       go (DigitsRead.Digits d) q e =
           let b = digits-back f d q in
-          (le-leb (length f) 11 (omega (arith, digits-counted f d q, fits-size d b.1)), rw b.0 at (bytes-digits (digitsSize d) d.0))
+          (le-leb (length f) 11 (omega (arith, digits-counted f d q, fits-size d b.1)), rw b.0 at (bytes-digits (digits_size d) d.0))
       go DigitsRead.Fault q e = never e
 
-  date-made : isDate (dateFieldOf f) ≡ true → (eqb (length f) 8 ≡ true) × (all fieldByte f ≡ true)
-  date-made h = go (dateFieldOf f) refl h
+  date-made : is_date (date_field_of f) ≡ true → (eqb (length f) 8 ≡ true) × (all field_byte f ≡ true)
+  date-made h = go (date_field_of f) refl h
     where
-      go : (r : DateRead) → dateFieldOf f ≡ r → isDate r ≡ true → (eqb (length f) 8 ≡ true) × (all fieldByte f ≡ true)
+      go : (r : DateRead) → date_field_of f ≡ r → is_date r ≡ true → (eqb (length f) 8 ≡ true) × (all field_byte f ≡ true)
       go (DateRead.Date d) q e =
           let b = date-field-back f d q in
           (eq-eqb (length f) 8 (rw b.0 at (length-date d)), rw b.0 at (bytes-maybe-date (MaybeDate.Date d)))
       go DateRead.Fault q e = never e
 
-  code-made : is_code (code_of f) ≡ true → (eqb (length f) 4 ≡ true) × (all fieldByte f ≡ true)
+  code-made : is_code (code_of f) ≡ true → (eqb (length f) 4 ≡ true) × (all field_byte f ≡ true)
   code-made h = go (code_of f) refl h
     where
-      go : (r : CodeRead) → code_of f ≡ r → is_code r ≡ true → (eqb (length f) 4 ≡ true) × (all fieldByte f ≡ true)
+      go : (r : CodeRead) → code_of f ≡ r → is_code r ≡ true → (eqb (length f) 4 ≡ true) × (all field_byte f ≡ true)
       go (CodeRead.Code c) q e =
           let b = code-back f c q in
-          (eq-eqb (length f) 4 (ap length (sym b.0) ∙ length-code c), ap (all fieldByte) (sym b.0) ∙ bytes-code c)
+          (eq-eqb (length f) 4 (ap length (sym b.0) ∙ length-code c), ap (all field_byte) (sym b.0) ∙ bytes-code c)
       go CodeRead.Fault q e = never e
 
-  kind-made : isKind (kind_of f) ≡ true → (eqb (length f) 1 ≡ true) × (all fieldByte f ≡ true)
+  kind-made : is_kind (kind_of f) ≡ true → (eqb (length f) 1 ≡ true) × (all field_byte f ≡ true)
   kind-made h = go (kind_of f) refl h
     where
-      go : (r : KindRead) → kind_of f ≡ r → isKind r ≡ true → (eqb (length f) 1 ≡ true) × (all fieldByte f ≡ true)
+      go : (r : KindRead) → kind_of f ≡ r → is_kind r ≡ true → (eqb (length f) 1 ≡ true) × (all field_byte f ≡ true)
       go (KindRead.Kind k) q e =
           let b = kind-back f k q in
-          (eq-eqb (length f) 1 (ap length (sym b) ∙ length-kind k), ap (all fieldByte) (sym b) ∙ bytes-maybe-kind (MaybeKind.Kind k))
+          (eq-eqb (length f) 1 (ap length (sym b) ∙ length-kind k), ap (all field_byte) (sym b) ∙ bytes-maybe-kind (MaybeKind.Kind k))
       go KindRead.Fault q e = never e
 
-  pub correction-code-made : isCorrectionCode (correctionCodeOf f) ≡ true → (eqb (length f) 4 ≡ true) × (all fieldByte f ≡ true)
-  correction-code-made h = go (correctionCodeOf f) refl h
+  pub correction-code-made : is_correction_code (correction_code_of f) ≡ true → (eqb (length f) 4 ≡ true) × (all field_byte f ≡ true)
+  correction-code-made h = go (correction_code_of f) refl h
     where
-      go : (r : CorrectionCodeRead) → correctionCodeOf f ≡ r → isCorrectionCode r ≡ true → (eqb (length f) 4 ≡ true) × (all fieldByte f ≡ true)
+      go : (r : CorrectionCodeRead) → correction_code_of f ≡ r → is_correction_code r ≡ true → (eqb (length f) 4 ≡ true) × (all field_byte f ≡ true)
       go (CorrectionCodeRead.CorrectionCode c) q e =
           let b = correction-code-back f c q in
-          (eq-eqb (length f) 4 (ap length (sym b.0) ∙ length_digits 4 c.0), ap (all fieldByte) (sym b.0) ∙ bytes-digits 4 c.0)
+          (eq-eqb (length f) 4 (ap length (sym b.0) ∙ length_digits 4 c.0), ap (all field_byte) (sym b.0) ∙ bytes-digits 4 c.0)
       go CorrectionCodeRead.Fault q e = never e
 
   -- ---- each form: right exactly if it is read, or is empty where it may be
   module _ (empty : FieldCheck) where
-    pub digits-right : isRight (digitsAlone empty f) ≡ cond (eqb (length f) 0) (isRight empty) (isDigits (digitsFieldOf f))
-    unfolding digitsAlone
+    pub digits-right : is_right (digits_alone empty f) ≡ cond (eqb (length f) 0) (is_right empty) (is_digits (digits_field_of f))
+    unfolding digits_alone
     digits-right = field-right empty _ _ Value f digits-made
 
-    pub digits-bytes : isRight (digitsAlone empty f) ≡ true → all fieldByte f ≡ true
-    unfolding digitsAlone
+    pub digits-bytes : is_right (digits_alone empty f) ≡ true → all field_byte f ≡ true
+    unfolding digits_alone
     digits-bytes = field-bytes empty _ _ Value f digits-made
 
-    pub date-right : isRight (dateAlone empty f) ≡ cond (eqb (length f) 0) (isRight empty) (isDate (dateFieldOf f))
-    unfolding dateAlone
+    pub date-right : is_right (date_alone empty f) ≡ cond (eqb (length f) 0) (is_right empty) (is_date (date_field_of f))
+    unfolding date_alone
     date-right = field-right empty _ _ Cause.Date f date-made
 
-    pub date-bytes : isRight (dateAlone empty f) ≡ true → all fieldByte f ≡ true
-    unfolding dateAlone
+    pub date-bytes : is_right (date_alone empty f) ≡ true → all field_byte f ≡ true
+    unfolding date_alone
     date-bytes = field-bytes empty _ _ Cause.Date f date-made
 
-    pub code-right : isRight (codeAlone empty f) ≡ cond (eqb (length f) 0) (isRight empty) (is_code (code_of f))
-    unfolding codeAlone
+    pub code-right : is_right (code_alone empty f) ≡ cond (eqb (length f) 0) (is_right empty) (is_code (code_of f))
+    unfolding code_alone
     code-right = field-right empty _ _ Cause.Code f code-made
 
-    pub code-bytes : isRight (codeAlone empty f) ≡ true → all fieldByte f ≡ true
-    unfolding codeAlone
+    pub code-bytes : is_right (code_alone empty f) ≡ true → all field_byte f ≡ true
+    unfolding code_alone
     code-bytes = field-bytes empty _ _ Cause.Code f code-made
 
-    pub kind-right : isRight (kindAlone empty f) ≡ cond (eqb (length f) 0) (isRight empty) (isKind (kind_of f))
-    unfolding kindAlone
+    pub kind-right : is_right (kind_alone empty f) ≡ cond (eqb (length f) 0) (is_right empty) (is_kind (kind_of f))
+    unfolding kind_alone
     kind-right = field-right empty _ _ Value f kind-made
 
-    pub kind-bytes : isRight (kindAlone empty f) ≡ true → all fieldByte f ≡ true
-    unfolding kindAlone
+    pub kind-bytes : is_right (kind_alone empty f) ≡ true → all field_byte f ≡ true
+    unfolding kind_alone
     kind-bytes = field-bytes empty _ _ Value f kind-made
 
-  pub correction-code-right : isRight (correctionCodeAlone f) ≡ cond (eqb (length f) 0) false (isCorrectionCode (correctionCodeOf f))
-  unfolding correctionCodeAlone
+  pub correction-code-right : is_right (correction_code_alone f) ≡ cond (eqb (length f) 0) false (is_correction_code (correction_code_of f))
+  unfolding correction_code_alone
   correction-code-right = field-right (Wrong Length) _ _ Value f correction-code-made
 
   -- a letter and a colon
-  pub mark-right : (letter : ℕ) → isCharacter letter ≡ true → isRight (markAlone letter f) ≡ same_lists eqb f (letter ∷ 58 ∷ [])
-  unfolding markAlone all
+  pub mark-right : (letter : ℕ) → is_character letter ≡ true → is_right (mark_alone letter f) ≡ same_lists eqb f (letter ∷ 58 ∷ [])
+  unfolding mark_alone all
   mark-right letter c = alone-right (Wrong Length) _ _ Value f made ∙ needed (λ g. same_lists eqb g (letter ∷ 58 ∷ [])) (unfold same_lists in refl) f
     where
-      made : same_lists eqb f (letter ∷ 58 ∷ []) ≡ true → (eqb (length f) 2 ≡ true) × (all isCharacter f ≡ true)
+      made : same_lists eqb f (letter ∷ 58 ∷ []) ≡ true → (eqb (length f) 2 ≡ true) × (all is_character f ≡ true)
       made e =
           let s = numbers-equal f (letter ∷ 58 ∷ []) e in
-          (ap (λ (g : List ℕ). eqb (length g) 2) s, ap (all isCharacter) s ∙ and-true _ _ c (and-true _ _ (between-character 58 refl refl) refl))
+          (ap (λ (g : List ℕ). eqb (length g) 2) s, ap (all is_character) s ∙ and-true _ _ c (and-true _ _ (between-character 58 refl refl) refl))
 
-  pub nothing_right : isRight (nothingAlone f) ≡ eqb (length f) 0
-  unfolding nothingAlone
+  pub nothing_right : is_right (nothing_alone f) ≡ eqb (length f) 0
+  unfolding nothing_alone
   nothing_right = alone-right Right false false Length f (λ e. never e) ∙ chosen (λ t. t) true false refl refl (eqb (length f) 0)

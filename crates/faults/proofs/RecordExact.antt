@@ -8,28 +8,28 @@ use mathlib.Core.Bool.{true}
 use mathlib.Core.List.{List}
 use Rattle.records.specs.declared.names.kind.FileKind.{FileKind}
 use Rattle.records.specs.declared.names.kind.FileKind.TheVariants.{Default, Correction, Request, Response}
-use Rattle.records.specs.Record.{isRecord}
+use Rattle.records.specs.Record.{is_record}
 use Rattle.faults.specs.declared.cause.RecordCheck.{RecordCheck}
 use Rattle.faults.specs.declared.cause.RecordCheck.TheVariants.{Right, Wrong}
-use Rattle.faults.specs.Record.{isFaultless, recordFault}
+use Rattle.faults.specs.Record.{is_faultless, record_fault}
 use Rattle.faults.proofs.ReportExact.{report-exact}
 use Rattle.faults.proofs.RequestExact.{request-exact}
 use Rattle.faults.proofs.CorrectionExact.{correction-exact}
 
-pub record-exact : (kind : FileKind) (l : List ℕ) → isRecord kind l ≡ isFaultless (recordFault kind l)
-unfolding isRecord recordFault
+pub record-exact : (kind : FileKind) (l : List ℕ) → is_record kind l ≡ is_faultless (record_fault kind l)
+unfolding is_record record_fault
 record-exact Default l = report-exact l
 record-exact Correction l = correction-exact l
 record-exact Request l = request-exact l
 record-exact Response l = report-exact l
 
-faultless-right : (r : RecordCheck) → isFaultless r ≡ true → r ≡ Right
+faultless-right : (r : RecordCheck) → is_faultless r ≡ true → r ≡ Right
 faultless-right Right e = refl
 faultless-right (Wrong field cause) e = absurd (let z : ◌≡◌ {A = ℕ} 0 1 = cc in omega arith)
 
 -- a record has no fault, and what has none is a record
-pub record-right : (kind : FileKind) (l : List ℕ) → isRecord kind l ≡ true → recordFault kind l ≡ Right
-record-right kind l e = faultless-right (recordFault kind l) (sym (record-exact kind l) ∙ e)
+pub record-right : (kind : FileKind) (l : List ℕ) → is_record kind l ≡ true → record_fault kind l ≡ Right
+record-right kind l e = faultless-right (record_fault kind l) (sym (record-exact kind l) ∙ e)
 
-pub right-record : (kind : FileKind) (l : List ℕ) → recordFault kind l ≡ Right → isRecord kind l ≡ true
-right-record kind l e = record-exact kind l ∙ ap isFaultless e
+pub right-record : (kind : FileKind) (l : List ℕ) → record_fault kind l ≡ Right → is_record kind l ≡ true
+right-record kind l e = record-exact kind l ∙ ap is_faultless e

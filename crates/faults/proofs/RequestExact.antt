@@ -13,71 +13,71 @@ use Rattle.laws.proofs.Split.{rest-piece}
 use Rattle.laws.proofs.Tests.{and_left, and_right, never, chosen, agree-where}
 use Rattle.fields.specs.declared.code.CodeRead.{CodeRead}
 use Rattle.fields.specs.declared.date.MaybeDateRead.{MaybeDateRead}
-use Rattle.fields.specs.Bytes.{fieldByte}
+use Rattle.fields.specs.Bytes.{field_byte}
 use Rattle.fields.specs.Code.{code_of}
-use Rattle.fields.specs.Date.{maybeDateOf}
+use Rattle.fields.specs.Date.{maybe_date_of}
 use Rattle.layout.specs.declared.request.RequestRead.{RequestRead}
-use Rattle.layout.specs.Part.{onDate}
-use Rattle.layout.specs.Request.{onSender, threeOf, requestOf}
-use Rattle.records.specs.Record.{isRequest}
+use Rattle.layout.specs.Part.{on_date}
+use Rattle.layout.specs.Request.{on_sender, three_of, request_of}
+use Rattle.records.specs.Record.{is_request}
 use Rattle.faults.specs.declared.cause.Cause.TheVariants.{Length}
 use Rattle.faults.specs.declared.cause.FieldCheck.{FieldCheck}
 use Rattle.faults.specs.Cut.{field_at, rest_at}
-use Rattle.faults.specs.Field.{is_code, codeAlone}
-use Rattle.faults.specs.Six.{isRight}
-use Rattle.faults.specs.Record.{isFaultless, commas, requestFault}
+use Rattle.faults.specs.Field.{is_code, code_alone}
+use Rattle.faults.specs.Six.{is_right}
+use Rattle.faults.specs.Record.{is_faultless, commas, request_fault}
 use Rattle.faults.proofs.CutLaws.{fields-counted}
 use Rattle.faults.proofs.FieldExact.{needed, code-right, date-right, nothing_right}
-use Rattle.faults.proofs.SixExact.{field-then, commas-then, dateRight, date-reads}
+use Rattle.faults.proofs.SixExact.{field-then, commas-then, date_right, date-reads}
 
-three-exact : (a b c : List ℕ) → isRequest (threeOf a b c) ≡ (is_code (code_of a) && (dateRight true (maybeDateOf b) && eqb (length c) 0))
-unfolding threeOf
-three-exact a b c = go (code_of a) (maybeDateOf b) (eqb (length c) 0)
+three-exact : (a b c : List ℕ) → is_request (three_of a b c) ≡ (is_code (code_of a) && (date_right true (maybe_date_of b) && eqb (length c) 0))
+unfolding three_of
+three-exact a b c = go (code_of a) (maybe_date_of b) (eqb (length c) 0)
   where
     go : (x : CodeRead) (y : MaybeDateRead) (t : Bool)
-        → isRequest (onSender x λ code. onDate y RequestRead.Fault λ from. cond t (RequestRead.Request (record { code = code; from = from })) RequestRead.Fault) ≡ (is_code x && (dateRight true y && t))
-    go (CodeRead.Code code) (MaybeDateRead.MaybeDate from) t = chosen isRequest (RequestRead.Request (record { code = code; from = from })) RequestRead.Fault refl refl t
+        → is_request (on_sender x λ code. on_date y RequestRead.Fault λ from. cond t (RequestRead.Request (record { code = code; from = from })) RequestRead.Fault) ≡ (is_code x && (date_right true y && t))
+    go (CodeRead.Code code) (MaybeDateRead.MaybeDate from) t = chosen is_request (RequestRead.Request (record { code = code; from = from })) RequestRead.Fault refl refl t
     go (CodeRead.Code code) MaybeDateRead.Fault t = refl
     go CodeRead.Fault y t = refl
 
 -- a code must stand there
-code-needed : (f : List ℕ) → isRight (codeAlone (FieldCheck.Wrong Length) f) ≡ is_code (code_of f)
+code-needed : (f : List ℕ) → is_right (code_alone (FieldCheck.Wrong Length) f) ≡ is_code (code_of f)
 unfolding code_of
 code-needed f = code-right f (FieldCheck.Wrong Length) ∙ needed (λ g. is_code (code_of g)) refl f
 
-empty-bytes : (f : List ℕ) → eqb (length f) 0 ≡ true → all fieldByte f ≡ true
+empty-bytes : (f : List ℕ) → eqb (length f) 0 ≡ true → all field_byte f ≡ true
 empty-bytes [] e = unfold all in refl
 empty-bytes (b ∷ f) e = absurd (omega (arith, eqb-true (length (b ∷ f)) 0 e))
 
 module _ (s : List ℕ) where
-  request-tests : isFaultless (requestFault s) ≡ (is_code (code_of (field_at s 0)) && (dateRight true (maybeDateOf (field_at s 1)) && (eqb (length (rest_at s 2)) 0 && leb 2 (commas s))))
-  unfolding requestFault
+  request-tests : is_faultless (request_fault s) ≡ (is_code (code_of (field_at s 0)) && (date_right true (maybe_date_of (field_at s 1)) && (eqb (length (rest_at s 2)) 0 && leb 2 (commas s))))
+  unfolding request_fault
   request-tests = simp (field-then, code-needed, date-right, date-reads, nothing_right, commas-then)
 
   -- a line without a fault has three fields
-  three-without-fault : isFaultless (requestFault s) ≡ true → length (split 44 s) ≡ 3
+  three-without-fault : is_faultless (request_fault s) ≡ true → length (split 44 s) ≡ 3
   three-without-fault h =
       let h₁ = and_right (is_code (code_of (field_at s 0))) _ (sym request-tests ∙ h) in
-      let h₂ = and_right (dateRight true (maybeDateOf (field_at s 1))) _ h₁ in
+      let h₂ = and_right (date_right true (maybe_date_of (field_at s 1))) _ h₁ in
       let most = fields-counted s 2 (empty-bytes (rest_at s 2) (and_left (eqb (length (rest_at s 2)) 0) _ h₂)) in
       let least = leb-true 2 (commas s) (and_right (eqb (length (rest_at s 2)) 0) _ h₂) in
       omega arith
 
   -- and so has one that is read
-  three-read : isRequest (requestOf s) ≡ true → length (split 44 s) ≡ 3
-  unfolding requestOf
+  three-read : is_request (request_of s) ≡ true → length (split 44 s) ≡ 3
+  unfolding request_of
   three-read h = go (eqb (length (split 44 s)) 3) refl h
     where
-      go : (t : Bool) → eqb (length (split 44 s)) 3 ≡ t → isRequest (cond t (threeOf (field_at s 0) (field_at s 1) (field_at s 2)) RequestRead.Fault) ≡ true → length (split 44 s) ≡ 3
+      go : (t : Bool) → eqb (length (split 44 s)) 3 ≡ t → is_request (cond t (three_of (field_at s 0) (field_at s 1) (field_at s 2)) RequestRead.Fault) ≡ true → length (split 44 s) ≡ 3
       go true q e = eqb-true (length (split 44 s)) 3 q
       go false q e = never e
 
   -- three fields
-  three-agree : length (split 44 s) ≡ 3 → isRequest (requestOf s) ≡ isFaultless (requestFault s)
-  unfolding requestOf rest_at
+  three-agree : length (split 44 s) ≡ 3 → is_request (request_of s) ≡ is_faultless (request_fault s)
+  unfolding request_of rest_at
   three-agree l =
       rw (eq-eqb (length (split 44 s)) 3 l, request-tests, rest-piece 44 (split 44 s) 2 l, l, and-true (eqb (length (field_at s 2)) 0))
       (three-exact (field_at s 0) (field_at s 1) (field_at s 2))
 
-  pub request-exact : isRequest (requestOf s) ≡ isFaultless (requestFault s)
-  request-exact = agree-where (isRequest (requestOf s)) (isFaultless (requestFault s)) three-read three-without-fault three-agree
+  pub request-exact : is_request (request_of s) ≡ is_faultless (request_fault s)
+  request-exact = agree-where (is_request (request_of s)) (is_faultless (request_fault s)) three-read three-without-fault three-agree

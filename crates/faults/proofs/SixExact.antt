@@ -1,7 +1,7 @@
 -- Six fields have no fault exactly if they are read as a part in which nothing is missing that must stand there. Assumes nothing.
 --     field-then, record-then, allowed_then, commas-then     no fault in a row of fields: none in the first, and none behind it
 --     date-reads                  a date that is right, by what the field is read as where it may be empty
---     six-exact                   six fields; `isFilled` is what a report asks of a part but for the number
+--     six-exact                   six fields; `is_filled` is what a report asks of a part but for the number
 --     six-bytes, six-status       six fields without a fault are made of the bytes of fields; where none may be missing, the last is not empty
 --     first-empty                 the first number of a part is empty exactly if its field is
 --     whole-exact, report-six     a part is a report exactly if it has a number and is filled
@@ -16,7 +16,7 @@ use borrow.Author.Tests.{eq-eqb, ne_eqb, eqb-true}
 use Rattle.laws.specs.Lists.{all}
 use Rattle.laws.proofs.Tests.{and_left, and_right, never, chosen}
 use Rattle.laws.proofs.Digits.{size_none}
-use Rattle.text.specs.Spelt.{spells, digitsOf}
+use Rattle.text.specs.Spelt.{spells, digits_of}
 use Rattle.fields.specs.declared.code.CodeRead.{CodeRead}
 use Rattle.fields.specs.declared.code.MaybeCode.{MaybeCode}
 use Rattle.fields.specs.declared.code.MaybeCodeRead.{MaybeCodeRead}
@@ -32,172 +32,172 @@ use Rattle.fields.specs.declared.number.Digits.{Digits}
 use Rattle.fields.specs.declared.number.DigitsRead.{DigitsRead}
 use Rattle.fields.specs.declared.number.Number.{Number}
 use Rattle.fields.specs.declared.number.NumberRead.{NumberRead}
-use Rattle.fields.specs.Bytes.{fieldByte}
-use Rattle.fields.specs.Code.{code_of, maybeCodeOf, maybeCodeFrom}
-use Rattle.fields.specs.Date.{dateFieldOf, maybeDateOf, maybeDateFrom}
-use Rattle.fields.specs.Gaining.{gainingOf}
-use Rattle.fields.specs.Kind.{kind_of, maybeKindOf, maybeKindFrom}
-use Rattle.fields.specs.Number.{digitsFieldOf, digitsFrom, digitsSize, is_empty, number_of, numberFrom}
+use Rattle.fields.specs.Bytes.{field_byte}
+use Rattle.fields.specs.Code.{code_of, maybe_code_of, maybe_code_from}
+use Rattle.fields.specs.Date.{date_field_of, maybe_date_of, maybe_date_from}
+use Rattle.fields.specs.Gaining.{gaining_of}
+use Rattle.fields.specs.Kind.{kind_of, maybe_kind_of, maybe_kind_from}
+use Rattle.fields.specs.Number.{digits_field_of, digits_from, digits_size, is_empty, number_of, number_from}
 use Rattle.fields.proofs.NumberLaws.{digits-back, digits-counted, number-back, size-some}
 use Rattle.layout.specs.declared.part.Part.{Part}
 use Rattle.layout.specs.declared.part.PartRead.{PartRead}
 use Rattle.layout.specs.declared.report.Report.{Report}
 use Rattle.layout.specs.declared.report.ReportRead.{ReportRead}
-use Rattle.layout.specs.Part.{onDigits, onNumber, onDate, onCode, onKind, sixOf}
-use Rattle.layout.specs.Report.{onSomeDate, onSomeCode, onSomeKind, whole_of, reportFrom, isNamed as partNamed}
-use Rattle.layout.specs.Correction.{isReport}
+use Rattle.layout.specs.Part.{on_digits, on_number, on_date, on_code, on_kind, six_of}
+use Rattle.layout.specs.Report.{on_some_date, on_some_code, on_some_kind, whole_of, report_from, is_named as part_named}
+use Rattle.layout.specs.Correction.{is_report}
 use Rattle.faults.specs.declared.cause.Cause.TheVariants.{Length}
 use Rattle.faults.specs.declared.cause.FieldCheck.{FieldCheck}
 use Rattle.faults.specs.declared.cause.RecordCheck.{RecordCheck}
-use Rattle.faults.specs.Field.{isDigits, isDate, is_code, isKind, is_number, digitsAlone, dateAlone, codeAlone, kindAlone, allowed, isRange, rangeFrom, isNamed, isReturn, returnRead}
-use Rattle.faults.specs.Six.{onField, onRecord, isRight, isNamedOr, sixFault}
-use Rattle.faults.specs.Record.{isFaultless, commas, onCommas}
+use Rattle.faults.specs.Field.{is_digits, is_date, is_code, is_kind, is_number, digits_alone, date_alone, code_alone, kind_alone, allowed, is_range, range_from, is_named, is_return, return_read}
+use Rattle.faults.specs.Six.{on_field, on_record, is_right, is_named_or, six_fault}
+use Rattle.faults.specs.Record.{is_faultless, commas, on_commas}
 use Rattle.faults.proofs.FieldExact.{digits-right, digits-bytes, date-right, date-bytes, code-right, code-bytes, kind-right, kind-bytes}
 
 -- ---- one after the other
-pub field-then : (pos : ℕ) (c : FieldCheck) (r : RecordCheck) → isFaultless (onField pos c r) ≡ (isRight c && isFaultless r)
+pub field-then : (pos : ℕ) (c : FieldCheck) (r : RecordCheck) → is_faultless (on_field pos c r) ≡ (is_right c && is_faultless r)
 field-then pos FieldCheck.Right r = refl
 field-then pos (FieldCheck.Wrong cause) r = refl
 
-pub record-then : (a b : RecordCheck) → isFaultless (onRecord a b) ≡ (isFaultless a && isFaultless b)
+pub record-then : (a b : RecordCheck) → is_faultless (on_record a b) ≡ (is_faultless a && is_faultless b)
 record-then RecordCheck.Right b = refl
 record-then (RecordCheck.Wrong pos cause) b = refl
 
-pub allowed_then : (c : FieldCheck) (rule : Bool) → isRight (allowed c rule) ≡ (isRight c && rule)
+pub allowed_then : (c : FieldCheck) (rule : Bool) → is_right (allowed c rule) ≡ (is_right c && rule)
 allowed_then FieldCheck.Right true = refl
 allowed_then FieldCheck.Right false = refl
 allowed_then (FieldCheck.Wrong cause) rule = refl
 
-pub commas-then : (most pos : ℕ) (s : List ℕ) → isFaultless (onCommas most pos s) ≡ leb most (commas s)
-unfolding onCommas
-commas-then most pos s = chosen isFaultless RecordCheck.Right (RecordCheck.Wrong (pos + 2 * commas s) Length) refl refl (leb most (commas s))
+pub commas-then : (most pos : ℕ) (s : List ℕ) → is_faultless (on_commas most pos s) ≡ leb most (commas s)
+unfolding on_commas
+commas-then most pos s = chosen is_faultless RecordCheck.Right (RecordCheck.Wrong (pos + 2 * commas s) Length) refl refl (leb most (commas s))
 
-allowed-right : (c : FieldCheck) (rule : Bool) → isRight (allowed c rule) ≡ true → isRight c ≡ true
-allowed-right c rule h = and_left (isRight c) rule (sym (allowed_then c rule) ∙ h)
+allowed-right : (c : FieldCheck) (rule : Bool) → is_right (allowed c rule) ≡ true → is_right c ≡ true
+allowed-right c rule h = and_left (is_right c) rule (sym (allowed_then c rule) ∙ h)
 
 -- ---- what each field asks, by what it is read as. Where one may be missing, `may` is true
-abbrev hasDate : MaybeDate → Bool
-hasDate (MaybeDate.Date d) = true
-hasDate MaybeDate.Empty = false
+abbrev has_date : MaybeDate → Bool
+has_date (MaybeDate.Date d) = true
+has_date MaybeDate.Empty = false
 
-abbrev hasCode : MaybeCode → Bool
-hasCode (MaybeCode.Code c) = true
-hasCode MaybeCode.Empty = false
+abbrev has_code : MaybeCode → Bool
+has_code (MaybeCode.Code c) = true
+has_code MaybeCode.Empty = false
 
-abbrev hasKind : MaybeKind → Bool
-hasKind (MaybeKind.Kind k) = true
-hasKind MaybeKind.Empty = false
+abbrev has_kind : MaybeKind → Bool
+has_kind (MaybeKind.Kind k) = true
+has_kind MaybeKind.Empty = false
 
 abbrev returns : MaybeKind → Bool
-returns (MaybeKind.Kind k) = isReturn k
+returns (MaybeKind.Kind k) = is_return k
 returns MaybeKind.Empty = false
 
-abbrev pub dateRight : Bool → MaybeDateRead → Bool
-dateRight may (MaybeDateRead.MaybeDate d) = may || hasDate d
-dateRight may MaybeDateRead.Fault = false
+abbrev pub date_right : Bool → MaybeDateRead → Bool
+date_right may (MaybeDateRead.MaybeDate d) = may || has_date d
+date_right may MaybeDateRead.Fault = false
 
-abbrev codeRight : Bool → MaybeCodeRead → Bool
-codeRight may (MaybeCodeRead.MaybeCode c) = may || hasCode c
-codeRight may MaybeCodeRead.Fault = false
+abbrev code_right : Bool → MaybeCodeRead → Bool
+code_right may (MaybeCodeRead.MaybeCode c) = may || has_code c
+code_right may MaybeCodeRead.Fault = false
 
-abbrev kindRight : Bool → MaybeKindRead → Bool
-kindRight may (MaybeKindRead.MaybeKind k) = may || hasKind k
-kindRight may MaybeKindRead.Fault = false
+abbrev kind_right : Bool → MaybeKindRead → Bool
+kind_right may (MaybeKindRead.MaybeKind k) = may || has_kind k
+kind_right may MaybeKindRead.Fault = false
 
-abbrev codeThere : MaybeCodeRead → Bool
-codeThere (MaybeCodeRead.MaybeCode c) = hasCode c
-codeThere MaybeCodeRead.Fault = true
+abbrev code_there : MaybeCodeRead → Bool
+code_there (MaybeCodeRead.MaybeCode c) = has_code c
+code_there MaybeCodeRead.Fault = true
 
-abbrev returnThere : MaybeKindRead → Bool
-returnThere (MaybeKindRead.MaybeKind k) = returns k
-returnThere MaybeKindRead.Fault = false
+abbrev return_there : MaybeKindRead → Bool
+return_there (MaybeKindRead.MaybeKind k) = returns k
+return_there MaybeKindRead.Fault = false
 
 module _ (may : Bool) where
-  pub date-reads : (f : List ℕ) → cond (eqb (length f) 0) may (isDate (dateFieldOf f)) ≡ dateRight may (maybeDateOf f)
-  unfolding maybeDateOf maybeDateFrom
+  pub date-reads : (f : List ℕ) → cond (eqb (length f) 0) may (is_date (date_field_of f)) ≡ date_right may (maybe_date_of f)
+  unfolding maybe_date_of maybe_date_from
   date-reads [] = sym (or-false may)
-  date-reads (b ∷ f) = rw (ne_eqb (length (b ∷ f)) 0 (λ z. omega arith)) (go (dateFieldOf (b ∷ f)))
+  date-reads (b ∷ f) = rw (ne_eqb (length (b ∷ f)) 0 (λ z. omega arith)) (go (date_field_of (b ∷ f)))
     where
-      go : (r : DateRead) → isDate r ≡ dateRight may (maybeDateFrom r)
+      go : (r : DateRead) → is_date r ≡ date_right may (maybe_date_from r)
       go (DateRead.Date d) = sym (or-true may)
       go DateRead.Fault = refl
 
-  code_reads : (f : List ℕ) → cond (eqb (length f) 0) may (is_code (code_of f)) ≡ codeRight may (maybeCodeOf f)
-  unfolding maybeCodeOf maybeCodeFrom
+  code_reads : (f : List ℕ) → cond (eqb (length f) 0) may (is_code (code_of f)) ≡ code_right may (maybe_code_of f)
+  unfolding maybe_code_of maybe_code_from
   code_reads [] = sym (or-false may)
   code_reads (b ∷ f) = rw (ne_eqb (length (b ∷ f)) 0 (λ z. omega arith)) (go (code_of (b ∷ f)))
     where
-      go : (r : CodeRead) → is_code r ≡ codeRight may (maybeCodeFrom r)
+      go : (r : CodeRead) → is_code r ≡ code_right may (maybe_code_from r)
       go (CodeRead.Code c) = sym (or-true may)
       go CodeRead.Fault = refl
 
-  kind-reads : (f : List ℕ) → cond (eqb (length f) 0) may (isKind (kind_of f)) ≡ kindRight may (maybeKindOf f)
-  unfolding maybeKindOf maybeKindFrom
+  kind-reads : (f : List ℕ) → cond (eqb (length f) 0) may (is_kind (kind_of f)) ≡ kind_right may (maybe_kind_of f)
+  unfolding maybe_kind_of maybe_kind_from
   kind-reads [] = sym (or-false may)
   kind-reads (b ∷ f) = rw (ne_eqb (length (b ∷ f)) 0 (λ z. omega arith)) (go (kind_of (b ∷ f)))
     where
-      go : (r : KindRead) → isKind r ≡ kindRight may (maybeKindFrom r)
+      go : (r : KindRead) → is_kind r ≡ kind_right may (maybe_kind_from r)
       go (KindRead.Kind k) = sym (or-true may)
       go KindRead.Fault = refl
 
-code-stands : (f : List ℕ) → not (eqb (length f) 0) ≡ codeThere (maybeCodeOf f)
-unfolding maybeCodeOf maybeCodeFrom
+code-stands : (f : List ℕ) → not (eqb (length f) 0) ≡ code_there (maybe_code_of f)
+unfolding maybe_code_of maybe_code_from
 code-stands [] = refl
 code-stands (b ∷ f) = rw (ne_eqb (length (b ∷ f)) 0 (λ z. omega arith)) (go (code_of (b ∷ f)))
   where
-    go : (r : CodeRead) → true ≡ codeThere (maybeCodeFrom r)
+    go : (r : CodeRead) → true ≡ code_there (maybe_code_from r)
     go (CodeRead.Code c) = refl
     go CodeRead.Fault = refl
 
-kind-returns : (f : List ℕ) → returnRead (kind_of f) ≡ returnThere (maybeKindOf f)
-unfolding maybeKindOf maybeKindFrom
+kind-returns : (f : List ℕ) → return_read (kind_of f) ≡ return_there (maybe_kind_of f)
+unfolding maybe_kind_of maybe_kind_from
 kind-returns [] = unfold kind_of in refl
 kind-returns (b ∷ f) = rw (ne_eqb (length (b ∷ f)) 0 (λ z. omega arith)) (go (kind_of (b ∷ f)))
   where
-    go : (r : KindRead) → returnRead r ≡ returnThere (maybeKindFrom r)
+    go : (r : KindRead) → return_read r ≡ return_there (maybe_kind_from r)
     go (KindRead.Kind k) = refl
     go KindRead.Fault = refl
 
 -- ---- the two numbers
-digits-reads : (may : Bool) (f : List ℕ) → cond (eqb (length f) 0) may (isDigits (digitsFieldOf f)) ≡ ((may || not (eqb (length f) 0)) && isDigits (digitsFieldOf f))
-digits-reads true [] = unfold digitsFieldOf digitsFrom digitsOf spells all in refl
+digits-reads : (may : Bool) (f : List ℕ) → cond (eqb (length f) 0) may (is_digits (digits_field_of f)) ≡ ((may || not (eqb (length f) 0)) && is_digits (digits_field_of f))
+digits-reads true [] = unfold digits_field_of digits_from digits_of spells all in refl
 digits-reads false [] = refl
 digits-reads may (b ∷ f) = rw (ne_eqb (length (b ∷ f)) 0 (λ z. omega arith), or-true may)
 
 -- where the second goes with the first, it is right by itself
-range-reads : (r : DigitsRead) (f : List ℕ) → (cond (eqb (length f) 0) true (isDigits (digitsFieldOf f)) && rangeFrom r f) ≡ rangeFrom r f
-unfolding number_of numberFrom
+range-reads : (r : DigitsRead) (f : List ℕ) → (cond (eqb (length f) 0) true (is_digits (digits_field_of f)) && range_from r f) ≡ range_from r f
+unfolding number_of number_from
 range-reads r [] = refl
-range-reads (DigitsRead.Digits first) (b ∷ f) = rw (ne_eqb (length (b ∷ f)) 0 (λ z. omega arith)) (go (digitsFieldOf (b ∷ f)))
+range-reads (DigitsRead.Digits first) (b ∷ f) = rw (ne_eqb (length (b ∷ f)) 0 (λ z. omega arith)) (go (digits_field_of (b ∷ f)))
   where
-    go : (r : DigitsRead) → (isDigits r && is_number (numberFrom first r)) ≡ is_number (numberFrom first r)
+    go : (r : DigitsRead) → (is_digits r && is_number (number_from first r)) ≡ is_number (number_from first r)
     go (DigitsRead.Digits last) = refl
     go DigitsRead.Fault = refl
 range-reads DigitsRead.Fault (b ∷ f) = simp and-false
 
 -- ---- six fields
-abbrev pub isFilled : Part → Bool
-isFilled p = hasDate p.date && (hasCode p.losing && (hasKind p.kind && (hasCode p.gaining || returns p.kind)))
+abbrev pub is_filled : Part → Bool
+is_filled p = has_date p.date && (has_code p.losing && (has_kind p.kind && (has_code p.gaining || returns p.kind)))
 
 -- a part, and a filled one where nothing may be missing
-abbrev pub filledOr : Bool → PartRead → Bool
-filledOr may (PartRead.Part p) = may || isFilled p
-filledOr may PartRead.Fault = false
+abbrev pub filled_or : Bool → PartRead → Bool
+filled_or may (PartRead.Part p) = may || is_filled p
+filled_or may PartRead.Fault = false
 
--- what `sixOf` makes of all but the first field
+-- what `six_of` makes of all but the first field
 abbrev rest_of : NumberRead → MaybeDateRead → MaybeCodeRead → MaybeCodeRead → MaybeKindRead → PartRead
 rest_of number date gaining losing kind =
-    onNumber number PartRead.Fault
-    λ n. onDate date PartRead.Fault
-    λ x. onCode gaining PartRead.Fault
-    λ g. onCode losing PartRead.Fault
-    λ l. onKind kind PartRead.Fault
+    on_number number PartRead.Fault
+    λ n. on_date date PartRead.Fault
+    λ x. on_code gaining PartRead.Fault
+    λ g. on_code losing PartRead.Fault
+    λ l. on_kind kind PartRead.Fault
     λ k. PartRead.Part (record { number = n; date = x; gaining = g; losing = l; kind = k })
 
 -- by what the fields are read as
 read-rest : (may : Bool) (number : NumberRead) (date : MaybeDateRead) (gaining losing : MaybeCodeRead) (kind : MaybeKindRead)
-    → (is_number number && (dateRight may date && (codeRight true gaining && (codeRight may losing && (kindRight may kind && (may || (codeThere gaining || returnThere kind)))))))
-    ≡ filledOr may (rest_of number date gaining losing kind)
+    → (is_number number && (date_right may date && (code_right true gaining && (code_right may losing && (kind_right may kind && (may || (code_there gaining || return_there kind)))))))
+    ≡ filled_or may (rest_of number date gaining losing kind)
 read-rest may NumberRead.Fault date gaining losing kind = refl
 read-rest may (NumberRead.Number n) MaybeDateRead.Fault gaining losing kind = refl
 read-rest may (NumberRead.Number n) (MaybeDateRead.MaybeDate x) MaybeCodeRead.Fault losing kind = simp and-false
@@ -207,70 +207,70 @@ read-rest true (NumberRead.Number n) (MaybeDateRead.MaybeDate x) (MaybeCodeRead.
 read-rest false (NumberRead.Number n) (MaybeDateRead.MaybeDate x) (MaybeCodeRead.MaybeCode g) (MaybeCodeRead.MaybeCode l) (MaybeKindRead.MaybeKind k) = refl
 
 read-six : (some may : Bool) (first : DigitsRead) (b : List ℕ) (date : MaybeDateRead) (gaining losing : MaybeCodeRead) (kind : MaybeKindRead)
-    → ((some && isDigits first) && (rangeFrom first b && (dateRight may date && (codeRight true gaining && (codeRight may losing && (kindRight may kind && (may || (codeThere gaining || returnThere kind))))))))
-    ≡ (some && filledOr may (onDigits first PartRead.Fault (λ d. rest_of (number_of d b) date gaining losing kind)))
+    → ((some && is_digits first) && (range_from first b && (date_right may date && (code_right true gaining && (code_right may losing && (kind_right may kind && (may || (code_there gaining || return_there kind))))))))
+    ≡ (some && filled_or may (on_digits first PartRead.Fault (λ d. rest_of (number_of d b) date gaining losing kind)))
 read-six some may (DigitsRead.Digits d) b date gaining losing kind = ap₂ ◌&&◌ (and-true some) (read-rest may (number_of d b) date gaining losing kind)
 read-six some may DigitsRead.Fault b date gaining losing kind = simp and-false
 
 module _ (pos : ℕ) (none missing : FieldCheck) (a b c d e f : List ℕ) where
-  six-tests : isFaultless (sixFault pos none missing a b c d e f)
-      ≡ (isRight (digitsAlone none a) && (isRight (allowed (digitsAlone FieldCheck.Right b) (isRange a b)) && (isRight (dateAlone missing c) && (isRight (codeAlone FieldCheck.Right d) && (isRight (codeAlone missing e) && isRight (allowed (kindAlone missing f) (isNamedOr missing d f)))))))
-  unfolding sixFault
+  six-tests : is_faultless (six_fault pos none missing a b c d e f)
+      ≡ (is_right (digits_alone none a) && (is_right (allowed (digits_alone FieldCheck.Right b) (is_range a b)) && (is_right (date_alone missing c) && (is_right (code_alone FieldCheck.Right d) && (is_right (code_alone missing e) && is_right (allowed (kind_alone missing f) (is_named_or missing d f)))))))
+  unfolding six_fault
   six-tests = simp (field-then, and-true)
 
-  pub six-exact : isFaultless (sixFault pos none missing a b c d e f) ≡ ((isRight none || not (eqb (length a) 0)) && filledOr (isRight missing) (sixOf a b c d e f))
-  unfolding sixOf isRange isNamedOr isNamed
+  pub six-exact : is_faultless (six_fault pos none missing a b c d e f) ≡ ((is_right none || not (eqb (length a) 0)) && filled_or (is_right missing) (six_of a b c d e f))
+  unfolding six_of is_range is_named_or is_named
   six-exact =
       six-tests
       ∙ rw (
         digits-right a none,
-        digits-reads (isRight none) a,
-        allowed_then (digitsAlone FieldCheck.Right b) (isRange a b),
+        digits-reads (is_right none) a,
+        allowed_then (digits_alone FieldCheck.Right b) (is_range a b),
         digits-right b FieldCheck.Right,
-        range-reads (digitsFieldOf a) b,
+        range-reads (digits_field_of a) b,
         date-right c missing,
-        date-reads (isRight missing) c,
+        date-reads (is_right missing) c,
         code-right d FieldCheck.Right,
         code_reads true d,
         code-right e missing,
-        code_reads (isRight missing) e,
-        allowed_then (kindAlone missing f) (isNamedOr missing d f),
+        code_reads (is_right missing) e,
+        allowed_then (kind_alone missing f) (is_named_or missing d f),
         kind-right f missing,
-        kind-reads (isRight missing) f,
+        kind-reads (is_right missing) f,
         code-stands d,
         kind-returns f,
       )
-      (read-six (isRight none || not (eqb (length a) 0)) (isRight missing) (digitsFieldOf a) b (maybeDateOf c) (maybeCodeOf d) (maybeCodeOf e) (maybeKindOf f))
+      (read-six (is_right none || not (eqb (length a) 0)) (is_right missing) (digits_field_of a) b (maybe_date_of c) (maybe_code_of d) (maybe_code_of e) (maybe_kind_of f))
 
   -- where nothing may be missing, a status stands there
-  status-right : isFaultless (sixFault pos none missing a b c d e f) ≡ true → isRight (kindAlone missing f) ≡ true
+  status-right : is_faultless (six_fault pos none missing a b c d e f) ≡ true → is_right (kind_alone missing f) ≡ true
   status-right h =
-      let h₁ = and_right (isRight (digitsAlone none a)) _ (sym six-tests ∙ h) in
-      let h₂ = and_right (isRight (allowed (digitsAlone FieldCheck.Right b) (isRange a b))) _ h₁ in
-      let h₃ = and_right (isRight (dateAlone missing c)) _ h₂ in
-      let h₄ = and_right (isRight (codeAlone FieldCheck.Right d)) _ h₃ in
-      allowed-right (kindAlone missing f) (isNamedOr missing d f) (and_right (isRight (codeAlone missing e)) _ h₄)
+      let h₁ = and_right (is_right (digits_alone none a)) _ (sym six-tests ∙ h) in
+      let h₂ = and_right (is_right (allowed (digits_alone FieldCheck.Right b) (is_range a b))) _ h₁ in
+      let h₃ = and_right (is_right (date_alone missing c)) _ h₂ in
+      let h₄ = and_right (is_right (code_alone FieldCheck.Right d)) _ h₃ in
+      allowed-right (kind_alone missing f) (is_named_or missing d f) (and_right (is_right (code_alone missing e)) _ h₄)
 
-  pub six-status : isRight missing ≡ false → isFaultless (sixFault pos none missing a b c d e f) ≡ true → length f ≡ 0 → ⊥
+  pub six-status : is_right missing ≡ false → is_faultless (six_fault pos none missing a b c d e f) ≡ true → length f ≡ 0 → ⊥
   six-status m h z =
-      let e : cond (eqb (length f) 0) (isRight missing) (isKind (kind_of f)) ≡ true = sym (kind-right f missing) ∙ status-right h in
+      let e : cond (eqb (length f) 0) (is_right missing) (is_kind (kind_of f)) ≡ true = sym (kind-right f missing) ∙ status-right h in
       never (sym (rw (eq-eqb (length f) 0 z) m) ∙ e)
 
   -- no byte of them is a separator
-  pub six-bytes : isFaultless (sixFault pos none missing a b c d e f) ≡ true → all (all fieldByte) (a ∷ b ∷ c ∷ d ∷ e ∷ f ∷ []) ≡ true
+  pub six-bytes : is_faultless (six_fault pos none missing a b c d e f) ≡ true → all (all field_byte) (a ∷ b ∷ c ∷ d ∷ e ∷ f ∷ []) ≡ true
   unfolding all
   six-bytes h =
       let h₁ = sym six-tests ∙ h in
-      let h₂ = and_right (isRight (digitsAlone none a)) _ h₁ in
-      let h₃ = and_right (isRight (allowed (digitsAlone FieldCheck.Right b) (isRange a b))) _ h₂ in
-      let h₄ = and_right (isRight (dateAlone missing c)) _ h₃ in
-      let h₅ = and_right (isRight (codeAlone FieldCheck.Right d)) _ h₄ in
+      let h₂ = and_right (is_right (digits_alone none a)) _ h₁ in
+      let h₃ = and_right (is_right (allowed (digits_alone FieldCheck.Right b) (is_range a b))) _ h₂ in
+      let h₄ = and_right (is_right (date_alone missing c)) _ h₃ in
+      let h₅ = and_right (is_right (code_alone FieldCheck.Right d)) _ h₄ in
       rw (
-        digits-bytes a none (and_left (isRight (digitsAlone none a)) _ h₁),
-        digits-bytes b FieldCheck.Right (allowed-right (digitsAlone FieldCheck.Right b) (isRange a b) (and_left (isRight (allowed (digitsAlone FieldCheck.Right b) (isRange a b))) _ h₂)),
-        date-bytes c missing (and_left (isRight (dateAlone missing c)) _ h₃),
-        code-bytes d FieldCheck.Right (and_left (isRight (codeAlone FieldCheck.Right d)) _ h₄),
-        code-bytes e missing (and_left (isRight (codeAlone missing e)) _ h₅),
+        digits-bytes a none (and_left (is_right (digits_alone none a)) _ h₁),
+        digits-bytes b FieldCheck.Right (allowed-right (digits_alone FieldCheck.Right b) (is_range a b) (and_left (is_right (allowed (digits_alone FieldCheck.Right b) (is_range a b))) _ h₂)),
+        date-bytes c missing (and_left (is_right (date_alone missing c)) _ h₃),
+        code-bytes d FieldCheck.Right (and_left (is_right (code_alone FieldCheck.Right d)) _ h₄),
+        code-bytes e missing (and_left (is_right (code_alone missing e)) _ h₅),
         kind-bytes f missing (status-right h),
       )
 
@@ -288,50 +288,50 @@ part-number (NumberRead.Number n) (MaybeDateRead.MaybeDate x) (MaybeCodeRead.May
     let same : ◌≡◌ {A = Part} (record { number = n; date = x; gaining = g; losing = l; kind = k }) p = cc in
     ap (λ (q : Part). NumberRead.Number q.number) same
 
-digits-empty : (f : List ℕ) (d : Digits) → digitsFieldOf f ≡ DigitsRead.Digits d → is_empty d ≡ eqb (length f) 0
+digits-empty : (f : List ℕ) (d : Digits) → digits_field_of f ≡ DigitsRead.Digits d → is_empty d ≡ eqb (length f) 0
 digits-empty f d h = go (is_empty d) refl
   where
-    size : digitsSize d ≡ length f
+    size : digits_size d ≡ length f
     size = digits-counted f d h
 
     go : (t : Bool) → is_empty d ≡ t → t ≡ eqb (length f) 0
     go true e = sym (eq-eqb (length f) 0 (omega (arith, size, size_none 12 d.0 (omega (arith, eqb-true d.0 1 e)))))
     go false e = sym (ne_eqb (length f) 0 (λ z. size-some d (digits-back f d h).1 e (size ∙ z)))
 
-pub first-empty : (a b c d e f : List ℕ) (p : Part) → sixOf a b c d e f ≡ PartRead.Part p → is_empty p.number.first ≡ eqb (length a) 0
-unfolding sixOf
-first-empty a b c d e f p h = go (digitsFieldOf a) refl h
+pub first-empty : (a b c d e f : List ℕ) (p : Part) → six_of a b c d e f ≡ PartRead.Part p → is_empty p.number.first ≡ eqb (length a) 0
+unfolding six_of
+first-empty a b c d e f p h = go (digits_field_of a) refl h
   where
-    go : (r : DigitsRead) → digitsFieldOf a ≡ r → onDigits r PartRead.Fault (λ x. rest_of (number_of x b) (maybeDateOf c) (maybeCodeOf d) (maybeCodeOf e) (maybeKindOf f)) ≡ PartRead.Part p → is_empty p.number.first ≡ eqb (length a) 0
+    go : (r : DigitsRead) → digits_field_of a ≡ r → on_digits r PartRead.Fault (λ x. rest_of (number_of x b) (maybe_date_of c) (maybe_code_of d) (maybe_code_of e) (maybe_kind_of f)) ≡ PartRead.Part p → is_empty p.number.first ≡ eqb (length a) 0
     go (DigitsRead.Digits x) q k =
-        let n = part-number (number_of x b) (maybeDateOf c) (maybeCodeOf d) (maybeCodeOf e) (maybeKindOf f) p k in
+        let n = part-number (number_of x b) (maybe_date_of c) (maybe_code_of d) (maybe_code_of e) (maybe_kind_of f) p k in
         ap is_empty (number-back x b p.number (digits-back a x q).1 n).0 ∙ digits-empty a x q
     go DigitsRead.Fault q k = absurd (no_part p k)
 
 -- ---- a report
-named-exact : (g : MaybeCode) (k : Kind) → partNamed g k ≡ (hasCode g || isReturn k)
+named-exact : (g : MaybeCode) (k : Kind) → part_named g k ≡ (has_code g || is_return k)
 named-exact (MaybeCode.Code c) k = refl
 named-exact MaybeCode.Empty P = refl
 named-exact MaybeCode.Empty L = refl
 named-exact MaybeCode.Empty Z = refl
 
-pub whole-exact : (p : Part) → isReport (whole_of p) ≡ (not (is_empty p.number.first) && isFilled p)
+pub whole-exact : (p : Part) → is_report (whole_of p) ≡ (not (is_empty p.number.first) && is_filled p)
 unfolding whole_of
 whole-exact p = go (is_empty p.number.first) p.date p.losing p.kind
   where
     go : (t : Bool) (date : MaybeDate) (losing : MaybeCode) (kind : MaybeKind)
-        → isReport (cond t ReportRead.Fault (onSomeDate date λ d. onSomeCode losing λ l. onSomeKind kind λ k. cond (partNamed p.gaining k) (ReportRead.Report (record { number = p.number; date = d; gaining = gainingOf p.gaining; losing = l; kind = k })) ReportRead.Fault))
-        ≡ (not t && (hasDate date && (hasCode losing && (hasKind kind && (hasCode p.gaining || returns kind)))))
+        → is_report (cond t ReportRead.Fault (on_some_date date λ d. on_some_code losing λ l. on_some_kind kind λ k. cond (part_named p.gaining k) (ReportRead.Report (record { number = p.number; date = d; gaining = gaining_of p.gaining; losing = l; kind = k })) ReportRead.Fault))
+        ≡ (not t && (has_date date && (has_code losing && (has_kind kind && (has_code p.gaining || returns kind)))))
     go true date losing kind = refl
     go false MaybeDate.Empty losing kind = refl
     go false (MaybeDate.Date d) MaybeCode.Empty kind = refl
     go false (MaybeDate.Date d) (MaybeCode.Code l) MaybeKind.Empty = refl
-    go false (MaybeDate.Date d) (MaybeCode.Code l) (MaybeKind.Kind k) = chosen isReport (ReportRead.Report _) ReportRead.Fault refl refl (partNamed p.gaining k) ∙ named-exact p.gaining k
+    go false (MaybeDate.Date d) (MaybeCode.Code l) (MaybeKind.Kind k) = chosen is_report (ReportRead.Report _) ReportRead.Fault refl refl (part_named p.gaining k) ∙ named-exact p.gaining k
 
-pub report-six : (a b c d e f : List ℕ) → isReport (reportFrom (sixOf a b c d e f)) ≡ (not (eqb (length a) 0) && filledOr false (sixOf a b c d e f))
-unfolding reportFrom
-report-six a b c d e f = go (sixOf a b c d e f) refl
+pub report-six : (a b c d e f : List ℕ) → is_report (report_from (six_of a b c d e f)) ≡ (not (eqb (length a) 0) && filled_or false (six_of a b c d e f))
+unfolding report_from
+report-six a b c d e f = go (six_of a b c d e f) refl
   where
-    go : (r : PartRead) → sixOf a b c d e f ≡ r → isReport (reportFrom r) ≡ (not (eqb (length a) 0) && filledOr false r)
-    go (PartRead.Part p) q = whole-exact p ∙ ap (λ (t : Bool). not t && isFilled p) (first-empty a b c d e f p q)
+    go : (r : PartRead) → six_of a b c d e f ≡ r → is_report (report_from r) ≡ (not (eqb (length a) 0) && filled_or false r)
+    go (PartRead.Part p) q = whole-exact p ∙ ap (λ (t : Bool). not t && is_filled p) (first-empty a b c d e f p q)
     go PartRead.Fault q = sym (and-false (not (eqb (length a) 0)))

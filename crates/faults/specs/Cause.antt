@@ -5,15 +5,15 @@ use Rattle.faults.specs.declared.cause.Cause.{Cause}
 use Rattle.faults.specs.declared.cause.FaultPlace.{FaultPlace}
 use Rattle.faults.specs.declared.cause.Cause.TheVariants.{Character, Length, Date, Code, Value, Closing, After}
 
-abbrev pub causeNumber : Cause → ℕ
-causeNumber Character = 1
-causeNumber Length = 2
-causeNumber Date = 3
-causeNumber Code = 4
-causeNumber Value = 5
-causeNumber Closing = 6
-causeNumber After = 7
+abbrev pub cause_number : Cause → ℕ
+cause_number Character = 1
+cause_number Length = 2
+cause_number Date = 3
+cause_number Code = 4
+cause_number Value = 5
+cause_number Closing = 6
+cause_number After = 7
 
 -- 4, with the place of the record, the field in it (0: none) and the cause
-abbrev pub faultTold : FaultPlace → Cause → Told
-faultTold at cause = told 4 (at.place ∷ at.field ∷ causeNumber cause ∷ [])
+abbrev pub fault_told : FaultPlace → Cause → Told
+fault_told at cause = told 4 (at.place ∷ at.field ∷ cause_number cause ∷ [])

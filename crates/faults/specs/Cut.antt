@@ -13,18 +13,18 @@ rest_at s k = joined 44 (drop k (split 44 s))
 
 -- ---- the head of a correction: code, "U:" and the first number stand together up to the first comma
 -- where the first colon (58) stands
-abbrev pub colonIn : List ℕ → ℕ
-colonIn h = end_of 58 h 0
+abbrev pub colon_in : List ℕ → ℕ
+colon_in h = end_of 58 h 0
 
 -- the code reaches to "U:"; where there is none, it is the first four bytes
-unfoldable pub codeWidth : List ℕ → ℕ
-codeWidth h = cond (ltb (colonIn h) (length h) && eqb (get_or h (colonIn h - 1) 0) 85) (colonIn h - 1) 4
+unfoldable pub code_width : List ℕ → ℕ
+code_width h = cond (ltb (colon_in h) (length h) && eqb (get_or h (colon_in h - 1) 0) 85) (colon_in h - 1) 4
 
 abbrev pub code_in : List ℕ → List ℕ
-code_in h = take (codeWidth h) h
+code_in h = take (code_width h) h
 
-abbrev pub markIn : List ℕ → List ℕ
-markIn h = take 2 (drop (codeWidth h) h)
+abbrev pub mark_in : List ℕ → List ℕ
+mark_in h = take 2 (drop (code_width h) h)
 
 abbrev pub number_in : List ℕ → List ℕ
-number_in h = drop 2 (drop (codeWidth h) h)
+number_in h = drop 2 (drop (code_width h) h)

@@ -6,7 +6,7 @@ use Rattle.records.specs.declared.names.kind.FileKind.{FileKind}
 use Rattle.faults.specs.declared.cause.Cause.TheVariants.{Character, Length, Date, Code, Value}
 use Rattle.faults.specs.declared.cause.RecordCheck.{RecordCheck}
 use Rattle.faults.specs.declared.cause.RecordCheck.TheVariants.{Right, Wrong}
-use Rattle.faults.specs.Record.{recordFault}
+use Rattle.faults.specs.Record.{record_fault}
 
 -- ---- fields of a line: a network code; a report of a date, a gaining network and a status; six fields that are empty
 abbrev network : ℕ → List ℕ
@@ -30,7 +30,7 @@ abbrev gained : List ℕ
 gained = 80 ∷ []
 
 abbrev Says : FileKind → List ℕ → RecordCheck → Type 0
-Says kind line check = recordFault kind line ≡ check
+Says kind line check = record_fault kind line ≡ check
 
 abbrev pub DamagedLines : Type 0
 DamagedLines =

@@ -11,72 +11,72 @@ use Rattle.fields.specs.declared.kind.KindRead.{KindRead}
 use Rattle.fields.specs.declared.number.DigitsRead.{DigitsRead}
 use Rattle.fields.specs.declared.number.NumberRead.{NumberRead}
 use Rattle.fields.specs.Code.{code_of}
-use Rattle.fields.specs.CorrectionCode.{correctionCodeOf, isObjection}
-use Rattle.fields.specs.Date.{dateFieldOf}
+use Rattle.fields.specs.CorrectionCode.{correction_code_of, is_objection}
+use Rattle.fields.specs.Date.{date_field_of}
 use Rattle.fields.specs.Kind.{kind_of}
-use Rattle.fields.specs.Number.{digitsFieldOf, number_of}
+use Rattle.fields.specs.Number.{digits_field_of, number_of}
 use Rattle.faults.specs.declared.cause.Cause.{Cause}
 use Rattle.faults.specs.declared.cause.Cause.TheVariants.{Character, Length, Value}
 use Rattle.faults.specs.declared.cause.FieldCheck.{FieldCheck}
 use Rattle.faults.specs.declared.cause.FieldCheck.TheVariants.{Right, Wrong}
 
 -- ---- the characters of 4.4.1: tab (9), LF (10), CR (13), the blank to '~' (32 to 126), 'À' to 'ÿ' (192 to 255)
-unfoldable pub isCharacter : ℕ → Bool
-isCharacter b = eqb b 9 || (eqb b 10 || (eqb b 13 || ((leb 32 b && leb b 126) || (leb 192 b && leb b 255))))
+unfoldable pub is_character : ℕ → Bool
+is_character b = eqb b 9 || (eqb b 10 || (eqb b 13 || ((leb 32 b && leb b 126) || (leb 192 b && leb b 255))))
 
 -- ---- whether a field is read as a value
-abbrev pub isDigits : DigitsRead → Bool
-isDigits (DigitsRead.Digits d) = true
-isDigits DigitsRead.Fault = false
+abbrev pub is_digits : DigitsRead → Bool
+is_digits (DigitsRead.Digits d) = true
+is_digits DigitsRead.Fault = false
 
-abbrev pub isDate : DateRead → Bool
-isDate (DateRead.Date d) = true
-isDate DateRead.Fault = false
+abbrev pub is_date : DateRead → Bool
+is_date (DateRead.Date d) = true
+is_date DateRead.Fault = false
 
 abbrev pub is_code : CodeRead → Bool
 is_code (CodeRead.Code c) = true
 is_code CodeRead.Fault = false
 
-abbrev pub isKind : KindRead → Bool
-isKind (KindRead.Kind k) = true
-isKind KindRead.Fault = false
+abbrev pub is_kind : KindRead → Bool
+is_kind (KindRead.Kind k) = true
+is_kind KindRead.Fault = false
 
-abbrev pub isCorrectionCode : CorrectionCodeRead → Bool
-isCorrectionCode (CorrectionCodeRead.CorrectionCode c) = true
-isCorrectionCode CorrectionCodeRead.Fault = false
+abbrev pub is_correction_code : CorrectionCodeRead → Bool
+is_correction_code (CorrectionCodeRead.CorrectionCode c) = true
+is_correction_code CorrectionCodeRead.Fault = false
 
 -- ---- one field: its characters; `empty` where nothing stands in it; its length; its value, and the cause where that is wrong
 unfoldable pub alone : FieldCheck → Bool → Bool → Cause → List ℕ → FieldCheck
 alone empty long good cause f =
-    cond (all isCharacter f) (cond (eqb (length f) 0) empty (cond long (cond good Right (Wrong cause)) (Wrong Length))) (Wrong Character)
+    cond (all is_character f) (cond (eqb (length f) 0) empty (cond long (cond good Right (Wrong cause)) (Wrong Length))) (Wrong Character)
 
 -- at most 11 digits
-unfoldable pub digitsAlone : FieldCheck → List ℕ → FieldCheck
-digitsAlone empty f = alone empty (leb (length f) 11) (isDigits (digitsFieldOf f)) Value f
+unfoldable pub digits_alone : FieldCheck → List ℕ → FieldCheck
+digits_alone empty f = alone empty (leb (length f) 11) (is_digits (digits_field_of f)) Value f
 
 -- ddmmyyyy, a date of the calendar
-unfoldable pub dateAlone : FieldCheck → List ℕ → FieldCheck
-dateAlone empty f = alone empty (eqb (length f) 8) (isDate (dateFieldOf f)) Cause.Date f
+unfoldable pub date_alone : FieldCheck → List ℕ → FieldCheck
+date_alone empty f = alone empty (eqb (length f) 8) (is_date (date_field_of f)) Cause.Date f
 
 -- D and three digits
-unfoldable pub codeAlone : FieldCheck → List ℕ → FieldCheck
-codeAlone empty f = alone empty (eqb (length f) 4) (is_code (code_of f)) Cause.Code f
+unfoldable pub code_alone : FieldCheck → List ℕ → FieldCheck
+code_alone empty f = alone empty (eqb (length f) 4) (is_code (code_of f)) Cause.Code f
 
 -- P, L or Z
-unfoldable pub kindAlone : FieldCheck → List ℕ → FieldCheck
-kindAlone empty f = alone empty (eqb (length f) 1) (isKind (kind_of f)) Value f
+unfoldable pub kind_alone : FieldCheck → List ℕ → FieldCheck
+kind_alone empty f = alone empty (eqb (length f) 1) (is_kind (kind_of f)) Value f
 
 -- four digits
-unfoldable pub correctionCodeAlone : List ℕ → FieldCheck
-correctionCodeAlone f = alone (Wrong Length) (eqb (length f) 4) (isCorrectionCode (correctionCodeOf f)) Value f
+unfoldable pub correction_code_alone : List ℕ → FieldCheck
+correction_code_alone f = alone (Wrong Length) (eqb (length f) 4) (is_correction_code (correction_code_of f)) Value f
 
 -- a letter and a colon (58): "U:", "K:"
-unfoldable pub markAlone : ℕ → List ℕ → FieldCheck
-markAlone letter f = alone (Wrong Length) (eqb (length f) 2) (same_lists eqb f (letter ∷ 58 ∷ [])) Value f
+unfoldable pub mark_alone : ℕ → List ℕ → FieldCheck
+mark_alone letter f = alone (Wrong Length) (eqb (length f) 2) (same_lists eqb f (letter ∷ 58 ∷ [])) Value f
 
 -- nothing may stand there
-unfoldable pub nothingAlone : List ℕ → FieldCheck
-nothingAlone f = alone Right false false Length f
+unfoldable pub nothing_alone : List ℕ → FieldCheck
+nothing_alone f = alone Right false false Length f
 
 -- ---- rules over two fields: the fault of the later one, and a value, where each by itself is right
 abbrev pub allowed : FieldCheck → Bool → FieldCheck
@@ -88,30 +88,30 @@ abbrev pub is_number : NumberRead → Bool
 is_number (NumberRead.Number n) = true
 is_number NumberRead.Fault = false
 
-abbrev pub rangeFrom : DigitsRead → List ℕ → Bool
-rangeFrom (DigitsRead.Digits first) f = is_number (number_of first f)
-rangeFrom DigitsRead.Fault f = false
+abbrev pub range_from : DigitsRead → List ℕ → Bool
+range_from (DigitsRead.Digits first) f = is_number (number_of first f)
+range_from DigitsRead.Fault f = false
 
-unfoldable pub isRange : List ℕ → List ℕ → Bool
-isRange a b = rangeFrom (digitsFieldOf a) b
+unfoldable pub is_range : List ℕ → List ℕ → Bool
+is_range a b = range_from (digits_field_of a) b
 
 -- only a Z may leave the gaining network out
-abbrev pub isReturn : Kind → Bool
-isReturn P = false
-isReturn L = false
-isReturn Z = true
+abbrev pub is_return : Kind → Bool
+is_return P = false
+is_return L = false
+is_return Z = true
 
-abbrev pub returnRead : KindRead → Bool
-returnRead (KindRead.Kind k) = isReturn k
-returnRead KindRead.Fault = false
+abbrev pub return_read : KindRead → Bool
+return_read (KindRead.Kind k) = is_return k
+return_read KindRead.Fault = false
 
-unfoldable pub isNamed : List ℕ → List ℕ → Bool
-isNamed gaining status = not (eqb (length gaining) 0) || returnRead (kind_of status)
+unfoldable pub is_named : List ℕ → List ℕ → Bool
+is_named gaining status = not (eqb (length gaining) 0) || return_read (kind_of status)
 
 -- the code of an objection, 25XX
-abbrev pub objectsBy : CorrectionCodeRead → Bool
-objectsBy (CorrectionCodeRead.CorrectionCode c) = isObjection c
-objectsBy CorrectionCodeRead.Fault = false
+abbrev pub objects_by : CorrectionCodeRead → Bool
+objects_by (CorrectionCodeRead.CorrectionCode c) = is_objection c
+objects_by CorrectionCodeRead.Fault = false
 
 unfoldable pub objects : List ℕ → Bool
-objects code = objectsBy (correctionCodeOf code)
+objects code = objects_by (correction_code_of code)

@@ -1,6 +1,6 @@
 // Why a file is refused with 4, and where.
 ghost use Rattle.std.specs.Prelude.{◌≡◌};
-ghost use Rattle.faults.specs.Cause.{causeNumber};
+ghost use Rattle.faults.specs.Cause.{cause_number};
 
 // The causes in the order in which they are tried for one field: a character outside 4.4.1, a field of the wrong length, a date that doesn't
 // exist, a network code that isn't one, a value the table doesn't allow; and of a whole file: a closing record that is missing or whose count
@@ -19,7 +19,7 @@ pub enum Cause {
 impl Cause {
     // Its number for other languages, from 1.
     pub fn number(self) -> u8
-        ensures { result ≡ causeNumber self }
+        ensures { result ≡ cause_number self }
     {
         match self {
             Cause::Character => 1,

@@ -1,6 +1,6 @@
 // The fields of a line that may be damaged.
 ghost use Rattle.std.specs.Prelude.{◌≡◌, take, drop};
-ghost use Rattle.faults.specs.Cut.{rest_at, codeWidth};
+ghost use Rattle.faults.specs.Cut.{rest_at, code_width};
 
 // All that stands behind `k` commas; nothing where there are fewer.
 pub(crate) fn rest(s: &[u8], k: usize) -> &[u8]
@@ -41,7 +41,7 @@ pub(crate) fn behind(s: &[u8], n: usize) -> &[u8]
 
 // How many bytes the code of a correction has: up to `U:`, or four where that is missing.
 pub fn code_width(head: &[u8]) -> usize
-    ensures { result ≡ codeWidth head.now }
+    ensures { result ≡ code_width head.now }
 {
     let colon = text::field_end(head, 0, 58);
     if head.len() <= colon {

@@ -2,11 +2,11 @@
 ghost use Rattle.std.specs.Prelude.{◌≡◌};
 ghost use Rattle.laws.specs.Lists.{all};
 ghost use Rattle.fields.specs.Code.{code_of};
-ghost use Rattle.fields.specs.CorrectionCode.{correctionCodeOf};
-ghost use Rattle.fields.specs.Date.{dateFieldOf};
+ghost use Rattle.fields.specs.CorrectionCode.{correction_code_of};
+ghost use Rattle.fields.specs.Date.{date_field_of};
 ghost use Rattle.fields.specs.Kind.{kind_of};
-ghost use Rattle.fields.specs.Number.{digitsFieldOf};
-ghost use Rattle.faults.specs.Field.{isCharacter, isDigits, isDate, is_code, isKind, isCorrectionCode, alone, digitsAlone, dateAlone, codeAlone, kindAlone, correctionCodeAlone, markAlone, nothingAlone, allowed, isRange, isReturn, isNamed, objects};
+ghost use Rattle.fields.specs.Number.{digits_field_of};
+ghost use Rattle.faults.specs.Field.{is_character, is_digits, is_date, is_code, is_kind, is_correction_code, alone, digits_alone, date_alone, code_alone, kind_alone, correction_code_alone, mark_alone, nothing_alone, allowed, is_range, is_return, is_named, objects};
 
 use crate::cause::{Cause, FieldCheck};
 use fields::code::{Code, CodeRead};
@@ -17,13 +17,13 @@ use fields::number::{Digits, DigitsRead, Number, NumberRead};
 
 // A character of 4.4.1.
 fn is_character(b: u8) -> bool
-    ensures { result ≡ isCharacter b }
+    ensures { result ≡ is_character b }
 {
     (b == 9) | ((b == 10) | ((b == 13) | (((32 <= b) & (b <= 126)) | ((192 <= b) & (b <= 255)))))
 }
 
 fn are_characters(f: &[u8]) -> bool
-    ensures { result ≡ all isCharacter f.now }
+    ensures { result ≡ all is_character f.now }
 {
     let mut i: usize = 0;
     while i < f.len() {
@@ -36,7 +36,7 @@ fn are_characters(f: &[u8]) -> bool
 }
 
 fn is_digits(f: &[u8]) -> bool
-    ensures { result ≡ isDigits (digitsFieldOf f.now) }
+    ensures { result ≡ is_digits (digits_field_of f.now) }
 {
     match Digits::read(f) {
         DigitsRead::Digits(_) => true,
@@ -45,7 +45,7 @@ fn is_digits(f: &[u8]) -> bool
 }
 
 fn is_date(f: &[u8]) -> bool
-    ensures { result ≡ isDate (dateFieldOf f.now) }
+    ensures { result ≡ is_date (date_field_of f.now) }
 {
     match fields::date::read(f) {
         DateRead::Date(_) => true,
@@ -63,7 +63,7 @@ fn is_code(f: &[u8]) -> bool
 }
 
 fn is_kind(f: &[u8]) -> bool
-    ensures { result ≡ isKind (kind_of f.now) }
+    ensures { result ≡ is_kind (kind_of f.now) }
 {
     match Kind::read(f) {
         KindRead::Kind(_) => true,
@@ -72,7 +72,7 @@ fn is_kind(f: &[u8]) -> bool
 }
 
 fn is_correction_code(f: &[u8]) -> bool
-    ensures { result ≡ isCorrectionCode (correctionCodeOf f.now) }
+    ensures { result ≡ is_correction_code (correction_code_of f.now) }
 {
     match CorrectionCode::read(f) {
         CorrectionCodeRead::CorrectionCode(_) => true,
@@ -101,7 +101,7 @@ fn alone(f: &[u8], empty: FieldCheck, long: bool, good: bool, cause: Cause) -> F
 }
 
 pub(crate) fn digits_alone(f: &[u8], empty: FieldCheck) -> FieldCheck
-    ensures { result ≡ digitsAlone empty f.now }
+    ensures { result ≡ digits_alone empty f.now }
 {
     let long = f.len() <= 11;
     let good = is_digits(f);
@@ -109,7 +109,7 @@ pub(crate) fn digits_alone(f: &[u8], empty: FieldCheck) -> FieldCheck
 }
 
 pub(crate) fn date_alone(f: &[u8], empty: FieldCheck) -> FieldCheck
-    ensures { result ≡ dateAlone empty f.now }
+    ensures { result ≡ date_alone empty f.now }
 {
     let long = f.len() == 8;
     let good = is_date(f);
@@ -117,7 +117,7 @@ pub(crate) fn date_alone(f: &[u8], empty: FieldCheck) -> FieldCheck
 }
 
 pub(crate) fn code_alone(f: &[u8], empty: FieldCheck) -> FieldCheck
-    ensures { result ≡ codeAlone empty f.now }
+    ensures { result ≡ code_alone empty f.now }
 {
     let long = f.len() == 4;
     let good = is_code(f);
@@ -125,7 +125,7 @@ pub(crate) fn code_alone(f: &[u8], empty: FieldCheck) -> FieldCheck
 }
 
 pub(crate) fn kind_alone(f: &[u8], empty: FieldCheck) -> FieldCheck
-    ensures { result ≡ kindAlone empty f.now }
+    ensures { result ≡ kind_alone empty f.now }
 {
     let long = f.len() == 1;
     let good = is_kind(f);
@@ -133,7 +133,7 @@ pub(crate) fn kind_alone(f: &[u8], empty: FieldCheck) -> FieldCheck
 }
 
 pub(crate) fn correction_code_alone(f: &[u8]) -> FieldCheck
-    ensures { result ≡ correctionCodeAlone f.now }
+    ensures { result ≡ correction_code_alone f.now }
 {
     let long = f.len() == 4;
     let good = is_correction_code(f);
@@ -148,7 +148,7 @@ pub(crate) fn correction_code_alone(f: &[u8]) -> FieldCheck
 
 // A letter and a colon.
 pub(crate) fn mark_alone(f: &[u8], letter: u8) -> FieldCheck
-    ensures { result ≡ markAlone letter f.now }
+    ensures { result ≡ mark_alone letter f.now }
 {
     let long = f.len() == 2;
     let mark = [letter, 58];
@@ -163,7 +163,7 @@ pub(crate) fn mark_alone(f: &[u8], letter: u8) -> FieldCheck
 }
 
 pub(crate) fn nothing_alone(f: &[u8]) -> FieldCheck
-    ensures { result ≡ nothingAlone f.now }
+    ensures { result ≡ nothing_alone f.now }
 {
     alone(f, FieldCheck::Right, false, false, Cause::Length)
 }
@@ -186,7 +186,7 @@ pub(crate) fn allowed(itself: FieldCheck, rule: bool) -> FieldCheck
 
 // The second number field beside the first.
 pub(crate) fn is_range(a: &[u8], b: &[u8]) -> bool
-    ensures { result ≡ isRange a.now b.now }
+    ensures { result ≡ is_range a.now b.now }
 {
     let DigitsRead::Digits(first) = Digits::read(a) else {
         return false;
@@ -198,7 +198,7 @@ pub(crate) fn is_range(a: &[u8], b: &[u8]) -> bool
 }
 
 fn is_return(k: Kind) -> bool
-    ensures { result ≡ isReturn k }
+    ensures { result ≡ is_return k }
 {
     match k {
         Kind::P => false,
@@ -209,7 +209,7 @@ fn is_return(k: Kind) -> bool
 
 // Only a Z may leave the gaining network out.
 pub(crate) fn is_named(gaining: &[u8], status: &[u8]) -> bool
-    ensures { result ≡ isNamed gaining.now status.now }
+    ensures { result ≡ is_named gaining.now status.now }
 {
     if gaining.len() != 0 {
         return true;

@@ -1,7 +1,7 @@
 // The first field of a record that is wrong, and why.
 ghost use Rattle.std.specs.Prelude.{◌≡◌, ◌≤◌};
 ghost use Rattle.laws.specs.Split.{piece_of};
-ghost use Rattle.faults.specs.Record.{onCommas, reportFault, wholeFor, numberFor, uFault, kFault, correctionFrom, correctionFault, requestFault, recordFault, endPos};
+ghost use Rattle.faults.specs.Record.{on_commas, report_fault, whole_for, number_for, u_fault, k_fault, correction_from, correction_fault, request_fault, record_fault, end_pos};
 
 use crate::cause::{Cause, FieldCheck, RecordCheck};
 use crate::six::{on_field, on_record, six};
@@ -17,7 +17,7 @@ fn field_at(s: &[u8], k: usize) -> &[u8]
 // The first comma that is missing, where there are fewer than `most`.
 fn on_commas(most: usize, pos: usize, s: &[u8]) -> RecordCheck
     requires { (most ≤ 11) × (pos ≤ 5) }
-    ensures { result ≡ onCommas most pos s.now }
+    ensures { result ≡ on_commas most pos s.now }
 {
     let n = text::cuts(s, 44);
     if most <= n {
@@ -27,7 +27,7 @@ fn on_commas(most: usize, pos: usize, s: &[u8]) -> RecordCheck
 }
 
 fn report(s: &[u8]) -> RecordCheck
-    ensures { result ≡ reportFault s.now }
+    ensures { result ≡ report_fault s.now }
 {
     let missing = FieldCheck::Wrong(Cause::Length);
     six(
@@ -45,7 +45,7 @@ fn report(s: &[u8]) -> RecordCheck
 
 // What the U part of an objection must not leave empty.
 fn whole_for(code: &[u8]) -> FieldCheck
-    ensures { result ≡ wholeFor code.now }
+    ensures { result ≡ whole_for code.now }
 {
     if field::objects(code) {
         return FieldCheck::Wrong(Cause::Value);
@@ -55,7 +55,7 @@ fn whole_for(code: &[u8]) -> FieldCheck
 
 // With any other code one part has a number.
 fn number_for(code: &[u8], first: &[u8]) -> FieldCheck
-    ensures { result ≡ numberFor code.now first.now }
+    ensures { result ≡ number_for code.now first.now }
 {
     if field::objects(code) {
         return FieldCheck::Right;
@@ -67,7 +67,7 @@ fn number_for(code: &[u8], first: &[u8]) -> FieldCheck
 }
 
 fn u_part(code: &[u8], first: &[u8], s: &[u8]) -> RecordCheck
-    ensures { result ≡ uFault code.now first.now s.now }
+    ensures { result ≡ u_fault code.now first.now s.now }
 {
     let missing = whole_for(code);
     six(
@@ -84,7 +84,7 @@ fn u_part(code: &[u8], first: &[u8], s: &[u8]) -> RecordCheck
 }
 
 fn k_part(code: &[u8], first: &[u8], s: &[u8]) -> RecordCheck
-    ensures { result ≡ kFault code.now first.now s.now }
+    ensures { result ≡ k_fault code.now first.now s.now }
 {
     let none = number_for(code, first);
     six(
@@ -101,7 +101,7 @@ fn k_part(code: &[u8], first: &[u8], s: &[u8]) -> RecordCheck
 }
 
 fn correction_from(code: &[u8], mark: &[u8], first: &[u8], s: &[u8]) -> RecordCheck
-    ensures { result ≡ correctionFrom code.now mark.now first.now s.now }
+    ensures { result ≡ correction_from code.now mark.now first.now s.now }
 {
     let a = field::correction_code_alone(code);
     let b = field::mark_alone(mark, 85);
@@ -116,7 +116,7 @@ fn correction_from(code: &[u8], mark: &[u8], first: &[u8], s: &[u8]) -> RecordCh
 }
 
 fn correction(s: &[u8]) -> RecordCheck
-    ensures { result ≡ correctionFault s.now }
+    ensures { result ≡ correction_fault s.now }
 {
     let head = field_at(s, 0);
     let width = cut::code_width(head);
@@ -130,7 +130,7 @@ fn correction(s: &[u8]) -> RecordCheck
 }
 
 fn request(s: &[u8]) -> RecordCheck
-    ensures { result ≡ requestFault s.now }
+    ensures { result ≡ request_fault s.now }
 {
     let a = field::code_alone(field_at(s, 0), FieldCheck::Wrong(Cause::Length));
     let b = field::date_alone(field_at(s, 1), FieldCheck::Right);
@@ -141,7 +141,7 @@ fn request(s: &[u8]) -> RecordCheck
 }
 
 fn search(kind: FileKind, line: &[u8]) -> RecordCheck
-    ensures { result ≡ recordFault kind line.now }
+    ensures { result ≡ record_fault kind line.now }
 {
     match kind {
         FileKind::Default => report(line),
@@ -153,7 +153,7 @@ fn search(kind: FileKind, line: &[u8]) -> RecordCheck
 
 // The first field of a line that is wrong, if it is no record of a file of this kind. Records are told soon; only what is none is searched.
 pub fn check(kind: FileKind, line: &[u8]) -> RecordCheck
-    ensures { result ≡ recordFault kind line.now }
+    ensures { result ≡ record_fault kind line.now }
 {
     if records::line::is_record(kind, line) {
         return RecordCheck::Right;
@@ -163,7 +163,7 @@ pub fn check(kind: FileKind, line: &[u8]) -> RecordCheck
 
 // The "Pos." of the CR that ends a record.
 pub fn end_pos(kind: FileKind) -> usize
-    ensures { result ≡ endPos kind }
+    ensures { result ≡ end_pos kind }
 {
     match kind {
         FileKind::Default => 12,

@@ -1,13 +1,13 @@
 // The six fields of a report, or of a part of a correction.
 ghost use Rattle.std.specs.Prelude.{◌≡◌, ◌≤◌};
-ghost use Rattle.faults.specs.Six.{onField, onRecord, isRight, isNamedOr, onNumbers, onNetworks, sixFault};
+ghost use Rattle.faults.specs.Six.{on_field, on_record, is_right, is_named_or, on_numbers, on_networks, six_fault};
 
 use crate::cause::{FieldCheck, RecordCheck};
 use crate::field;
 
 // A field that is right leaves the answer to those behind it.
 pub(crate) fn on_field(pos: usize, check: FieldCheck, others: RecordCheck) -> RecordCheck
-    ensures { result ≡ onField pos check others }
+    ensures { result ≡ on_field pos check others }
 {
     match check {
         FieldCheck::Right => others,
@@ -16,7 +16,7 @@ pub(crate) fn on_field(pos: usize, check: FieldCheck, others: RecordCheck) -> Re
 }
 
 pub(crate) fn on_record(check: RecordCheck, others: RecordCheck) -> RecordCheck
-    ensures { result ≡ onRecord check others }
+    ensures { result ≡ on_record check others }
 {
     match check {
         RecordCheck::Right => others,
@@ -25,7 +25,7 @@ pub(crate) fn on_record(check: RecordCheck, others: RecordCheck) -> RecordCheck
 }
 
 fn is_right(check: FieldCheck) -> bool
-    ensures { result ≡ isRight check }
+    ensures { result ≡ is_right check }
 {
     match check {
         FieldCheck::Right => true,
@@ -34,7 +34,7 @@ fn is_right(check: FieldCheck) -> bool
 }
 
 fn is_named_or(missing: FieldCheck, gaining: &[u8], status: &[u8]) -> bool
-    ensures { result ≡ isNamedOr missing gaining.now status.now }
+    ensures { result ≡ is_named_or missing gaining.now status.now }
 {
     let free = is_right(missing);
     let named = field::is_named(gaining, status);
@@ -50,7 +50,7 @@ fn on_numbers(
     others: RecordCheck,
 ) -> RecordCheck
     requires { pos ≤ 16 }
-    ensures { result ≡ onNumbers pos none first.now last.now others }
+    ensures { result ≡ on_numbers pos none first.now last.now others }
 {
     let a = field::digits_alone(first, none);
     let alone = field::digits_alone(last, FieldCheck::Right);
@@ -69,7 +69,7 @@ fn on_networks(
     status: &[u8],
 ) -> RecordCheck
     requires { pos ≤ 22 }
-    ensures { result ≡ onNetworks pos missing gaining.now losing.now status.now }
+    ensures { result ≡ on_networks pos missing gaining.now losing.now status.now }
 {
     let a = field::code_alone(gaining, FieldCheck::Right);
     let b = field::code_alone(losing, missing);
@@ -94,7 +94,7 @@ pub(crate) fn six(
     status: &[u8],
 ) -> RecordCheck
     requires { pos ≤ 16 }
-    ensures { result ≡ sixFault pos none missing first.now last.now date.now gaining.now losing.now status.now }
+    ensures { result ≡ six_fault pos none missing first.now last.now date.now gaining.now losing.now status.now }
 {
     let networks = on_networks(pos + 6, missing, gaining, losing, status);
     let dated = field::date_alone(date, missing);

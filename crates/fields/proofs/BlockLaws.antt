@@ -15,11 +15,11 @@ use Rattle.laws.proofs.Tests.{le-or-lt, eqb_refl}
 use Rattle.laws.proofs.Same.{same-equal, same_refl}
 use Rattle.laws.proofs.Tables.{any_none, any_next, any_here, any-stops, stays-false}
 use Rattle.laws.proofs.Digits.{length_digits, digits_append, down-down, down-next, spelt-digits}
-use Rattle.fields.specs.Block.{lastDigits, without, is, endsIn, lastDigit, nearly, decadeBy, someDecade}
+use Rattle.fields.specs.Block.{last_digits, without, is, ends_in, last_digit, nearly, decade_by, some_decade}
 
 -- ---- the last n of k digits, and those before them
-last_digits : (n k a : ℕ) → n ≤ k → lastDigits n (digits k a) ≡ digits n a
-last_digits n k a h =
+last_digits_lem : (n k a : ℕ) → n ≤ k → last_digits n (digits k a) ≡ digits n a
+last_digits_lem n k a h =
     let e : k ≡ k - n + n = omega arith in
     ap (λ (j : ℕ). drop (j - n) (digits k a)) (length_digits k a)
     ∙ ap (drop (k - n)) (ap (λ (j : ℕ). digits j a) e ∙ digits_append (k - n) n a)
@@ -49,7 +49,7 @@ same_digits i x y h = go (same_lists eqb (digits i x) (digits i y)) (eqb x y) re
         let e : x ≡ y = eqb-true x y q in
         sym p ∙ ap (λ (z : ℕ). same_lists eqb (digits i x) (digits i z)) (sym e) ∙ same_refl eqb eqb_refl (digits i x)
 
-last_of : (i x : ℕ) → lastDigit (digits (suc i) x) ≡ 48 + x % 10
+last_of : (i x : ℕ) → last_digit (digits (suc i) x) ≡ 48 + x % 10
 unfolding digits
 last_of i x =
     let l : length (digits (suc i) x) - 1 ≡ i = omega (arith, length_digits (suc i) x) in
@@ -88,15 +88,15 @@ pub record Turn (k a b x y n : ℕ) : Type 0 where
   pub right : y ≡ down n b
   pub zeros : all (is 48) (digits n a) ≡ true
   pub nines : all (is 57) (digits n b) ≡ true
-  pub nothing : any (decadeBy (digits k a) (digits k b)) (table n suc) ≡ false
+  pub nothing : any (decade_by (digits k a) (digits k b)) (table n suc) ≡ false
 
 pub turn-first : (k a b : ℕ) → Turn k a b a b 0
 unfolding down digits all
-turn-first k a b = record { within = omega arith; left = refl; right = refl; zeros = refl; nines = refl; nothing = any_none (decadeBy (digits k a) (digits k b)) suc }
+turn-first k a b = record { within = omega arith; left = refl; right = refl; zeros = refl; nines = refl; nothing = any_none (decade_by (digits k a) (digits k b)) suc }
 
-some_of : (k a b : ℕ) → someDecade (digits k a) (digits k b) ≡ any (decadeBy (digits k a) (digits k b)) (table k suc)
-unfolding someDecade
-some_of k a b = ap (λ (j : ℕ). any (decadeBy (digits k a) (digits k b)) (table j suc)) (length_digits k a)
+some_of : (k a b : ℕ) → some_decade (digits k a) (digits k b) ≡ any (decade_by (digits k a) (digits k b)) (table k suc)
+unfolding some_decade
+some_of k a b = ap (λ (j : ℕ). any (decade_by (digits k a) (digits k b)) (table j suc)) (length_digits k a)
 
 -- a digit that is not d stays among the last ones
 never : (d n a m : ℕ) → (48 + down n a % 10 ≡ d → ⊥) → n < m → all (is d) (digits m a) ≡ false
@@ -105,23 +105,23 @@ never d n a m other h =
     stays-false (λ (i : ℕ). all (is d) (digits i a)) step (n + 1) m (omega arith) (all-next-digit d n a ∙ rw (ne_eqb (48 + down n a % 10) d other))
 
 module _ {k a b x y n : ℕ} (t : Turn k a b x y n) where
-  pub turn_end : k ≤ n → false ≡ someDecade (digits k a) (digits k b)
+  pub turn_end : k ≤ n → false ≡ some_decade (digits k a) (digits k b)
   turn_end h =
       let e : n ≡ k = omega (arith, t.within) in
-      sym (some_of k a b ∙ ap (λ (j : ℕ). any (decadeBy (digits k a) (digits k b)) (table j suc)) (sym e) ∙ t.nothing)
+      sym (some_of k a b ∙ ap (λ (j : ℕ). any (decade_by (digits k a) (digits k b)) (table j suc)) (sym e) ∙ t.nothing)
 
   -- the digit is no zero, or no nine: nor will it be
-  pub turn-no-zero : n < k → (x % 10 ≡ 0 → ⊥) → false ≡ someDecade (digits k a) (digits k b)
-  unfolding decadeBy
+  pub turn-no-zero : n < k → (x % 10 ≡ 0 → ⊥) → false ≡ some_decade (digits k a) (digits k b)
+  unfolding decade_by
   turn-no-zero h other =
-      let far : (i : ℕ) → n ≤ i → i < k → decadeBy (digits k a) (digits k b) (suc i) ≡ false = λ i p q. rw (last_digits (suc i) k a (omega arith), never 48 n a (suc i) (λ e. other (omega (arith, t.left))) (omega arith)) in
-      sym (some_of k a b ∙ any-stops (decadeBy (digits k a) (digits k b)) n k suc t.within t.nothing far)
+      let far : (i : ℕ) → n ≤ i → i < k → decade_by (digits k a) (digits k b) (suc i) ≡ false = λ i p q. rw (last_digits_lem (suc i) k a (omega arith), never 48 n a (suc i) (λ e. other (omega (arith, t.left))) (omega arith)) in
+      sym (some_of k a b ∙ any-stops (decade_by (digits k a) (digits k b)) n k suc t.within t.nothing far)
 
-  pub turn-no-nine : n < k → (y % 10 ≡ 9 → ⊥) → false ≡ someDecade (digits k a) (digits k b)
-  unfolding decadeBy
+  pub turn-no-nine : n < k → (y % 10 ≡ 9 → ⊥) → false ≡ some_decade (digits k a) (digits k b)
+  unfolding decade_by
   turn-no-nine h other =
-      let far : (i : ℕ) → n ≤ i → i < k → decadeBy (digits k a) (digits k b) (suc i) ≡ false = λ i p q. rw (last_digits (suc i) k b (omega arith), never 57 n b (suc i) (λ e. other (omega (arith, t.right))) (omega arith)) (and-false (endsIn 48 (suc i) (digits k a))) in
-      sym (some_of k a b ∙ any-stops (decadeBy (digits k a) (digits k b)) n k suc t.within t.nothing far)
+      let far : (i : ℕ) → n ≤ i → i < k → decade_by (digits k a) (digits k b) (suc i) ≡ false = λ i p q. rw (last_digits_lem (suc i) k b (omega arith), never 57 n b (suc i) (λ e. other (omega (arith, t.right))) (omega arith)) (and-false (ends_in 48 (suc i) (digits k a))) in
+      sym (some_of k a b ∙ any-stops (decade_by (digits k a) (digits k b)) n k suc t.within t.nothing far)
 
   module _ (heads : (down k a ≡ 1) × (down k b ≡ 1)) (h : n < k) (zero-here : x % 10 ≡ 0) (nine-here : y % 10 ≡ 9) where
     more-zeros : all (is 48) (digits (n + 1) a) ≡ true
@@ -130,8 +130,8 @@ module _ {k a b x y n : ℕ} (t : Turn k a b x y n) where
     more-nines : all (is 57) (digits (n + 1) b) ≡ true
     more-nines = all-next-digit 57 n b ∙ rw (eq-eqb (48 + down n b % 10) 57 (omega (arith, t.right)), t.nines)
 
-    here : decadeBy (digits k a) (digits k b) (suc n) ≡ (eqb (x / 10 / 10) (y / 10 / 10) && leb (x / 10) (y / 10))
-    unfolding decadeBy
+    here : decade_by (digits k a) (digits k b) (suc n) ≡ (eqb (x / 10 / 10) (y / 10 / 10) && leb (x / 10) (y / 10))
+    unfolding decade_by
     here =
         let e : suc n ≡ n + 1 = omega arith in
         let w : suc n ≤ k = h in
@@ -140,12 +140,12 @@ module _ {k a b x y n : ℕ} (t : Turn k a b x y n) where
         let db : down (suc n) b ≡ y / 10 = ap (λ (i : ℕ). down i b) e ∙ down-next n b ∙ ap (λ (z : ℕ). z / 10) (sym t.right) in
         let heads-same : down (k - suc n) (x / 10) ≡ down (k - suc n) (y / 10) =
         ap (down (k - suc n)) (sym da) ∙ down-down (k - suc n) (suc n) a ∙ ap (λ (i : ℕ). down i a) j ∙ heads.0 ∙ sym heads.1 ∙ ap (λ (i : ℕ). down i b) (sym j) ∙ sym (down-down (k - suc n) (suc n) b) ∙ ap (down (k - suc n)) db in
-        ap₂ ◌&&◌ (ap (all (is 48)) (last_digits (suc n) k a w ∙ ap (λ (i : ℕ). digits i a) e) ∙ more-zeros)
-        (ap₂ ◌&&◌ (ap (all (is 57)) (last_digits (suc n) k b w ∙ ap (λ (i : ℕ). digits i b) e) ∙ more-nines)
+        ap₂ ◌&&◌ (ap (all (is 48)) (last_digits_lem (suc n) k a w ∙ ap (λ (i : ℕ). digits i a) e) ∙ more-zeros)
+        (ap₂ ◌&&◌ (ap (all (is 57)) (last_digits_lem (suc n) k b w ∙ ap (λ (i : ℕ). digits i b) e) ∙ more-nines)
         (ap₂ nearly (first-digits (suc n) k a w ∙ ap (digits (k - suc n)) da) (first-digits (suc n) k b w ∙ ap (digits (k - suc n)) db) ∙ nearly-digits (k - suc n) (x / 10) (y / 10) heads-same))
 
-    pub turn-found : (eqb (x / 10 / 10) (y / 10 / 10) && leb (x / 10) (y / 10)) ≡ true → true ≡ someDecade (digits k a) (digits k b)
-    turn-found p = sym (some_of k a b ∙ any_here (decadeBy (digits k a) (digits k b)) k n suc h (here ∙ p))
+    pub turn-found : (eqb (x / 10 / 10) (y / 10 / 10) && leb (x / 10) (y / 10)) ≡ true → true ≡ some_decade (digits k a) (digits k b)
+    turn-found p = sym (some_of k a b ∙ any_here (decade_by (digits k a) (digits k b)) k n suc h (here ∙ p))
 
     pub turn_on : (eqb (x / 10 / 10) (y / 10 / 10) && leb (x / 10) (y / 10)) ≡ false → Turn k a b (x / 10) (y / 10) (n + 1)
     turn_on p =
@@ -155,5 +155,5 @@ module _ {k a b x y n : ℕ} (t : Turn k a b x y n) where
           right = ap (λ (z : ℕ). z / 10) t.right ∙ sym (down-next n b);
           zeros = more-zeros;
           nines = more-nines;
-          nothing = any_next (decadeBy (digits k a) (digits k b)) n suc t.nothing (here ∙ p);
+          nothing = any_next (decade_by (digits k a) (digits k b)) n suc t.nothing (here ∙ p);
         }

@@ -3,8 +3,8 @@ use Prim.Native.Nat.{ℕ}
 use mathlib.Core.Path.{◌≡◌, refl}
 use mathlib.Core.Bool.{true}
 use Rattle.laws.specs.Lists.{all}
-use Rattle.laws.specs.Digits.{isDigit, digits}
-use Rattle.laws.proofs.Digits.{all_digits}
+use Rattle.laws.specs.Digits.{is_digit, digits}
+use Rattle.laws.proofs.Digits.{all_digits_lem}
 use Rattle.laws.proofs.Tables.{all_weaker}
 use Rattle.fields.specs.declared.code.Code.{Code}
 use Rattle.fields.specs.declared.code.MaybeCode.{MaybeCode}
@@ -12,33 +12,33 @@ use Rattle.fields.specs.declared.date.MaybeDate.{MaybeDate}
 use Rattle.fields.specs.declared.kind.Kind.{Kind}
 use Rattle.fields.specs.declared.kind.Kind.TheVariants.{P, L, Z}
 use Rattle.fields.specs.declared.kind.MaybeKind.{MaybeKind}
-use Rattle.fields.specs.Bytes.{fieldByte}
-use Rattle.fields.specs.Code.{codeText, maybeCodeText}
-use Rattle.fields.specs.Date.{maybeDateText, spelling}
-use Rattle.fields.specs.Kind.{maybeKindText}
-use Rattle.calendar.specs.Answers.{dateOf}
+use Rattle.fields.specs.Bytes.{field_byte}
+use Rattle.fields.specs.Code.{code_text, maybe_code_text}
+use Rattle.fields.specs.Date.{maybe_date_text, spelling}
+use Rattle.fields.specs.Kind.{maybe_kind_text}
+use Rattle.calendar.specs.Answers.{date_of}
 
-digit-byte : (b : ℕ) → isDigit b ≡ true → fieldByte b ≡ true
-unfolding fieldByte
+digit-byte : (b : ℕ) → is_digit b ≡ true → field_byte b ≡ true
+unfolding field_byte
 digit-byte b e = rw e
 
-pub bytes-digits : (k n : ℕ) → all fieldByte (digits k n) ≡ true
-bytes-digits k n = all_weaker isDigit fieldByte digit-byte (digits k n) (all_digits k n)
+pub bytes-digits : (k n : ℕ) → all field_byte (digits k n) ≡ true
+bytes-digits k n = all_weaker is_digit field_byte digit-byte (digits k n) (all_digits_lem k n)
 
-pub bytes-code : (c : Code) → all fieldByte (codeText c) ≡ true
-unfolding all fieldByte isDigit
+pub bytes-code : (c : Code) → all field_byte (code_text c) ≡ true
+unfolding all field_byte is_digit
 bytes-code c = bytes-digits 3 c.0
 
-pub bytes-maybe-code : (c : MaybeCode) → all fieldByte (maybeCodeText c) ≡ true
+pub bytes-maybe-code : (c : MaybeCode) → all field_byte (maybe_code_text c) ≡ true
 bytes-maybe-code (MaybeCode.Code c) = bytes-code c
 bytes-maybe-code MaybeCode.Empty = unfold all in refl
 
-pub bytes-maybe-date : (d : MaybeDate) → all fieldByte (maybeDateText d) ≡ true
-bytes-maybe-date (MaybeDate.Date d) = bytes-digits 8 (spelling (dateOf d.0))
+pub bytes-maybe-date : (d : MaybeDate) → all field_byte (maybe_date_text d) ≡ true
+bytes-maybe-date (MaybeDate.Date d) = bytes-digits 8 (spelling (date_of d.0))
 bytes-maybe-date MaybeDate.Empty = unfold all in refl
 
-pub bytes-maybe-kind : (k : MaybeKind) → all fieldByte (maybeKindText k) ≡ true
-unfolding all fieldByte isDigit
+pub bytes-maybe-kind : (k : MaybeKind) → all field_byte (maybe_kind_text k) ≡ true
+unfolding all field_byte is_digit
 bytes-maybe-kind (MaybeKind.Kind P) = refl
 bytes-maybe-kind (MaybeKind.Kind L) = refl
 bytes-maybe-kind (MaybeKind.Kind Z) = refl

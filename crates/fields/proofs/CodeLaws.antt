@@ -12,13 +12,13 @@ use Rattle.laws.specs.Digits.{digits}
 use Rattle.laws.proofs.Digits.{length_digits}
 use Rattle.text.specs.declared.Spelt.{Spelt}
 use Rattle.text.specs.declared.Spelt.TheVariants.{Value}
-use Rattle.text.specs.Spelt.{digitsOf}
+use Rattle.text.specs.Spelt.{digits_of}
 use Rattle.text.proofs.Spelling.{fixed-trip, fixed_back}
 use Rattle.fields.specs.declared.code.Code.{Code}
 use Rattle.fields.specs.declared.code.CodeRead.{CodeRead}
 use Rattle.fields.specs.declared.code.MaybeCode.{MaybeCode}
 use Rattle.fields.specs.declared.code.MaybeCodeRead.{MaybeCodeRead}
-use Rattle.fields.specs.Code.{codeFrom, code_of, codeFits, codeText, maybeCodeFrom, maybeCodeOf, maybeCodeFits, maybeCodeText}
+use Rattle.fields.specs.Code.{code_from, code_of, code_fits, code_text, maybe_code_from, maybe_code_of, maybe_code_fits, maybe_code_text}
 
 module _ (f : List ℕ) where
   pub code-length : (length f ≡ 4 → ⊥) → code_of f ≡ CodeRead.Fault
@@ -29,7 +29,7 @@ module _ (f : List ℕ) where
   unfolding code_of
   code-letter e n = rw (eq-eqb (length f) 4 e, ne_eqb (get_or f 0 0) 68 n)
 
-  code-rest : length f ≡ 4 → get_or f 0 0 ≡ 68 → code_of f ≡ codeFrom (digitsOf false (drop 1 f))
+  code-rest : length f ≡ 4 → get_or f 0 0 ≡ 68 → code_of f ≡ code_from (digits_of false (drop 1 f))
   unfolding code_of
   code-rest e d = rw (eq-eqb (length f) 4 e, eq-eqb (get_or f 0 0) 68 d)
 
@@ -38,34 +38,34 @@ rest : (k : ℕ) (f : List ℕ) → take (length f - k) (drop k f) ≡ drop k f
 rest k f = take_all (length f - k) (drop k f) (simp length-drop (omega arith))
 
 -- what `read` makes of the answer of `read_digits`
-pub code_read : (f : List ℕ) (r : Spelt) → length f ≡ 4 → get_or f 0 0 ≡ 68 → r ≡ digitsOf false (take (length f - 1) (drop 1 f)) → code_of f ≡ codeFrom r
-code_read f r e d p = code-rest f e d ∙ ap codeFrom (ap (digitsOf false) (sym (rest 1 f)) ∙ sym p)
+pub code_read : (f : List ℕ) (r : Spelt) → length f ≡ 4 → get_or f 0 0 ≡ 68 → r ≡ digits_of false (take (length f - 1) (drop 1 f)) → code_of f ≡ code_from r
+code_read f r e d p = code-rest f e d ∙ ap code_from (ap (digits_of false) (sym (rest 1 f)) ∙ sym p)
 
-pub three-below : (f : List ℕ) (v : ℕ) → length f ≡ 4 → digitsOf false (take (length f - 1) (drop 1 f)) ≡ Value v → v < 1000
+pub three-below : (f : List ℕ) (v : ℕ) → length f ≡ 4 → digits_of false (take (length f - 1) (drop 1 f)) ≡ Value v → v < 1000
 three-below f v e d = (fixed_back 3 (drop 1 f) v (simp length-drop (omega arith)) (rw rest at d)).1
 
-pub length-code : (c : Code) → length (codeText c) ≡ 4
+pub length-code : (c : Code) → length (code_text c) ≡ 4
 length-code c = rw (length_digits 3 c.0)
 
 -- what was written is read back
-pub code-trip : (c : Code) → codeFits c ≡ true → code_of (codeText c) ≡ CodeRead.Code c
-unfolding codeFrom
+pub code-trip : (c : Code) → code_fits c ≡ true → code_of (code_text c) ≡ CodeRead.Code c
+unfolding code_from
 code-trip c h =
     let small : c.0 < 10 ^ 3 = omega (arith, leb-true c.0 999 h) in
-    code-rest (codeText c) (length-code c) refl ∙ ap codeFrom (fixed-trip 3 c.0 (omega arith) small)
+    code-rest (code_text c) (length-code c) refl ∙ ap code_from (fixed-trip 3 c.0 (omega arith) small)
 
 -- what was read is written again
-pub code-back : (f : List ℕ) (c : Code) → code_of f ≡ CodeRead.Code c → (codeText c ≡ f) × (codeFits c ≡ true)
-unfolding code_of codeFrom
-code-back f c h = go f (eqb (length f) 4) (eqb (get_or f 0 0) 68) refl refl (digitsOf false (drop 1 f)) refl h
+pub code-back : (f : List ℕ) (c : Code) → code_of f ≡ CodeRead.Code c → (code_text c ≡ f) × (code_fits c ≡ true)
+unfolding code_of code_from
+code-back f c h = go f (eqb (length f) 4) (eqb (get_or f 0 0) 68) refl refl (digits_of false (drop 1 f)) refl h
   where
-    spelled : (f : List ℕ) (x : ℕ) → length f ≡ 4 → get_or f 0 0 ≡ 68 → digitsOf false (drop 1 f) ≡ Value x → (68 ∷ digits 3 x ≡ f) × (x ≤ 999)
+    spelled : (f : List ℕ) (x : ℕ) → length f ≡ 4 → get_or f 0 0 ≡ 68 → digits_of false (drop 1 f) ≡ Value x → (68 ∷ digits 3 x ≡ f) × (x ≤ 999)
     spelled [] x e d q = absurd (omega arith)
     spelled (b ∷ g) x e d q =
         let w = fixed_back 3 g x (omega arith) q in
         (ap₂ ◌∷◌ (sym d) w.0, omega (arith, w.1))
 
-    go : (f : List ℕ) (s t : Bool) → eqb (length f) 4 ≡ s → eqb (get_or f 0 0) 68 ≡ t → (v : Spelt) → digitsOf false (drop 1 f) ≡ v → cond (s && t) (codeFrom v) CodeRead.Fault ≡ CodeRead.Code c → (codeText c ≡ f) × (codeFits c ≡ true)
+    go : (f : List ℕ) (s t : Bool) → eqb (length f) 4 ≡ s → eqb (get_or f 0 0) 68 ≡ t → (v : Spelt) → digits_of false (drop 1 f) ≡ v → cond (s && t) (code_from v) CodeRead.Fault ≡ CodeRead.Code c → (code_text c ≡ f) × (code_fits c ≡ true)
     go f true true p q (Value x) r e =
         let whole : ◌≡◌ {A = Code} (record { 0 = x }) c = cc in
         let both = spelled f x (eqb-true (length f) 4 p) (eqb-true (get_or f 0 0) 68 q) r in
@@ -75,19 +75,19 @@ code-back f c h = go f (eqb (length f) 4) (eqb (get_or f 0 0) 68) refl refl (dig
     go f false t p q v r e = absurd (let z : ◌≡◌ {A = ℕ} 0 1 = cc in omega arith)
 
 -- ---- a field that may be empty
-pub maybe-code-trip : (c : MaybeCode) → maybeCodeFits c ≡ true → maybeCodeOf (maybeCodeText c) ≡ MaybeCodeRead.MaybeCode c
-unfolding maybeCodeOf maybeCodeFrom
-maybe-code-trip (MaybeCode.Code c) h = rw (length-code c) (ap maybeCodeFrom (code-trip c h))
+pub maybe-code-trip : (c : MaybeCode) → maybe_code_fits c ≡ true → maybe_code_of (maybe_code_text c) ≡ MaybeCodeRead.MaybeCode c
+unfolding maybe_code_of maybe_code_from
+maybe-code-trip (MaybeCode.Code c) h = rw (length-code c) (ap maybe_code_from (code-trip c h))
 maybe-code-trip MaybeCode.Empty h = refl
 
-pub maybe-code-back : (f : List ℕ) (c : MaybeCode) → maybeCodeOf f ≡ MaybeCodeRead.MaybeCode c → (maybeCodeText c ≡ f) × (maybeCodeFits c ≡ true)
-unfolding maybeCodeOf maybeCodeFrom
+pub maybe-code-back : (f : List ℕ) (c : MaybeCode) → maybe_code_of f ≡ MaybeCodeRead.MaybeCode c → (maybe_code_text c ≡ f) × (maybe_code_fits c ≡ true)
+unfolding maybe_code_of maybe_code_from
 maybe-code-back [] c h =
     let e : MaybeCode.Empty ≡ c = cc in
     (rw (← e), rw (← e))
 maybe-code-back (b ∷ f) c h = go (code_of (b ∷ f)) refl (rw (ne_eqb (length (b ∷ f)) 0 (λ z. omega arith)) at h)
   where
-    go : (r : CodeRead) → code_of (b ∷ f) ≡ r → maybeCodeFrom r ≡ MaybeCodeRead.MaybeCode c → (maybeCodeText c ≡ b ∷ f) × (maybeCodeFits c ≡ true)
+    go : (r : CodeRead) → code_of (b ∷ f) ≡ r → maybe_code_from r ≡ MaybeCodeRead.MaybeCode c → (maybe_code_text c ≡ b ∷ f) × (maybe_code_fits c ≡ true)
     go (CodeRead.Code x) q e =
         let w : MaybeCode.Code x ≡ c = cc in
         rw (← w) (code-back (b ∷ f) x q)

@@ -13,7 +13,7 @@ use Rattle.laws.proofs.Tests.{and_left, and_right, le-or-lt}
 use Rattle.laws.proofs.Digits.{length_digits}
 use Rattle.text.specs.declared.Spelt.{Spelt}
 use Rattle.text.specs.declared.Spelt.TheVariants.{Value}
-use Rattle.text.specs.Spelt.{digitsOf}
+use Rattle.text.specs.Spelt.{digits_of}
 use Rattle.text.proofs.Spelling.{fixed-trip, fixed_back}
 use Rattle.calendar.specs.declared.dates.CalendarDays.{CalendarDays}
 use Rattle.calendar.specs.declared.dates.Date.{Date}
@@ -21,14 +21,14 @@ use Rattle.calendar.specs.declared.dates.Dated.{Dated}
 use Rattle.calendar.specs.declared.dates.Dated.TheVariants.{At, Beyond}
 use Rattle.calendar.specs.declared.dates.Found.{Found}
 use Rattle.calendar.specs.declared.dates.Found.TheVariants.{Day}
-use Rattle.calendar.specs.Dates.{inCalendar, valid, monthDays, dayNumber, yearOf, yearStart}
-use Rattle.calendar.specs.Answers.{dayOf, dateIn, dateOf}
-use Rattle.calendar.proofs.DateLaws.{monthDays-none, monthDays-le}
+use Rattle.calendar.specs.Dates.{in_calendar, valid, month_days, day_number, year_of, year_start}
+use Rattle.calendar.specs.Answers.{day_of, date_in, date_of}
+use Rattle.calendar.proofs.DateLaws.{month_days-none, month_days-le}
 use Rattle.calendar.proofs.Dating.{date-back, day-back}
 use Rattle.fields.specs.declared.date.DateRead.{DateRead}
 use Rattle.fields.specs.declared.date.MaybeDate.{MaybeDate}
 use Rattle.fields.specs.declared.date.MaybeDateRead.{MaybeDateRead}
-use Rattle.fields.specs.Date.{dateSpelt, dateFound, dateFrom, dateFieldOf, dateFits, spelling, dateText, maybeDateFrom, maybeDateOf, maybeDateFits, maybeDateText}
+use Rattle.fields.specs.Date.{date_spelt, date_found, date_from, date_field_of, date_fits, spelling, date_text, maybe_date_from, maybe_date_of, maybe_date_fits, maybe_date_text}
 
 -- ---- a date of the calendar has two digits for the day, two for the month and four for the year
 valid-small : (y m d : ℕ) → valid y m d ≡ true → (y < 10000) × (m < 100) × (d < 100)
@@ -37,21 +37,21 @@ valid-small y m d e =
     let a = and_right (leb 1998 y) _ e in
     let b = and_right (leb y 2049) _ a in
     let low = leb-true 1 d (and_left (leb 1 d) _ b) in
-    let most = leb-true d (monthDays y m) (and_right (leb 1 d) _ b) in
+    let most = leb-true d (month_days y m) (and_right (leb 1 d) _ b) in
     let to = leb-true y 2049 (and_left (leb y 2049) _ a) in
-    let real : m < 100 = ⊎_elim (λ (h : 100 ≤ m). absurd (omega (arith, monthDays-none y m (omega arith)))) (λ (h : m < 100). h) (le-or-lt 100 m) in
-    (omega arith, real, omega (arith, monthDays-le y m))
+    let real : m < 100 = ⊎_elim (λ (h : 100 ≤ m). absurd (omega (arith, month_days-none y m (omega arith)))) (λ (h : m < 100). h) (le-or-lt 100 m) in
+    (omega arith, real, omega (arith, month_days-le y m))
 
-small : (x : Date) (d : CalendarDays) → dayOf x ≡ Day d → (x.year < 10000) × (x.month < 100) × (x.day < 100)
-unfolding dayOf
+small : (x : Date) (d : CalendarDays) → day_of x ≡ Day d → (x.year < 10000) × (x.month < 100) × (x.day < 100)
+unfolding day_of
 small x d e = go (valid x.year x.month x.day) refl e
   where
-    go : (t : Bool) → valid x.year x.month x.day ≡ t → cond t (Day (record { 0 = dayNumber x.year x.month x.day })) Found.Fault ≡ Day d → (x.year < 10000) × (x.month < 100) × (x.day < 100)
+    go : (t : Bool) → valid x.year x.month x.day ≡ t → cond t (Day (record { 0 = day_number x.year x.month x.day })) Found.Fault ≡ Day d → (x.year < 10000) × (x.month < 100) × (x.day < 100)
     go true p q = valid-small x.year x.month x.day p
     go false p q = absurd (let z : ◌≡◌ {A = ℕ} 0 1 = cc in omega arith)
 
 -- ddmmyyyy of a date names it
-spelt-date : (x : Date) → (x.year < 10000) × (x.month < 100) × (x.day < 100) → (dateSpelt (spelling (At x)) ≡ x) × (spelling (At x) < 10 ^ 8)
+spelt-date : (x : Date) → (x.year < 10000) × (x.month < 100) × (x.day < 100) → (date_spelt (spelling (At x)) ≡ x) × (spelling (At x) < 10 ^ 8)
 unfolding spelling
 spelt-date x h =
     let n : ℕ = x.day * 1000000 + x.month * 10000 + x.year in
@@ -61,68 +61,68 @@ spelt-date x h =
     let d : n / 1000000 ≡ x.day = omega (arith, h.0, h.1, h.2) in
     (λ k. record { year = y k; month = m k; day = d k }, omega (arith, h.0, h.1, h.2))
 
-spelling-back : (n : ℕ) → spelling (At (dateSpelt n)) ≡ n
+spelling-back : (n : ℕ) → spelling (At (date_spelt n)) ≡ n
 unfolding spelling
 spelling-back n = omega arith
 
 -- which days have a date
-dated-inside : (n : ℕ) (x : Date) → dateOf n ≡ At x → inCalendar n ≡ true
-unfolding dateOf
-dated-inside n x e = go (inCalendar n) refl e
+dated-inside : (n : ℕ) (x : Date) → date_of n ≡ At x → in_calendar n ≡ true
+unfolding date_of
+dated-inside n x e = go (in_calendar n) refl e
   where
-    go : (t : Bool) → inCalendar n ≡ t → cond t (At (dateIn (yearOf n) (n - yearStart (yearOf n)))) Beyond ≡ At x → inCalendar n ≡ true
+    go : (t : Bool) → in_calendar n ≡ t → cond t (At (date_in (year_of n) (n - year_start (year_of n)))) Beyond ≡ At x → in_calendar n ≡ true
     go true p q = p
     go false p q = absurd (let z : ◌≡◌ {A = ℕ} 0 1 = cc in omega arith)
 
-inside-dated : (n : ℕ) → inCalendar n ≡ true → (x : Date) × (dateOf n ≡ At x)
-unfolding dateOf
-inside-dated n h = (dateIn (yearOf n) (n - yearStart (yearOf n)), rw h)
+inside-dated : (n : ℕ) → in_calendar n ≡ true → (x : Date) × (date_of n ≡ At x)
+unfolding date_of
+inside-dated n h = (date_in (year_of n) (n - year_start (year_of n)), rw h)
 
 -- what was written is read back
-pub date-trip : (d : CalendarDays) → dateFits d ≡ true → dateFieldOf (dateText d) ≡ DateRead.Date d
-unfolding dateFieldOf dateFrom dateFound
+pub date-trip : (d : CalendarDays) → date_fits d ≡ true → date_field_of (date_text d) ≡ DateRead.Date d
+unfolding date_field_of date_from date_found
 date-trip d h =
     let at = inside-dated d.0 h in
     let x = at.0 in
-    let day : dayOf x ≡ Day d = day-back d.0 x at.1 in
+    let day : day_of x ≡ Day d = day-back d.0 x at.1 in
     let s = spelt-date x (small x d day) in
-    ap (λ (y : Dated). dateFieldOf (digits 8 (spelling y))) at.1
-    ∙ rw (length_digits, fixed-trip 8 (spelling (At x)) (omega arith) s.1) (ap dateFound (ap dayOf s.0 ∙ day))
+    ap (λ (y : Dated). date_field_of (digits 8 (spelling y))) at.1
+    ∙ rw (length_digits, fixed-trip 8 (spelling (At x)) (omega arith) s.1) (ap date_found (ap day_of s.0 ∙ day))
 
 -- what was read is written again
-pub date-field-back : (f : List ℕ) (d : CalendarDays) → dateFieldOf f ≡ DateRead.Date d → (dateText d ≡ f) × (dateFits d ≡ true)
-unfolding dateFieldOf dateFrom dateFound
-date-field-back f d h = go (eqb (length f) 8) refl (digitsOf false f) refl h
+pub date-field-back : (f : List ℕ) (d : CalendarDays) → date_field_of f ≡ DateRead.Date d → (date_text d ≡ f) × (date_fits d ≡ true)
+unfolding date_field_of date_from date_found
+date-field-back f d h = go (eqb (length f) 8) refl (digits_of false f) refl h
   where
-    found : (n : ℕ) (r : Found) → dayOf (dateSpelt n) ≡ r → dateFound r ≡ DateRead.Date d → dayOf (dateSpelt n) ≡ Day d
+    found : (n : ℕ) (r : Found) → day_of (date_spelt n) ≡ r → date_found r ≡ DateRead.Date d → day_of (date_spelt n) ≡ Day d
     found n (Day e) p q = let w : e ≡ d = cc in p ∙ ap Day w
     found n Found.Fault p q = absurd (let z : ◌≡◌ {A = ℕ} 0 1 = cc in omega arith)
 
-    go : (t : Bool) → eqb (length f) 8 ≡ t → (v : Spelt) → digitsOf false f ≡ v → cond t (dateFrom v) DateRead.Fault ≡ DateRead.Date d → (dateText d ≡ f) × (dateFits d ≡ true)
+    go : (t : Bool) → eqb (length f) 8 ≡ t → (v : Spelt) → digits_of false f ≡ v → cond t (date_from v) DateRead.Fault ≡ DateRead.Date d → (date_text d ≡ f) × (date_fits d ≡ true)
     go true p (Value n) q e =
         let w = fixed_back 8 f n (eqb-true (length f) 8 p) q in
-        let at = date-back (dateSpelt n) d.0 (found n (dayOf (dateSpelt n)) refl e) in
-        (ap (λ (y : Dated). digits 8 (spelling y)) at ∙ ap (digits 8) (spelling-back n) ∙ w.0, dated-inside d.0 (dateSpelt n) at)
+        let at = date-back (date_spelt n) d.0 (found n (day_of (date_spelt n)) refl e) in
+        (ap (λ (y : Dated). digits 8 (spelling y)) at ∙ ap (digits 8) (spelling-back n) ∙ w.0, dated-inside d.0 (date_spelt n) at)
     go true p Spelt.Fault q e = absurd (let z : ◌≡◌ {A = ℕ} 0 1 = cc in omega arith)
     go false p v q e = absurd (let z : ◌≡◌ {A = ℕ} 0 1 = cc in omega arith)
 
 -- ---- a field that may be empty
-pub length-date : (d : CalendarDays) → length (dateText d) ≡ 8
-length-date d = length_digits 8 (spelling (dateOf d.0))
+pub length-date : (d : CalendarDays) → length (date_text d) ≡ 8
+length-date d = length_digits 8 (spelling (date_of d.0))
 
-pub maybe-date-trip : (d : MaybeDate) → maybeDateFits d ≡ true → maybeDateOf (maybeDateText d) ≡ MaybeDateRead.MaybeDate d
-unfolding maybeDateOf maybeDateFrom
-maybe-date-trip (MaybeDate.Date d) h = rw (length-date d) (ap maybeDateFrom (date-trip d h))
+pub maybe-date-trip : (d : MaybeDate) → maybe_date_fits d ≡ true → maybe_date_of (maybe_date_text d) ≡ MaybeDateRead.MaybeDate d
+unfolding maybe_date_of maybe_date_from
+maybe-date-trip (MaybeDate.Date d) h = rw (length-date d) (ap maybe_date_from (date-trip d h))
 maybe-date-trip MaybeDate.Empty h = refl
 
-pub maybe-date-back : (f : List ℕ) (d : MaybeDate) → maybeDateOf f ≡ MaybeDateRead.MaybeDate d → (maybeDateText d ≡ f) × (maybeDateFits d ≡ true)
-unfolding maybeDateOf maybeDateFrom
+pub maybe-date-back : (f : List ℕ) (d : MaybeDate) → maybe_date_of f ≡ MaybeDateRead.MaybeDate d → (maybe_date_text d ≡ f) × (maybe_date_fits d ≡ true)
+unfolding maybe_date_of maybe_date_from
 maybe-date-back [] d h =
     let e : MaybeDate.Empty ≡ d = cc in
     (rw (← e), rw (← e))
-maybe-date-back (b ∷ f) d h = go (dateFieldOf (b ∷ f)) refl (rw (ne_eqb (length (b ∷ f)) 0 (λ z. omega arith)) at h)
+maybe-date-back (b ∷ f) d h = go (date_field_of (b ∷ f)) refl (rw (ne_eqb (length (b ∷ f)) 0 (λ z. omega arith)) at h)
   where
-    go : (r : DateRead) → dateFieldOf (b ∷ f) ≡ r → maybeDateFrom r ≡ MaybeDateRead.MaybeDate d → (maybeDateText d ≡ b ∷ f) × (maybeDateFits d ≡ true)
+    go : (r : DateRead) → date_field_of (b ∷ f) ≡ r → maybe_date_from r ≡ MaybeDateRead.MaybeDate d → (maybe_date_text d ≡ b ∷ f) × (maybe_date_fits d ≡ true)
     go (DateRead.Date x) q e =
         let w : MaybeDate.Date x ≡ d = cc in
         rw (← w) (date-field-back (b ∷ f) x q)

@@ -2,9 +2,9 @@
 use mathlib.Core.Path.{refl}
 use Rattle.laws.specs.Lists.{any, all, table, same_lists}
 use Rattle.laws.specs.Digits.{digits}
-use Rattle.fields.specs.Block.{is, nearly, decadeBy, someDecade, block}
+use Rattle.fields.specs.Block.{is, nearly, decade_by, some_decade, block}
 use Rattle.fields.specs.Examples.{Agreed}
 
 pub agreed : Agreed
-unfolding digits block someDecade any all table same_lists decadeBy nearly is
+unfolding digits block some_decade any all table same_lists decade_by nearly is
 agreed = refl

@@ -12,16 +12,16 @@ use Rattle.fields.specs.declared.kind.Kind.TheVariants.{P, L, Z}
 use Rattle.fields.specs.declared.kind.KindRead.{KindRead}
 use Rattle.fields.specs.declared.kind.MaybeKind.{MaybeKind}
 use Rattle.fields.specs.declared.kind.MaybeKindRead.{MaybeKindRead}
-use Rattle.fields.specs.Kind.{kindBy, kind_of, kindText, maybeKindFrom, maybeKindOf, maybeKindText}
+use Rattle.fields.specs.Kind.{kind_by, kind_of, kind_text, maybe_kind_from, maybe_kind_of, maybe_kind_text}
 
-pub length-kind : (k : Kind) → length (kindText k) ≡ 1
+pub length-kind : (k : Kind) → length (kind_text k) ≡ 1
 length-kind P = refl
 length-kind L = refl
 length-kind Z = refl
 
 -- what was written is read back
-pub kind-trip : (k : Kind) → kind_of (kindText k) ≡ KindRead.Kind k
-unfolding kind_of kindBy
+pub kind-trip : (k : Kind) → kind_of (kind_text k) ≡ KindRead.Kind k
+unfolding kind_of kind_by
 kind-trip P = refl
 kind-trip L = refl
 kind-trip Z = refl
@@ -30,15 +30,15 @@ kind-same : (j k : Kind) → KindRead.Kind j ≡ KindRead.Kind k → j ≡ k
 kind-same j k e = cc
 
 -- what was read is written again
-pub kind-back : (f : List ℕ) (k : Kind) → kind_of f ≡ KindRead.Kind k → kindText k ≡ f
-unfolding kind_of kindBy
+pub kind-back : (f : List ℕ) (k : Kind) → kind_of f ≡ KindRead.Kind k → kind_text k ≡ f
+unfolding kind_of kind_by
 kind-back [] k e = absurd (let z : ◌≡◌ {A = ℕ} 0 1 = cc in omega arith)
 kind-back (b ∷ []) k e = go (eqb b 80) (eqb b 76) (eqb b 90) refl refl refl e
   where
-    letter : (m : ℕ) (j : Kind) → kindText j ≡ m ∷ [] → b ≡ m → j ≡ k → kindText k ≡ b ∷ []
-    letter m j t p q = ap kindText (sym q) ∙ t ∙ ap (λ (x : ℕ). x ∷ []) (sym p)
+    letter : (m : ℕ) (j : Kind) → kind_text j ≡ m ∷ [] → b ≡ m → j ≡ k → kind_text k ≡ b ∷ []
+    letter m j t p q = ap kind_text (sym q) ∙ t ∙ ap (λ (x : ℕ). x ∷ []) (sym p)
 
-    go : (p l z : Bool) → eqb b 80 ≡ p → eqb b 76 ≡ l → eqb b 90 ≡ z → cond p (KindRead.Kind P) (cond l (KindRead.Kind L) (cond z (KindRead.Kind Z) KindRead.Fault)) ≡ KindRead.Kind k → kindText k ≡ b ∷ []
+    go : (p l z : Bool) → eqb b 80 ≡ p → eqb b 76 ≡ l → eqb b 90 ≡ z → cond p (KindRead.Kind P) (cond l (KindRead.Kind L) (cond z (KindRead.Kind Z) KindRead.Fault)) ≡ KindRead.Kind k → kind_text k ≡ b ∷ []
     go true l z p q r e =
         let w : P ≡ k = kind-same P k e in
         letter 80 P refl (eqb-true b 80 p) w
@@ -54,19 +54,19 @@ kind-back (b ∷ b' ∷ f) k e =
     absurd (let z : ◌≡◌ {A = ℕ} 0 1 = cc in omega arith)
 
 -- ---- a field that may be empty
-pub maybe-kind-trip : (k : MaybeKind) → maybeKindOf (maybeKindText k) ≡ MaybeKindRead.MaybeKind k
-unfolding maybeKindOf maybeKindFrom
-maybe-kind-trip (MaybeKind.Kind k) = rw (length-kind k) (ap maybeKindFrom (kind-trip k))
+pub maybe-kind-trip : (k : MaybeKind) → maybe_kind_of (maybe_kind_text k) ≡ MaybeKindRead.MaybeKind k
+unfolding maybe_kind_of maybe_kind_from
+maybe-kind-trip (MaybeKind.Kind k) = rw (length-kind k) (ap maybe_kind_from (kind-trip k))
 maybe-kind-trip MaybeKind.Empty = refl
 
-pub maybe-kind-back : (f : List ℕ) (k : MaybeKind) → maybeKindOf f ≡ MaybeKindRead.MaybeKind k → maybeKindText k ≡ f
-unfolding maybeKindOf maybeKindFrom
+pub maybe-kind-back : (f : List ℕ) (k : MaybeKind) → maybe_kind_of f ≡ MaybeKindRead.MaybeKind k → maybe_kind_text k ≡ f
+unfolding maybe_kind_of maybe_kind_from
 maybe-kind-back [] k h =
     let e : MaybeKind.Empty ≡ k = cc in
     rw (← e)
 maybe-kind-back (b ∷ f) k h = go (kind_of (b ∷ f)) refl (rw (ne_eqb (length (b ∷ f)) 0 (λ z. omega arith)) at h)
   where
-    go : (r : KindRead) → kind_of (b ∷ f) ≡ r → maybeKindFrom r ≡ MaybeKindRead.MaybeKind k → maybeKindText k ≡ b ∷ f
+    go : (r : KindRead) → kind_of (b ∷ f) ≡ r → maybe_kind_from r ≡ MaybeKindRead.MaybeKind k → maybe_kind_text k ≡ b ∷ f
     go (KindRead.Kind x) q e =
         let w : MaybeKind.Kind x ≡ k = cc in
         rw (← w) (kind-back (b ∷ f) x q)

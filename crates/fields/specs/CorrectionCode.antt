@@ -3,27 +3,27 @@ use Rattle.std.specs.Prelude.{ℕ, ◌/◌, Bool, false, cond, List, leb, eqb, l
 use Rattle.laws.specs.Digits.{digits}
 use Rattle.text.specs.declared.Spelt.{Spelt}
 use Rattle.text.specs.declared.Spelt.TheVariants.{Value}
-use Rattle.text.specs.Spelt.{digitsOf}
+use Rattle.text.specs.Spelt.{digits_of}
 use Rattle.fields.specs.declared.correction_code.CorrectionCode.{CorrectionCode}
 use Rattle.fields.specs.declared.correction_code.CorrectionCodeRead.{CorrectionCodeRead}
 
-unfoldable pub correctionCodeFrom : Spelt → CorrectionCodeRead
-correctionCodeFrom (Value n) = CorrectionCodeRead.CorrectionCode (record { 0 = n })
-correctionCodeFrom Spelt.Fault = CorrectionCodeRead.Fault
+unfoldable pub correction_code_from : Spelt → CorrectionCodeRead
+correction_code_from (Value n) = CorrectionCodeRead.CorrectionCode (record { 0 = n })
+correction_code_from Spelt.Fault = CorrectionCodeRead.Fault
 
 -- four digits
-unfoldable pub correctionCodeOf : List ℕ → CorrectionCodeRead
-correctionCodeOf f = cond (eqb (length f) 4) (correctionCodeFrom (digitsOf false f)) CorrectionCodeRead.Fault
+unfoldable pub correction_code_of : List ℕ → CorrectionCodeRead
+correction_code_of f = cond (eqb (length f) 4) (correction_code_from (digits_of false f)) CorrectionCodeRead.Fault
 
-abbrev pub correctionCodeFits : CorrectionCode → Bool
-correctionCodeFits c = leb c.0 9999
+abbrev pub correction_code_fits : CorrectionCode → Bool
+correction_code_fits c = leb c.0 9999
 
-unfoldable pub correctionCodeOfWord : ℕ → CorrectionCodeRead
-correctionCodeOfWord w = cond (leb w 9999) (CorrectionCodeRead.CorrectionCode (record { 0 = w })) CorrectionCodeRead.Fault
+unfoldable pub correction_code_of_word : ℕ → CorrectionCodeRead
+correction_code_of_word w = cond (leb w 9999) (CorrectionCodeRead.CorrectionCode (record { 0 = w })) CorrectionCodeRead.Fault
 
 -- 25XX
-abbrev pub isObjection : CorrectionCode → Bool
-isObjection c = eqb (c.0 / 100) 25
+abbrev pub is_objection : CorrectionCode → Bool
+is_objection c = eqb (c.0 / 100) 25
 
-abbrev pub correctionCodeText : CorrectionCode → List ℕ
-correctionCodeText c = digits 4 c.0
+abbrev pub correction_code_text : CorrectionCode → List ℕ
+correction_code_text c = digits 4 c.0

@@ -5,10 +5,10 @@ use Rattle.fields.specs.declared.gaining.Gaining.{Gaining}
 use Rattle.fields.specs.declared.gaining.Gaining.TheVariants.{Owner}
 
 -- an empty field stands for the owner
-abbrev pub gainingOf : MaybeCode → Gaining
-gainingOf (MaybeCode.Code c) = Gaining.Code c
-gainingOf Empty = Owner
+abbrev pub gaining_of : MaybeCode → Gaining
+gaining_of (MaybeCode.Code c) = Gaining.Code c
+gaining_of Empty = Owner
 
-abbrev pub gainingField : Gaining → MaybeCode
-gainingField (Gaining.Code c) = MaybeCode.Code c
-gainingField Owner = Empty
+abbrev pub gaining_field : Gaining → MaybeCode
+gaining_field (Gaining.Code c) = MaybeCode.Code c
+gaining_field Owner = Empty

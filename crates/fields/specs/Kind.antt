@@ -8,34 +8,34 @@ use Rattle.fields.specs.declared.kind.MaybeKind.TheVariants.{Empty}
 use Rattle.fields.specs.declared.kind.MaybeKindRead.{MaybeKindRead}
 
 -- P, L and Z by three marks
-unfoldable pub kindBy : ℕ → ℕ → ℕ → ℕ → KindRead
-kindBy p l z b = cond (eqb b p) (KindRead.Kind P) (cond (eqb b l) (KindRead.Kind L) (cond (eqb b z) (KindRead.Kind Z) KindRead.Fault))
+unfoldable pub kind_by : ℕ → ℕ → ℕ → ℕ → KindRead
+kind_by p l z b = cond (eqb b p) (KindRead.Kind P) (cond (eqb b l) (KindRead.Kind L) (cond (eqb b z) (KindRead.Kind Z) KindRead.Fault))
 
 -- one byte: 'P' (80), 'L' (76) or 'Z' (90)
 unfoldable pub kind_of : List ℕ → KindRead
-kind_of f = cond (eqb (length f) 1) (kindBy 80 76 90 (get_or f 0 0)) KindRead.Fault
+kind_of f = cond (eqb (length f) 1) (kind_by 80 76 90 (get_or f 0 0)) KindRead.Fault
 
-abbrev pub kindOfWord : ℕ → KindRead
-kindOfWord w = kindBy 0 1 2 w
+abbrev pub kind_of_word : ℕ → KindRead
+kind_of_word w = kind_by 0 1 2 w
 
-abbrev pub kindText : Kind → List ℕ
-kindText P = 80 ∷ []
-kindText L = 76 ∷ []
-kindText Z = 90 ∷ []
+abbrev pub kind_text : Kind → List ℕ
+kind_text P = 80 ∷ []
+kind_text L = 76 ∷ []
+kind_text Z = 90 ∷ []
 
 -- ---- a field that may be empty
 
-unfoldable pub maybeKindFrom : KindRead → MaybeKindRead
-maybeKindFrom (KindRead.Kind k) = MaybeKindRead.MaybeKind (MaybeKind.Kind k)
-maybeKindFrom KindRead.Fault = MaybeKindRead.Fault
+unfoldable pub maybe_kind_from : KindRead → MaybeKindRead
+maybe_kind_from (KindRead.Kind k) = MaybeKindRead.MaybeKind (MaybeKind.Kind k)
+maybe_kind_from KindRead.Fault = MaybeKindRead.Fault
 
-unfoldable pub maybeKindOf : List ℕ → MaybeKindRead
-maybeKindOf f = cond (eqb (length f) 0) (MaybeKindRead.MaybeKind Empty) (maybeKindFrom (kind_of f))
+unfoldable pub maybe_kind_of : List ℕ → MaybeKindRead
+maybe_kind_of f = cond (eqb (length f) 0) (MaybeKindRead.MaybeKind Empty) (maybe_kind_from (kind_of f))
 
 -- the word 3 stands for an empty field
-unfoldable pub maybeKindOfWord : ℕ → MaybeKindRead
-maybeKindOfWord w = cond (eqb w 3) (MaybeKindRead.MaybeKind Empty) (maybeKindFrom (kindOfWord w))
+unfoldable pub maybe_kind_of_word : ℕ → MaybeKindRead
+maybe_kind_of_word w = cond (eqb w 3) (MaybeKindRead.MaybeKind Empty) (maybe_kind_from (kind_of_word w))
 
-abbrev pub maybeKindText : MaybeKind → List ℕ
-maybeKindText (MaybeKind.Kind k) = kindText k
-maybeKindText Empty = []
+abbrev pub maybe_kind_text : MaybeKind → List ℕ
+maybe_kind_text (MaybeKind.Kind k) = kind_text k
+maybe_kind_text Empty = []

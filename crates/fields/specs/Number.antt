@@ -3,7 +3,7 @@ use Rattle.std.specs.Prelude.{ℕ, Bool, true, cond, ◌&&◌, List, leb, eqb, l
 use Rattle.laws.specs.Digits.{digits, down, size_of}
 use Rattle.text.specs.declared.Spelt.{Spelt}
 use Rattle.text.specs.declared.Spelt.TheVariants.{Value}
-use Rattle.text.specs.Spelt.{digitsOf}
+use Rattle.text.specs.Spelt.{digits_of}
 use Rattle.fields.specs.declared.number.Digits.{Digits}
 use Rattle.fields.specs.declared.number.DigitsRead.{DigitsRead}
 use Rattle.fields.specs.declared.number.Number.{Number}
@@ -12,43 +12,43 @@ use Rattle.fields.specs.Block.{block}
 
 -- ---- one field: at most 11 digits, behind a leading 1
 
-unfoldable pub digitsFrom : Spelt → DigitsRead
-digitsFrom (Value n) = DigitsRead.Digits (record { 0 = n })
-digitsFrom Spelt.Fault = DigitsRead.Fault
+unfoldable pub digits_from : Spelt → DigitsRead
+digits_from (Value n) = DigitsRead.Digits (record { 0 = n })
+digits_from Spelt.Fault = DigitsRead.Fault
 
-unfoldable pub digitsFieldOf : List ℕ → DigitsRead
-digitsFieldOf f = cond (leb (length f) 11) (digitsFrom (digitsOf true f)) DigitsRead.Fault
+unfoldable pub digits_field_of : List ℕ → DigitsRead
+digits_field_of f = cond (leb (length f) 11) (digits_from (digits_of true f)) DigitsRead.Fault
 
 -- how many digits follow the leading 1
-abbrev pub digitsSize : Digits → ℕ
-digitsSize d = size_of 12 d.0
+abbrev pub digits_size : Digits → ℕ
+digits_size d = size_of 12 d.0
 
-unfoldable pub digitsFits : Digits → Bool
-digitsFits d = leb (digitsSize d) 11 && eqb (down (digitsSize d) d.0) 1
+unfoldable pub digits_fits : Digits → Bool
+digits_fits d = leb (digits_size d) 11 && eqb (down (digits_size d) d.0) 1
 
 abbrev pub is_empty : Digits → Bool
 is_empty d = eqb d.0 1
 
-abbrev pub digitsText : Digits → List ℕ
-digitsText d = digits (digitsSize d) d.0
+abbrev pub digits_text : Digits → List ℕ
+digits_text d = digits (digits_size d) d.0
 
 -- ---- both fields: the second is empty, or the last number of a block whose first number is the first field's
 
 -- two fields that are a block
-unfoldable pub blockFits : Digits → Digits → Bool
-blockFits first last = digitsFits first && (digitsFits last && block (digitsText first) (digitsText last))
+unfoldable pub block_fits : Digits → Digits → Bool
+block_fits first last = digits_fits first && (digits_fits last && block (digits_text first) (digits_text last))
 
-unfoldable pub numberFrom : Digits → DigitsRead → NumberRead
-numberFrom first (DigitsRead.Digits last) = cond (blockFits first last) (NumberRead.Number (record { first = first; last = last })) NumberRead.Fault
-numberFrom first DigitsRead.Fault = NumberRead.Fault
+unfoldable pub number_from : Digits → DigitsRead → NumberRead
+number_from first (DigitsRead.Digits last) = cond (block_fits first last) (NumberRead.Number (record { first = first; last = last })) NumberRead.Fault
+number_from first DigitsRead.Fault = NumberRead.Fault
 
 -- the second field f beside the first
 unfoldable pub number_of : Digits → List ℕ → NumberRead
-number_of first f = cond (eqb (length f) 0) (NumberRead.Number (record { first = first; last = record { 0 = 1 } })) (numberFrom first (digitsFieldOf f))
+number_of first f = cond (eqb (length f) 0) (NumberRead.Number (record { first = first; last = record { 0 = 1 } })) (number_from first (digits_field_of f))
 
-unfoldable pub numberFits : Number → Bool
-numberFits n = cond (is_empty n.last) (digitsFits n.first) (blockFits n.first n.last)
+unfoldable pub number_fits : Number → Bool
+number_fits n = cond (is_empty n.last) (digits_fits n.first) (block_fits n.first n.last)
 
 -- two numbers are the same exactly if they agree field by field
-unfoldable pub sameNumber : Number → Number → Bool
-sameNumber a b = eqb a.first.0 b.first.0 && eqb a.last.0 b.last.0
+unfoldable pub same_number : Number → Number → Bool
+same_number a b = eqb a.first.0 b.first.0 && eqb a.last.0 b.last.0

@@ -1,7 +1,7 @@
 // A network code: D and three digits, known by the number that they spell.
 ghost use Rattle.std.specs.Prelude.{◌≡◌, true, ◌+◌, ◌≤◌, length};
 ghost use Rattle.laws.specs.Overlay.{Laid};
-ghost use Rattle.fields.specs.Code.{code_of, codeFits, codeOfWord, codeText, maybeCodeOfWord, maybeCodeFits, maybeCodeText};
+ghost use Rattle.fields.specs.Code.{code_of, code_fits, code_of_word, code_text, maybe_code_of_word, maybe_code_fits, maybe_code_text};
 
 use text::Spelt;
 
@@ -36,14 +36,14 @@ impl Code {
 
     // Whether three digits spell it.
     pub fn fits(self) -> bool
-        ensures { result ≡ codeFits self }
+        ensures { result ≡ code_fits self }
     {
         self.0 <= Code::HIGHEST.0
     }
 
     // From a plain word.
     pub fn of_word(w: u64) -> CodeRead
-        ensures { result ≡ codeOfWord w }
+        ensures { result ≡ code_of_word w }
     {
         if 999 < w {
             return CodeRead::Fault;
@@ -53,8 +53,8 @@ impl Code {
 
     // Into its field, which can hold it.
     pub fn write(self, out: &mut [u8], at: usize) -> usize
-        requires { (at + length (codeText self) ≤ length out.old) × (codeFits self ≡ true) }
-        ensures { Laid out.old at (codeText self) out.new result }
+        requires { (at + length (code_text self) ≤ length out.old) × (code_fits self ≡ true) }
+        ensures { Laid out.old at (code_text self) out.new result }
     {
         let behind = text::put_byte(out, at, 68);
         text::put_digits(out, behind, 3, self.0 as u64)
@@ -79,7 +79,7 @@ impl MaybeCode {
     pub const NONE: u64 = 1000;
 
     pub fn of_word(w: u64) -> MaybeCodeRead
-        ensures { result ≡ maybeCodeOfWord w }
+        ensures { result ≡ maybe_code_of_word w }
     {
         if w == MaybeCode::NONE {
             return MaybeCodeRead::MaybeCode(MaybeCode::Empty);
@@ -91,7 +91,7 @@ impl MaybeCode {
     }
 
     pub fn len(self) -> usize
-        ensures { result ≡ length (maybeCodeText self) }
+        ensures { result ≡ length (maybe_code_text self) }
     {
         match self {
             MaybeCode::Code(_) => 4,
@@ -100,8 +100,8 @@ impl MaybeCode {
     }
 
     pub fn write(self, out: &mut [u8], at: usize) -> usize
-        requires { (at + length (maybeCodeText self) ≤ length out.old) × (maybeCodeFits self ≡ true) }
-        ensures { Laid out.old at (maybeCodeText self) out.new result }
+        requires { (at + length (maybe_code_text self) ≤ length out.old) × (maybe_code_fits self ≡ true) }
+        ensures { Laid out.old at (maybe_code_text self) out.new result }
     {
         match self {
             MaybeCode::Code(c) => c.write(out, at),

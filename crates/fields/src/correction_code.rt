@@ -1,7 +1,7 @@
 // The code of a correction: four digits, known by the number that they spell. 25XX is an objection.
 ghost use Rattle.std.specs.Prelude.{◌≡◌, true, ◌+◌, ◌≤◌, length};
 ghost use Rattle.laws.specs.Overlay.{Laid};
-ghost use Rattle.fields.specs.CorrectionCode.{correctionCodeOf, correctionCodeOfWord, isObjection, correctionCodeFits, correctionCodeText};
+ghost use Rattle.fields.specs.CorrectionCode.{correction_code_of, correction_code_of_word, is_objection, correction_code_fits, correction_code_text};
 
 use text::Spelt;
 
@@ -16,7 +16,7 @@ pub enum CorrectionCodeRead {
 
 impl CorrectionCode {
     pub fn read(f: &[u8]) -> CorrectionCodeRead
-        ensures { result ≡ correctionCodeOf f.now }
+        ensures { result ≡ correction_code_of f.now }
     {
         if f.len() != 4 {
             return CorrectionCodeRead::Fault;
@@ -28,7 +28,7 @@ impl CorrectionCode {
     }
 
     pub fn of_word(w: u64) -> CorrectionCodeRead
-        ensures { result ≡ correctionCodeOfWord w }
+        ensures { result ≡ correction_code_of_word w }
     {
         if 9999 < w {
             return CorrectionCodeRead::Fault;
@@ -38,14 +38,14 @@ impl CorrectionCode {
 
     // 25XX
     pub fn is_objection(self) -> bool
-        ensures { result ≡ isObjection self }
+        ensures { result ≡ is_objection self }
     {
         self.0 / 100 == 25
     }
 
     pub fn write(self, out: &mut [u8], at: usize) -> usize
-        requires { (at + length (correctionCodeText self) ≤ length out.old) × (correctionCodeFits self ≡ true) }
-        ensures { Laid out.old at (correctionCodeText self) out.new result }
+        requires { (at + length (correction_code_text self) ≤ length out.old) × (correction_code_fits self ≡ true) }
+        ensures { Laid out.old at (correction_code_text self) out.new result }
     {
         text::put_digits(out, at, 4, self.0 as u64)
     }

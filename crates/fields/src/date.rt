@@ -1,8 +1,8 @@
 // A date: ddmmyyyy, a day of the calendar.
 ghost use Rattle.std.specs.Prelude.{◌≡◌, true, ◌+◌, ◌≤◌, length};
 ghost use Rattle.laws.specs.Overlay.{Laid};
-ghost use Rattle.calendar.specs.Answers.{dateOf};
-ghost use Rattle.fields.specs.Date.{dateFieldOf, dateOfWord, spelling, dateFits, dateText, maybeDateOf, maybeDateOfWord, maybeDateFits, maybeDateText};
+ghost use Rattle.calendar.specs.Answers.{date_of};
+ghost use Rattle.fields.specs.Date.{date_field_of, date_of_word, spelling, date_fits, date_text, maybe_date_of, maybe_date_of_word, maybe_date_fits, maybe_date_text};
 
 use calendar::dates::{CalendarDays, Date, Dated, Found};
 use text::Spelt;
@@ -14,7 +14,7 @@ pub enum DateRead {
 }
 
 pub fn read(f: &[u8]) -> DateRead
-    ensures { result ≡ dateFieldOf f.now }
+    ensures { result ≡ date_field_of f.now }
 {
     if f.len() != 8 {
         return DateRead::Fault;
@@ -35,7 +35,7 @@ pub fn read(f: &[u8]) -> DateRead
 
 // From a plain word: the number of a day of the calendar.
 pub fn of_word(w: u64) -> DateRead
-    ensures { result ≡ dateOfWord w }
+    ensures { result ≡ date_of_word w }
 {
     if 18992 < w {
         return DateRead::Fault;
@@ -45,7 +45,7 @@ pub fn of_word(w: u64) -> DateRead
 
 // ddmmyyyy as one number.
 fn spell(d: CalendarDays) -> u64
-    ensures { result ≡ spelling (dateOf d.0) }
+    ensures { result ≡ spelling (date_of d.0) }
 {
     match calendar::dates::date_of(d) {
         Dated::At(x) => x.day as u64 * 1000000 + x.month as u64 * 10000 + x.year as u64,
@@ -54,8 +54,8 @@ fn spell(d: CalendarDays) -> u64
 }
 
 pub(crate) fn write(d: CalendarDays, out: &mut [u8], at: usize) -> usize
-    requires { (at + length (dateText d) ≤ length out.old) × (dateFits d ≡ true) }
-    ensures { Laid out.old at (dateText d) out.new result }
+    requires { (at + length (date_text d) ≤ length out.old) × (date_fits d ≡ true) }
+    ensures { Laid out.old at (date_text d) out.new result }
 {
     text::put_digits(out, at, 8, spell(d))
 }
@@ -78,7 +78,7 @@ impl MaybeDate {
     pub const NONE: u64 = 65535;
 
     pub fn read(f: &[u8]) -> MaybeDateRead
-        ensures { result ≡ maybeDateOf f.now }
+        ensures { result ≡ maybe_date_of f.now }
     {
         if f.len() == 0 {
             return MaybeDateRead::MaybeDate(MaybeDate::Empty);
@@ -90,7 +90,7 @@ impl MaybeDate {
     }
 
     pub fn of_word(w: u64) -> MaybeDateRead
-        ensures { result ≡ maybeDateOfWord w }
+        ensures { result ≡ maybe_date_of_word w }
     {
         if w == MaybeDate::NONE {
             return MaybeDateRead::MaybeDate(MaybeDate::Empty);
@@ -102,7 +102,7 @@ impl MaybeDate {
     }
 
     pub fn len(self) -> usize
-        ensures { result ≡ length (maybeDateText self) }
+        ensures { result ≡ length (maybe_date_text self) }
     {
         match self {
             MaybeDate::Date(_) => 8,
@@ -111,8 +111,8 @@ impl MaybeDate {
     }
 
     pub fn write(self, out: &mut [u8], at: usize) -> usize
-        requires { (at + length (maybeDateText self) ≤ length out.old) × (maybeDateFits self ≡ true) }
-        ensures { Laid out.old at (maybeDateText self) out.new result }
+        requires { (at + length (maybe_date_text self) ≤ length out.old) × (maybe_date_fits self ≡ true) }
+        ensures { Laid out.old at (maybe_date_text self) out.new result }
     {
         match self {
             MaybeDate::Date(d) => write(d, out, at),

@@ -1,6 +1,6 @@
 // The gaining network of a report: a code, or nothing, which stands for the owner of the number.
 ghost use Rattle.std.specs.Prelude.{◌≡◌};
-ghost use Rattle.fields.specs.Gaining.{gainingOf, gainingField};
+ghost use Rattle.fields.specs.Gaining.{gaining_of, gaining_field};
 
 use crate::code::{Code, MaybeCode};
 
@@ -13,7 +13,7 @@ pub enum Gaining {
 impl Gaining {
     // What its field says.
     pub fn of(field: MaybeCode) -> Gaining
-        ensures { result ≡ gainingOf field }
+        ensures { result ≡ gaining_of field }
     {
         match field {
             MaybeCode::Code(c) => Gaining::Code(c),
@@ -23,7 +23,7 @@ impl Gaining {
 
     // What stands in its field.
     pub fn field(self) -> MaybeCode
-        ensures { result ≡ gainingField self }
+        ensures { result ≡ gaining_field self }
     {
         match self {
             Gaining::Code(c) => MaybeCode::Code(c),

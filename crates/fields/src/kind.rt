@@ -1,7 +1,7 @@
 // The kind of a report, which its status field names: gained (P), lost (L), given back (Z).
 ghost use Rattle.std.specs.Prelude.{◌≡◌, ◌+◌, ◌≤◌, length};
 ghost use Rattle.laws.specs.Overlay.{Laid};
-ghost use Rattle.fields.specs.Kind.{kind_of, kindOfWord, kindText, maybeKindOfWord, maybeKindText};
+ghost use Rattle.fields.specs.Kind.{kind_of, kind_of_word, kind_text, maybe_kind_of_word, maybe_kind_text};
 
 #[derive(Drop)]
 pub enum Kind {
@@ -33,7 +33,7 @@ impl Kind {
 
     // From a plain word: P is 0, L is 1, Z is 2.
     pub fn of_word(w: u64) -> KindRead
-        ensures { result ≡ kindOfWord w }
+        ensures { result ≡ kind_of_word w }
     {
         match w {
             0 => KindRead::Kind(Kind::P),
@@ -44,8 +44,8 @@ impl Kind {
     }
 
     pub fn write(self, out: &mut [u8], at: usize) -> usize
-        requires { at + length (kindText self) ≤ length out.old }
-        ensures { Laid out.old at (kindText self) out.new result }
+        requires { at + length (kind_text self) ≤ length out.old }
+        ensures { Laid out.old at (kind_text self) out.new result }
     {
         match self {
             Kind::P => text::put_byte(out, at, 80),
@@ -73,7 +73,7 @@ impl MaybeKind {
     pub const NONE: u64 = 3;
 
     pub fn of_word(w: u64) -> MaybeKindRead
-        ensures { result ≡ maybeKindOfWord w }
+        ensures { result ≡ maybe_kind_of_word w }
     {
         if w == MaybeKind::NONE {
             return MaybeKindRead::MaybeKind(MaybeKind::Empty);
@@ -85,7 +85,7 @@ impl MaybeKind {
     }
 
     pub fn len(self) -> usize
-        ensures { result ≡ length (maybeKindText self) }
+        ensures { result ≡ length (maybe_kind_text self) }
     {
         match self {
             MaybeKind::Kind(_) => 1,
@@ -94,8 +94,8 @@ impl MaybeKind {
     }
 
     pub fn write(self, out: &mut [u8], at: usize) -> usize
-        requires { at + length (maybeKindText self) ≤ length out.old }
-        ensures { Laid out.old at (maybeKindText self) out.new result }
+        requires { at + length (maybe_kind_text self) ≤ length out.old }
+        ensures { Laid out.old at (maybe_kind_text self) out.new result }
     {
         match self {
             MaybeKind::Kind(k) => k.write(out, at),

@@ -2,8 +2,8 @@
 ghost use Rattle.std.specs.Prelude.{◌≡◌, true, ◌&&◌, leb, eqb, ◌+◌, ◌≤◌, ◌/◌, length};
 ghost use Rattle.laws.specs.Overlay.{Laid};
 ghost use Rattle.laws.specs.Digits.{digits, down};
-ghost use Rattle.fields.specs.Block.{someDecade};
-ghost use Rattle.fields.specs.Number.{digitsFieldOf, digitsFits, digitsSize, digitsText, is_empty, blockFits, number_of, numberFits, sameNumber};
+ghost use Rattle.fields.specs.Block.{some_decade};
+ghost use Rattle.fields.specs.Number.{digits_field_of, digits_fits, digits_size, digits_text, is_empty, block_fits, number_of, number_fits, same_number};
 
 use text::Spelt;
 
@@ -23,7 +23,7 @@ impl Digits {
 
     // At most 11 digits.
     pub fn read(f: &[u8]) -> DigitsRead
-        ensures { result ≡ digitsFieldOf f.now }
+        ensures { result ≡ digits_field_of f.now }
     {
         if 11 < f.len() {
             return DigitsRead::Fault;
@@ -36,7 +36,7 @@ impl Digits {
 
     // Whether it is the code of at most 11 digits.
     pub fn fits(self) -> bool
-        ensures { result ≡ digitsFits self }
+        ensures { result ≡ digits_fits self }
     {
         let k = text::size(self.0, 12);
         if 11 < k {
@@ -53,14 +53,14 @@ impl Digits {
 
     // How many digits it has.
     pub fn len(self) -> usize
-        ensures { result ≡ digitsSize self }
+        ensures { result ≡ digits_size self }
     {
         text::size(self.0, 12)
     }
 
     pub fn write(self, out: &mut [u8], at: usize) -> usize
-        requires { (at + length (digitsText self) ≤ length out.old) × (digitsFits self ≡ true) }
-        ensures { Laid out.old at (digitsText self) out.new result }
+        requires { (at + length (digits_text self) ≤ length out.old) × (digits_fits self ≡ true) }
+        ensures { Laid out.old at (digits_text self) out.new result }
     {
         let k = text::size(self.0, 12);
         text::put_digits(out, at, k, self.0)
@@ -80,7 +80,7 @@ fn nearly(x: u64, y: u64) -> bool
 // Whether the `k` digits of `a` and of `b` bound a whole decade or several in a row.
 fn decades(a: u64, b: u64, k: usize) -> bool
     requires { (down k a ≡ 1) × (down k b ≡ 1) }
-    ensures { result ≡ someDecade (digits k a) (digits k b) }
+    ensures { result ≡ some_decade (digits k a) (digits k b) }
 {
     let mut x = a;
     let mut y = b;
@@ -104,8 +104,8 @@ fn decades(a: u64, b: u64, k: usize) -> bool
 
 // Whether a first field makes a block with a last one of `k` digits: it has as many, behind its leading 1.
 fn begins_block(first: Digits, last: Digits, k: usize) -> bool
-    requires { (digitsFits last ≡ true) × (digitsSize last ≡ k) }
-    ensures { result ≡ blockFits first last }
+    requires { (digits_fits last ≡ true) × (digits_size last ≡ k) }
+    ensures { result ≡ block_fits first last }
 {
     if text::leading(first.0, k) != 1 {
         return false;
@@ -115,7 +115,7 @@ fn begins_block(first: Digits, last: Digits, k: usize) -> bool
 
 // Whether two fields of digits are the first and the last number of a block.
 fn is_block(first: Digits, last: Digits) -> bool
-    ensures { result ≡ blockFits first last }
+    ensures { result ≡ block_fits first last }
 {
     if !last.fits() {
         return false;
@@ -157,7 +157,7 @@ impl Number {
 
     // Whether its two fields can hold it.
     pub fn fits(self) -> bool
-        ensures { result ≡ numberFits self }
+        ensures { result ≡ number_fits self }
     {
         let first = self.first;
         let last = self.last;
@@ -169,7 +169,7 @@ impl Number {
 
     // Two numbers are the same exactly if they agree field by field.
     pub fn same(a: Number, b: Number) -> bool
-        ensures { result ≡ sameNumber a b }
+        ensures { result ≡ same_number a b }
     {
         if a.first.0 != b.first.0 {
             return false;

@@ -16,9 +16,9 @@ use Rattle.laws.proofs.Tests.{le-or-lt}
 use Rattle.laws.proofs.Split.{ends_at, ends_more, ends_last}
 use Rattle.records.specs.declared.names.kind.FileKind.{FileKind}
 use Rattle.files.specs.declared.judge.Judged.TheVariants.{Records}
-use Rattle.files.specs.Judged.{judgedFile, recordsOf}
-use Rattle.files.specs.Reading.{recordAt}
-use Rattle.files.specs.Cursor.{lineStart}
+use Rattle.files.specs.Judged.{judged_file, records_of}
+use Rattle.files.specs.Reading.{record_at}
+use Rattle.files.specs.Cursor.{line_start}
 use Rattle.files.proofs.ReadLaws.{record-line}
 use Rattle.files.proofs.FileTrip.{file-written}
 
@@ -45,25 +45,25 @@ next s k at h p = ⊎_elim none some (le-or-lt (length s) (end_of 13 s at))
       },
     )
 
-pub line-at : (s : List ℕ) (k : ℕ) → k < length (split 13 s) → StartsAt s k (lineStart s k)
-unfolding lineStart
+pub line-at : (s : List ℕ) (k : ℕ) → k < length (split 13 s) → StartsAt s k (line_start s k)
+unfolding line_start
 line-at s zero h = record { inside = omega arith; lines = refl }
-line-at s (suc k) h = (next s k (lineStart s k) h (line-at s k (omega arith))).1
+line-at s (suc k) h = (next s k (line_start s k) h (line-at s k (omega arith))).1
 
 -- the line k, from its start to its end
-pub line-is : (s : List ℕ) (k : ℕ) → k < length (split 13 s) → between s (lineStart s k) (end_of 13 s (lineStart s k)) ≡ get_or (split 13 s) k []
+pub line-is : (s : List ℕ) (k : ℕ) → k < length (split 13 s) → between s (line_start s k) (end_of 13 s (line_start s k)) ≡ get_or (split 13 s) k []
 line-is s k h =
     let p = line-at s k h in
-    let q = ends_at 13 s (lineStart s k) p.inside in
+    let q = ends_at 13 s (line_start s k) p.inside in
     ap (λ (ls : List (List ℕ)). get_or ls 0 []) (sym q.splits ∙ p.lines) ∙ get_or-drop k (split 13 s) 0 [] ∙ ap (λ (n : ℕ). get_or (split 13 s) n []) (add-zero k)
 
 -- a file that was judged has no fewer lines than records
-pub lines-enough : (kind : FileKind) (file : List ℕ) (n : ℕ) → judgedFile kind file ≡ Records n → n ≤ length (split 13 file)
-unfolding recordsOf
+pub lines-enough : (kind : FileKind) (file : List ℕ) (n : ℕ) → judged_file kind file ≡ Records n → n ≤ length (split 13 file)
+unfolding records_of
 lines-enough kind file n e =
     let l = (file-written kind file n e).1 in
-    let t : recordsOf kind file ≡ take n (split 13 file) = rw e in
+    let t : records_of kind file ≡ take n (split 13 file) = rw e in
     omega (arith, l, ap length t, length-take n (split 13 file), min-le_right n (length (split 13 file)))
 
-pub walked : (kind : FileKind) (file : List ℕ) (n k : ℕ) → judgedFile kind file ≡ Records n → k < n → between file (lineStart file k) (end_of 13 file (lineStart file k)) ≡ recordAt kind file k
+pub walked : (kind : FileKind) (file : List ℕ) (n k : ℕ) → judged_file kind file ≡ Records n → k < n → between file (line_start file k) (end_of 13 file (line_start file k)) ≡ record_at kind file k
 walked kind file n k e h = line-is file k (omega (arith, lines-enough kind file n e)) ∙ sym (record-line kind file k n e h)

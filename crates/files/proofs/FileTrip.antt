@@ -18,124 +18,124 @@ use Rattle.laws.specs.Ended.{ended}
 use Rattle.laws.proofs.Tests.{and_left, and_right, and-true}
 use Rattle.laws.proofs.Tables.{all_append, all_weaker}
 use Rattle.laws.proofs.Ended.{split-ended, ended-split}
-use Rattle.records.specs.closing.Closing.{closingText}
+use Rattle.records.specs.closing.Closing.{closing_text}
 use Rattle.records.proofs.closing.ClosingLaws.{lacks-closing}
 use Rattle.records.specs.declared.names.kind.FileKind.{FileKind}
-use Rattle.records.specs.names.Kind.{hasClosing}
-use Rattle.records.specs.Record.{isRecord, fits, text_of}
+use Rattle.records.specs.names.Kind.{has_closing}
+use Rattle.records.specs.Record.{is_record, fits, text_of}
 use Rattle.records.proofs.RecordTrip.{fits-record, record-lacks, record-begins}
 use Rattle.files.specs.declared.judge.Judged.{Judged}
 use Rattle.files.specs.declared.judge.Judged.TheVariants.{Records}
-use Rattle.files.specs.Judged.{judged, judgedOne, judgedFile, recordsOf}
-use Rattle.files.specs.Writing.{Holding, valuesIn, unfit, heldAll, heldOne, held, lines_of, fileText, fileOf}
-use Rattle.files.proofs.LineTrip.{endOfFile, lines-read, lines-written, one-read, one_written}
+use Rattle.files.specs.Judged.{judged, judged_one, judged_file, records_of}
+use Rattle.files.specs.Writing.{Holding, values_in, unfit, held_all, held_one, held, lines_of, file_text, file_of}
+use Rattle.files.proofs.LineTrip.{end_of_file, lines-read, lines-written, one-read, one_written}
 
 -- ---- the lines of a file that was written
-texts-lack : (kind : FileKind) (ts : List (List ℕ)) → all (isRecord kind) ts ≡ true → all (lacks 13) ts ≡ true
-texts-lack kind ts e = all_weaker (isRecord kind) (lacks 13) (record-lacks kind) ts e
+texts-lack : (kind : FileKind) (ts : List (List ℕ)) → all (is_record kind) ts ≡ true → all (lacks 13) ts ≡ true
+texts-lack kind ts e = all_weaker (is_record kind) (lacks 13) (record-lacks kind) ts e
 
 one-all : (p : List ℕ → Bool) (l : List ℕ) → p l ≡ true → all p (l ∷ []) ≡ true
 unfolding all
 one-all p l e = rw e
 
-lines-lack : (kind : FileKind) (ts : List (List ℕ)) → all (isRecord kind) ts ≡ true → all (lacks 13) (lines_of kind ts) ≡ true
+lines-lack : (kind : FileKind) (ts : List (List ℕ)) → all (is_record kind) ts ≡ true → all (lacks 13) (lines_of kind ts) ≡ true
 unfolding lines_of
-lines-lack kind ts e = go (hasClosing kind)
+lines-lack kind ts e = go (has_closing kind)
   where
-    go : (t : Bool) → all (lacks 13) (cond t (ts ++ (closingText (length ts + 1) ∷ [])) ts) ≡ true
+    go : (t : Bool) → all (lacks 13) (cond t (ts ++ (closing_text (length ts + 1) ∷ [])) ts) ≡ true
     go true =
-        all_append (lacks 13) ts (closingText (length ts + 1) ∷ [])
-        ∙ and-true (all (lacks 13) ts) _ (texts-lack kind ts e) (one-all (lacks 13) (closingText (length ts + 1)) (lacks-closing (length ts + 1)))
+        all_append (lacks 13) ts (closing_text (length ts + 1) ∷ [])
+        ∙ and-true (all (lacks 13) ts) _ (texts-lack kind ts e) (one-all (lacks 13) (closing_text (length ts + 1)) (lacks-closing (length ts + 1)))
     go false = texts-lack kind ts e
 
-file-lines : (kind : FileKind) (ts : List (List ℕ)) → all (isRecord kind) ts ≡ true → split 13 (fileText kind ts) ≡ lines_of kind ts ++ ([] ∷ [])
-unfolding fileText split
+file-lines : (kind : FileKind) (ts : List (List ℕ)) → all (is_record kind) ts ≡ true → split 13 (file_text kind ts) ≡ lines_of kind ts ++ ([] ∷ [])
+unfolding file_text split
 file-lines kind ts e = ap (split 13) (sym (append-nil (ended 13 (lines_of kind ts)))) ∙ split-ended 13 (lines_of kind ts) [] (lines-lack kind ts e)
 
-closed-lines : (kind : FileKind) (ts : List (List ℕ)) → hasClosing kind ≡ true → lines_of kind ts ++ ([] ∷ []) ≡ ts ++ endOfFile (length ts + 1)
+closed-lines : (kind : FileKind) (ts : List (List ℕ)) → has_closing kind ≡ true → lines_of kind ts ++ ([] ∷ []) ≡ ts ++ end_of_file (length ts + 1)
 unfolding lines_of
-closed-lines kind ts c = rw c (append_assoc ts (closingText (length ts + 1) ∷ []) ([] ∷ []))
+closed-lines kind ts c = rw c (append_assoc ts (closing_text (length ts + 1) ∷ []) ([] ∷ []))
 
-open-lines : (kind : FileKind) (ts : List (List ℕ)) → hasClosing kind ≡ false → lines_of kind ts ++ ([] ∷ []) ≡ ts ++ ([] ∷ [])
+open-lines : (kind : FileKind) (ts : List (List ℕ)) → has_closing kind ≡ false → lines_of kind ts ++ ([] ∷ []) ≡ ts ++ ([] ∷ [])
 unfolding lines_of
 open-lines kind ts c = rw c
 
 -- ---- reading what was written
 -- what a file has, said by its kind
 pub record Has (kind : FileKind) (file : List ℕ) (ts : List (List ℕ)) : Type 0 where
-  pub count : judgedFile kind file ≡ Records (length ts)
-  pub texts : recordsOf kind file ≡ ts
+  pub count : judged_file kind file ≡ Records (length ts)
+  pub texts : records_of kind file ≡ ts
 
-has : (kind : FileKind) (file : List ℕ) (ts rest : List (List ℕ)) → judgedFile kind file ≡ Records (length ts) → split 13 file ≡ ts ++ rest → Has kind file ts
-unfolding recordsOf
+has : (kind : FileKind) (file : List ℕ) (ts rest : List (List ℕ)) → judged_file kind file ≡ Records (length ts) → split 13 file ≡ ts ++ rest → Has kind file ts
+unfolding records_of
 has kind file ts rest c l = record { count = c; texts = rw (c, l) (take_at ts rest (length ts) refl) }
 
-one-text : (kind : FileKind) (ts : List (List ℕ)) → length ts ≡ 1 → all (isRecord kind) ts ≡ true → judgedOne kind (ts ++ ([] ∷ [])) ≡ Records (length ts)
+one-text : (kind : FileKind) (ts : List (List ℕ)) → length ts ≡ 1 → all (is_record kind) ts ≡ true → judged_one kind (ts ++ ([] ∷ [])) ≡ Records (length ts)
 unfolding all
 one-text kind [] h e = absurd (omega arith)
-one-text kind (t ∷ []) h e = one-read kind t (and_left (isRecord kind t) true e)
+one-text kind (t ∷ []) h e = one-read kind t (and_left (is_record kind t) true e)
 one-text kind (t ∷ u ∷ ts) h e = absurd (omega arith)
 
-closed-judged : (kind : FileKind) (file : List ℕ) → hasClosing kind ≡ true → judgedFile kind file ≡ judged kind 0 (split 13 file)
-unfolding judgedFile
+closed-judged : (kind : FileKind) (file : List ℕ) → has_closing kind ≡ true → judged_file kind file ≡ judged kind 0 (split 13 file)
+unfolding judged_file
 closed-judged kind file c = rw c
 
-open-judged : (kind : FileKind) (file : List ℕ) → hasClosing kind ≡ false → judgedFile kind file ≡ judgedOne kind (split 13 file)
-unfolding judgedFile
+open-judged : (kind : FileKind) (file : List ℕ) → has_closing kind ≡ false → judged_file kind file ≡ judged_one kind (split 13 file)
+unfolding judged_file
 open-judged kind file c = rw c
 
-start : (kind : FileKind) (ts : List (List ℕ)) → all (isRecord kind) ts ≡ true → judged kind 0 (ts ++ endOfFile (length ts + 1)) ≡ Records (length ts)
+start : (kind : FileKind) (ts : List (List ℕ)) → all (is_record kind) ts ≡ true → judged kind 0 (ts ++ end_of_file (length ts + 1)) ≡ Records (length ts)
 start kind ts e = rw (zero-add (length ts)) at (lines-read kind (record-begins kind) ts 0 e)
 
-pub file-read : (kind : FileKind) (ts : List (List ℕ)) → all (isRecord kind) ts ≡ true → (hasClosing kind ≡ false → length ts ≡ 1) → Has kind (fileText kind ts) ts
-file-read kind ts e single = go (hasClosing kind) refl
+pub file-read : (kind : FileKind) (ts : List (List ℕ)) → all (is_record kind) ts ≡ true → (has_closing kind ≡ false → length ts ≡ 1) → Has kind (file_text kind ts) ts
+file-read kind ts e single = go (has_closing kind) refl
   where
-    go : (t : Bool) → hasClosing kind ≡ t → Has kind (fileText kind ts) ts
+    go : (t : Bool) → has_closing kind ≡ t → Has kind (file_text kind ts) ts
     go true c =
         let l = file-lines kind ts e ∙ closed-lines kind ts c in
-        has kind (fileText kind ts) ts (endOfFile (length ts + 1)) (closed-judged kind (fileText kind ts) c ∙ ap (judged kind 0) l ∙ start kind ts e) l
+        has kind (file_text kind ts) ts (end_of_file (length ts + 1)) (closed-judged kind (file_text kind ts) c ∙ ap (judged kind 0) l ∙ start kind ts e) l
     go false c =
         let l = file-lines kind ts e ∙ open-lines kind ts c in
-        has kind (fileText kind ts) ts ([] ∷ []) (open-judged kind (fileText kind ts) c ∙ ap (judgedOne kind) l ∙ one-text kind ts (single c) e) l
+        has kind (file_text kind ts) ts ([] ∷ []) (open-judged kind (file_text kind ts) c ∙ ap (judged_one kind) l ∙ one-text kind ts (single c) e) l
 
 -- ---- writing what was read
 -- the file is the one written from these texts, and each is a record
 pub record Is (kind : FileKind) (file : List ℕ) (ts : List (List ℕ)) : Type 0 where
-  pub whole : file ≡ fileText kind ts
-  pub records : all (isRecord kind) ts ≡ true
+  pub whole : file ≡ file_text kind ts
+  pub records : all (is_record kind) ts ≡ true
 
-closed-file : (kind : FileKind) (file : List ℕ) (ts : List (List ℕ)) → hasClosing kind ≡ true → split 13 file ≡ ts ++ endOfFile (length ts + 1) → file ≡ fileText kind ts
-unfolding fileText lines_of
-closed-file kind file ts c l = rw c (ended-split 13 file (ts ++ (closingText (length ts + 1) ∷ [])) (l ∙ sym (append_assoc ts (closingText (length ts + 1) ∷ []) ([] ∷ []))))
+closed-file : (kind : FileKind) (file : List ℕ) (ts : List (List ℕ)) → has_closing kind ≡ true → split 13 file ≡ ts ++ end_of_file (length ts + 1) → file ≡ file_text kind ts
+unfolding file_text lines_of
+closed-file kind file ts c l = rw c (ended-split 13 file (ts ++ (closing_text (length ts + 1) ∷ [])) (l ∙ sym (append_assoc ts (closing_text (length ts + 1) ∷ []) ([] ∷ []))))
 
-open-file : (kind : FileKind) (file : List ℕ) (ts : List (List ℕ)) → hasClosing kind ≡ false → split 13 file ≡ ts ++ ([] ∷ []) → file ≡ fileText kind ts
-unfolding fileText lines_of
+open-file : (kind : FileKind) (file : List ℕ) (ts : List (List ℕ)) → has_closing kind ≡ false → split 13 file ≡ ts ++ ([] ∷ []) → file ≡ file_text kind ts
+unfolding file_text lines_of
 open-file kind file ts c l = rw c (ended-split 13 file ts l)
 
 -- the texts that a count takes from the lines
-counted : (kind : FileKind) (file : List ℕ) (n : ℕ) (ts rest : List (List ℕ)) → judgedFile kind file ≡ Records n → n ≡ length ts → split 13 file ≡ ts ++ rest → recordsOf kind file ≡ ts
-unfolding recordsOf
+counted : (kind : FileKind) (file : List ℕ) (n : ℕ) (ts rest : List (List ℕ)) → judged_file kind file ≡ Records n → n ≡ length ts → split 13 file ≡ ts ++ rest → records_of kind file ≡ ts
+unfolding records_of
 counted kind file n ts rest e q l = rw (e, l) (take_at ts rest n (sym q))
 
-pub file-written : (kind : FileKind) (file : List ℕ) (n : ℕ) → judgedFile kind file ≡ Records n → (Is kind file (recordsOf kind file)) × (length (recordsOf kind file) ≡ n)
-file-written kind file n e = go (hasClosing kind) refl
+pub file-written : (kind : FileKind) (file : List ℕ) (n : ℕ) → judged_file kind file ≡ Records n → (Is kind file (records_of kind file)) × (length (records_of kind file) ≡ n)
+file-written kind file n e = go (has_closing kind) refl
   where
-    go : (t : Bool) → hasClosing kind ≡ t → (Is kind file (recordsOf kind file)) × (length (recordsOf kind file) ≡ n)
+    go : (t : Bool) → has_closing kind ≡ t → (Is kind file (records_of kind file)) × (length (records_of kind file) ≡ n)
     go true c =
         let w = lines-written kind (split 13 file) 0 n (sym (closed-judged kind file c) ∙ e) in
         let q : n ≡ length w.texts = w.count ∙ zero-add (length w.texts) in
-        let t = counted kind file n w.texts (endOfFile (n + 1)) e q w.lines in
-        rw t (record { whole = closed-file kind file w.texts c (w.lines ∙ ap (λ (k : ℕ). w.texts ++ endOfFile (k + 1)) q); records = w.records }, sym q)
+        let t = counted kind file n w.texts (end_of_file (n + 1)) e q w.lines in
+        rw t (record { whole = closed-file kind file w.texts c (w.lines ∙ ap (λ (k : ℕ). w.texts ++ end_of_file (k + 1)) q); records = w.records }, sym q)
     go false c =
         let w = one_written kind (split 13 file) n (sym (open-judged kind file c) ∙ e) in
         let t = counted kind file n (w.text ∷ []) ([] ∷ []) e w.count w.lines in
-        rw t (record { whole = open-file kind file (w.text ∷ []) c w.lines; records = one-all (isRecord kind) w.text w.good }, sym w.count)
+        rw t (record { whole = open-file kind file (w.text ∷ []) c w.lines; records = one-all (is_record kind) w.text w.good }, sym w.count)
 
-pub file-one : (kind : FileKind) (a b : List ℕ) (m n : ℕ) → judgedFile kind a ≡ Records m → judgedFile kind b ≡ Records n → recordsOf kind a ≡ recordsOf kind b → a ≡ b
-file-one kind a b m n p q e = (file-written kind a m p).0.whole ∙ ap (fileText kind) e ∙ sym (file-written kind b n q).0.whole
+pub file-one : (kind : FileKind) (a b : List ℕ) (m n : ℕ) → judged_file kind a ≡ Records m → judged_file kind b ≡ Records n → records_of kind a ≡ records_of kind b → a ≡ b
+file-one kind a b m n p q e = (file-written kind a m p).0.whole ∙ ap (file_text kind) e ∙ sym (file-written kind b n q).0.whole
 
 -- ---- files written from words
-texts-records : (kind : FileKind) (vs : List (List ℕ)) → all (fits kind) vs ≡ true → all (isRecord kind) (map (text_of kind) vs) ≡ true
+texts-records : (kind : FileKind) (vs : List (List ℕ)) → all (fits kind) vs ≡ true → all (is_record kind) (map (text_of kind) vs) ≡ true
 unfolding all
 texts-records kind [] e = refl
 texts-records kind (v ∷ vs) e =
@@ -145,21 +145,21 @@ texts-records kind (v ∷ vs) e =
 record Held (kind : FileKind) (vs : List (List ℕ)) (n : ℕ) : Type 0 where
   pub fit : all (fits kind) vs ≡ true
   pub count : n ≡ length vs
-  pub single : hasClosing kind ≡ false → length vs ≡ 1
+  pub single : has_closing kind ≡ false → length vs ≡ 1
 
 never : {n : ℕ} {A : Type 0} (i : ℕ) → Holding.Fault i ≡ Holding.Records n → A
 never i e = absurd (let z : ◌≡◌ {A = ℕ} 0 1 = cc in omega arith)
 
-all-parts : (kind : FileKind) (vs : List (List ℕ)) (n : ℕ) → hasClosing kind ≡ true → heldAll kind vs ≡ Holding.Records n → Held kind vs n
-unfolding heldAll
+all-parts : (kind : FileKind) (vs : List (List ℕ)) (n : ℕ) → has_closing kind ≡ true → held_all kind vs ≡ Holding.Records n → Held kind vs n
+unfolding held_all
 all-parts kind vs n c e = go (all (fits kind) vs) refl e
   where
     go : (t : Bool) → all (fits kind) vs ≡ t → cond t (Holding.Records (length vs)) (Holding.Fault (first_at (unfit kind) vs)) ≡ Holding.Records n → Held kind vs n
     go true p e = let q : length vs ≡ n = cc in record { fit = p; count = sym q; single = λ o. absurd (let z : ◌≡◌ {A = ℕ} 0 1 = cc in omega arith) }
     go false p e = never (first_at (unfit kind) vs) e
 
-one-parts : (kind : FileKind) (vs : List (List ℕ)) (n : ℕ) → heldOne kind vs ≡ Holding.Records n → Held kind vs n
-unfolding heldOne
+one-parts : (kind : FileKind) (vs : List (List ℕ)) (n : ℕ) → held_one kind vs ≡ Holding.Records n → Held kind vs n
+unfolding held_one
 one-parts kind [] n e = never 0 e
 one-parts kind (v ∷ []) n e = go (fits kind v) refl e
   where
@@ -174,22 +174,22 @@ one-parts kind (v ∷ w ∷ vs) n e = go (fits kind v) e
 
 held-parts : (kind : FileKind) (vs : List (List ℕ)) (n : ℕ) → held kind vs ≡ Holding.Records n → Held kind vs n
 unfolding held
-held-parts kind vs n e = go (hasClosing kind) refl e
+held-parts kind vs n e = go (has_closing kind) refl e
   where
-    go : (t : Bool) → hasClosing kind ≡ t → cond t (heldAll kind vs) (heldOne kind vs) ≡ Holding.Records n → Held kind vs n
+    go : (t : Bool) → has_closing kind ≡ t → cond t (held_all kind vs) (held_one kind vs) ≡ Holding.Records n → Held kind vs n
     go true c e = all-parts kind vs n c e
     go false c e = one-parts kind vs n e
 
-pub words-read : (kind : FileKind) (words : List ℕ) (n : ℕ) → held kind (valuesIn kind words) ≡ Holding.Records n → (Has kind (fileOf kind words) (map (text_of kind) (valuesIn kind words))) × (length (valuesIn kind words) ≡ n)
-unfolding fileOf
+pub words-read : (kind : FileKind) (words : List ℕ) (n : ℕ) → held kind (values_in kind words) ≡ Holding.Records n → (Has kind (file_of kind words) (map (text_of kind) (values_in kind words))) × (length (values_in kind words) ≡ n)
+unfolding file_of
 words-read kind words n e =
-    let vs : List (List ℕ) = valuesIn kind words in
+    let vs : List (List ℕ) = values_in kind words in
     let h = held-parts kind vs n e in
     (file-read kind (map (text_of kind) vs) (texts-records kind vs h.fit) (λ c. length-map vs (text_of kind) ∙ h.single c), sym h.count)
 
 -- and each of its values fits
-pub words-fit : (kind : FileKind) (words : List ℕ) (n : ℕ) → held kind (valuesIn kind words) ≡ Holding.Records n → all (fits kind) (valuesIn kind words) ≡ true
-words-fit kind words n e = (held-parts kind (valuesIn kind words) n e).fit
+pub words-fit : (kind : FileKind) (words : List ℕ) (n : ℕ) → held kind (values_in kind words) ≡ Holding.Records n → all (fits kind) (values_in kind words) ≡ true
+words-fit kind words n e = (held-parts kind (values_in kind words) n e).fit
 
 -- ---- the closing record can always be held: a place that can't be held is that of a record
 unfit-inside : (kind : FileKind) (vs : List (List ℕ)) → all (fits kind) vs ≡ false → first_at (unfit kind) vs < length vs
@@ -201,9 +201,9 @@ unfit-inside kind (v ∷ vs) e = go (fits kind v) e (unfit-inside kind vs)
     go true e ih = omega (arith, ih e)
     go false e ih = omega arith
 
-pub closing-held : (kind : FileKind) (vs : List (List ℕ)) (i : ℕ) → hasClosing kind ≡ true → held kind vs ≡ Holding.Fault i → i < length vs
-unfolding held heldAll
-closing-held kind vs i c e = go (all (fits kind) vs) refl (sym (ap (λ (t : Bool). cond t (heldAll kind vs) (heldOne kind vs)) c) ∙ e)
+pub closing-held : (kind : FileKind) (vs : List (List ℕ)) (i : ℕ) → has_closing kind ≡ true → held kind vs ≡ Holding.Fault i → i < length vs
+unfolding held held_all
+closing-held kind vs i c e = go (all (fits kind) vs) refl (sym (ap (λ (t : Bool). cond t (held_all kind vs) (held_one kind vs)) c) ∙ e)
   where
     go : (t : Bool) → all (fits kind) vs ≡ t → cond t (Holding.Records (length vs)) (Holding.Fault (first_at (unfit kind) vs)) ≡ Holding.Fault i → i < length vs
     go true p e = absurd (let z : ◌≡◌ {A = ℕ} 0 1 = cc in omega arith)

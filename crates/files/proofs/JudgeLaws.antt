@@ -17,81 +17,81 @@ use Rattle.records.specs.declared.names.kind.FileKind.{FileKind}
 use Rattle.faults.specs.declared.cause.Cause.{Cause}
 use Rattle.faults.specs.declared.cause.Cause.TheVariants.{After}
 use Rattle.faults.specs.declared.cause.RecordCheck.TheVariants.{Right, Wrong}
-use Rattle.faults.specs.Record.{recordFault}
+use Rattle.faults.specs.Record.{record_fault}
 use Rattle.files.specs.declared.judge.Judged.TheVariants.{Records, Fault}
-use Rattle.files.specs.Judged.{placeAt, isEnd, closed, onLine, unended, lastLine, judged, judgedOne}
+use Rattle.files.specs.Judged.{place_at, is_end, closed, on_line, unended, last_line, judged, judged_one}
 
 pub ended_at : (s : List ℕ) (at e : ℕ) → at ≤ length s → e ≡ end_of 13 s at → EndsAt 13 s at e
 ended_at s at e h q = rw q (ends_at 13 s at h)
 
 -- ---- nothing follows
-end-cons : (b : ℕ) (s : List ℕ) → isEnd (split 13 (b ∷ s)) ≡ false
+end-cons : (b : ℕ) (s : List ℕ) → is_end (split 13 (b ∷ s)) ≡ false
 unfolding split before
 end-cons b s = go (eqb b 13) (split 13 s) (split-some 13 s)
   where
-    go : (t : Bool) (fs : List (List ℕ)) → 1 ≤ length fs → isEnd (before t b fs) ≡ false
+    go : (t : Bool) (fs : List (List ℕ)) → 1 ≤ length fs → is_end (before t b fs) ≡ false
     go t [] h = absurd (omega arith)
     go true (f ∷ fs) h = refl
     go false (f ∷ fs) h = refl
 
-end_list : (s : List ℕ) → 0 < length s → isEnd (split 13 s) ≡ false
+end_list : (s : List ℕ) → 0 < length s → is_end (split 13 s) ≡ false
 end_list [] h = absurd (omega arith)
 end_list (b ∷ s) h = end-cons b s
 
-pub end_more : (s : List ℕ) (k : ℕ) → k < length s → isEnd (split 13 (drop k s)) ≡ false
+pub end_more : (s : List ℕ) (k : ℕ) → k < length s → is_end (split 13 (drop k s)) ≡ false
 end_more s k h = end_list (drop k s) (omega (arith, length-drop k s))
 
-pub end-here : (s : List ℕ) (k : ℕ) → length s ≤ k → isEnd (split 13 (drop k s)) ≡ true
+pub end-here : (s : List ℕ) (k : ℕ) → length s ≤ k → is_end (split 13 (drop k s)) ≡ true
 unfolding split
 end-here s k h = rw (drop_of_length-le s h)
 
 -- ---- a line and what follows it
 module _ (kind : FileKind) (i : ℕ) (l : List ℕ) where
-  pub judged-line : (ls : List (List ℕ)) → 1 ≤ length ls → judged kind i (l ∷ ls) ≡ cond (begins l) (closed i l ls) (onLine i (recordFault kind l) (judged kind (i + 1) ls))
+  pub judged-line : (ls : List (List ℕ)) → 1 ≤ length ls → judged kind i (l ∷ ls) ≡ cond (begins l) (closed i l ls) (on_line i (record_fault kind l) (judged kind (i + 1) ls))
   unfolding judged
   judged-line [] h = absurd (omega arith)
   judged-line (m ∷ ls) h = refl
 
-  pub judged-last : judged kind i (l ∷ []) ≡ lastLine kind i l
+  pub judged-last : judged kind i (l ∷ []) ≡ last_line kind i l
   unfolding judged
   judged-last = refl
 
-  pub one_line : (ls : List (List ℕ)) → 1 ≤ length ls → judgedOne kind (l ∷ ls) ≡ onLine 0 (recordFault kind l) (cond (isEnd ls) (Records 1) (Fault (placeAt 1 0) After))
-  unfolding judgedOne
+  pub one_line : (ls : List (List ℕ)) → 1 ≤ length ls → judged_one kind (l ∷ ls) ≡ on_line 0 (record_fault kind l) (cond (is_end ls) (Records 1) (Fault (place_at 1 0) After))
+  unfolding judged_one
   one_line [] h = absurd (omega arith)
   one_line (m ∷ ls) h = refl
 
 module _ (kind : FileKind) {s : List ℕ} {at e : ℕ} (i : ℕ) (q : EndsAt 13 s at e) where
   turn : e < length s → judged kind i (split 13 (drop at s))
-      ≡ cond (begins (between s at e)) (closed i (between s at e) (split 13 (drop (e + 1) s))) (onLine i (recordFault kind (between s at e)) (judged kind (i + 1) (split 13 (drop (e + 1) s))))
+      ≡ cond (begins (between s at e)) (closed i (between s at e) (split 13 (drop (e + 1) s))) (on_line i (record_fault kind (between s at e)) (judged kind (i + 1) (split 13 (drop (e + 1) s))))
   turn h = ap (judged kind i) (ends_more q h) ∙ judged-line kind i (between s at e) (split 13 (drop (e + 1) s)) (split-some 13 (drop (e + 1) s))
 
   pub turn-closing : e < length s → begins (between s at e) ≡ true → judged kind i (split 13 (drop at s)) ≡ closed i (between s at e) (split 13 (drop (e + 1) s))
   turn-closing h b = turn h ∙ rw b
 
-  pub turn-record : e < length s → begins (between s at e) ≡ false → recordFault kind (between s at e) ≡ Right → judged kind i (split 13 (drop at s)) ≡ judged kind (i + 1) (split 13 (drop (e + 1) s))
+  pub turn-record : e < length s → begins (between s at e) ≡ false → record_fault kind (between s at e) ≡ Right → judged kind i (split 13 (drop at s)) ≡ judged kind (i + 1) (split 13 (drop (e + 1) s))
   turn-record h b r = turn h ∙ rw (b, r)
 
-  pub turn-fault : (field : ℕ) (cause : Cause) → e < length s → begins (between s at e) ≡ false → recordFault kind (between s at e) ≡ Wrong field cause → judged kind i (split 13 (drop at s)) ≡ Fault (placeAt i field) cause
+  pub turn-fault : (field : ℕ) (cause : Cause) → e < length s → begins (between s at e) ≡ false → record_fault kind (between s at e) ≡ Wrong field cause → judged kind i (split 13 (drop at s)) ≡ Fault (place_at i field) cause
   turn-fault field cause h b r = turn h ∙ rw (b, r)
 
-  pub turn_end : length s ≤ e → judged kind i (split 13 (drop at s)) ≡ lastLine kind i (between s at e)
+  pub turn_end : length s ≤ e → judged kind i (split 13 (drop at s)) ≡ last_line kind i (between s at e)
   turn_end h = ap (judged kind i) (ends_last q h) ∙ judged-last kind i (between s at e)
 
 -- ---- a file of one record
 module _ (kind : FileKind) {s : List ℕ} {e : ℕ} (q : EndsAt 13 s 0 e) where
-  one : e < length s → judgedOne kind (split 13 s) ≡ onLine 0 (recordFault kind (between s 0 e)) (cond (isEnd (split 13 (drop (e + 1) s))) (Records 1) (Fault (placeAt 1 0) After))
-  one h = ap (judgedOne kind) (ends_more q h) ∙ one_line kind 0 (between s 0 e) (split 13 (drop (e + 1) s)) (split-some 13 (drop (e + 1) s))
+  one : e < length s → judged_one kind (split 13 s) ≡ on_line 0 (record_fault kind (between s 0 e)) (cond (is_end (split 13 (drop (e + 1) s))) (Records 1) (Fault (place_at 1 0) After))
+  one h = ap (judged_one kind) (ends_more q h) ∙ one_line kind 0 (between s 0 e) (split 13 (drop (e + 1) s)) (split-some 13 (drop (e + 1) s))
 
-  pub one-short : length s ≤ e → judgedOne kind (split 13 s) ≡ unended kind 0 (between s 0 e)
-  unfolding judgedOne
-  one-short h = ap (judgedOne kind) (ends_last q h)
+  pub one-short : length s ≤ e → judged_one kind (split 13 s) ≡ unended kind 0 (between s 0 e)
+  unfolding judged_one
+  one-short h = ap (judged_one kind) (ends_last q h)
 
-  pub one-fault : (field : ℕ) (cause : Cause) → e < length s → recordFault kind (between s 0 e) ≡ Wrong field cause → Fault (placeAt 0 field) cause ≡ judgedOne kind (split 13 s)
+  pub one-fault : (field : ℕ) (cause : Cause) → e < length s → record_fault kind (between s 0 e) ≡ Wrong field cause → Fault (place_at 0 field) cause ≡ judged_one kind (split 13 s)
   one-fault field cause h r = sym (one h ∙ rw r)
 
-  pub one_more : e < length s → recordFault kind (between s 0 e) ≡ Right → e + 1 < length s → Fault (placeAt 1 0) After ≡ judgedOne kind (split 13 s)
+  pub one_more : e < length s → record_fault kind (between s 0 e) ≡ Right → e + 1 < length s → Fault (place_at 1 0) After ≡ judged_one kind (split 13 s)
   one_more h r m = sym (one h ∙ rw (r, end_more s (e + 1) m))
 
-  pub one-record : e < length s → recordFault kind (between s 0 e) ≡ Right → length s ≤ e + 1 → Records 1 ≡ judgedOne kind (split 13 s)
+  pub one-record : e < length s → record_fault kind (between s 0 e) ≡ Right → length s ≤ e + 1 → Records 1 ≡ judged_one kind (split 13 s)
   one-record h r m = sym (one h ∙ rw (r, end-here s (e + 1) m))

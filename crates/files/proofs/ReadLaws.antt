@@ -11,8 +11,8 @@ use Rattle.records.specs.declared.names.kind.FileKind.{FileKind}
 use Rattle.faults.specs.declared.cause.Cause.{Cause}
 use Rattle.faults.specs.declared.cause.FaultPlace.{FaultPlace}
 use Rattle.files.specs.declared.judge.Judged.TheVariants.{Records, Fault}
-use Rattle.files.specs.Judged.{judgedFile, recordsOf}
-use Rattle.files.specs.Reading.{recordAt}
+use Rattle.files.specs.Judged.{judged_file, records_of}
+use Rattle.files.specs.Reading.{record_at}
 
 -- no element stands behind those that were taken
 take_past : {A : Type 0} (n k : ℕ) (l : List A) (d : A) → n ≤ k → get_or (take n l) k d ≡ d
@@ -20,14 +20,14 @@ take_past n k l d h = get_or-eq_default (take n l) d (omega (arith, length-take 
 
 -- the text of a record is its line, and where there is none, there is no text
 module _ (kind : FileKind) (file : List ℕ) (k : ℕ) where
-  pub record-line : (n : ℕ) → judgedFile kind file ≡ Records n → k < n → recordAt kind file k ≡ piece_of 13 file k
-  unfolding recordAt recordsOf
+  pub record-line : (n : ℕ) → judged_file kind file ≡ Records n → k < n → record_at kind file k ≡ piece_of 13 file k
+  unfolding record_at records_of
   record-line n e h = rw e (get_or-take n (split 13 file) k [] h)
 
-  pub record-beyond : (n : ℕ) → judgedFile kind file ≡ Records n → n ≤ k → [] ≡ recordAt kind file k
-  unfolding recordAt recordsOf
+  pub record-beyond : (n : ℕ) → judged_file kind file ≡ Records n → n ≤ k → [] ≡ record_at kind file k
+  unfolding record_at records_of
   record-beyond n e h = rw e (sym (take_past n k (split 13 file) [] h))
 
-  pub record-fault : (place : FaultPlace) (cause : Cause) → judgedFile kind file ≡ Fault place cause → [] ≡ recordAt kind file k
-  unfolding recordAt recordsOf
+  pub record-fault : (place : FaultPlace) (cause : Cause) → judged_file kind file ≡ Fault place cause → [] ≡ record_at kind file k
+  unfolding record_at records_of
   record-fault place cause e = rw e

@@ -12,9 +12,9 @@ use Rattle.layout.specs.declared.correction.Correction.{Correction}
 use Rattle.layout.specs.declared.correction.CorrectionRead.{CorrectionRead}
 use Rattle.layout.specs.declared.request.Request.{Request}
 use Rattle.layout.specs.declared.request.RequestRead.{RequestRead}
-use Rattle.layout.specs.Report.{reportOf, reportFits}
-use Rattle.layout.specs.Correction.{correctionOf, correctionFits}
-use Rattle.layout.specs.Request.{requestOf, requestFits}
+use Rattle.layout.specs.Report.{report_of, report_fits}
+use Rattle.layout.specs.Correction.{correction_of, correction_fits}
+use Rattle.layout.specs.Request.{request_of, request_fits}
 use Rattle.layout.proofs.ReportLaws.{report-back}
 use Rattle.layout.proofs.CorrectionTrip.{correction-back}
 use Rattle.layout.proofs.RequestTrip.{request-back}
@@ -23,18 +23,18 @@ use Rattle.files.specs.declared.values.ReportAt.{ReportAt}
 use Rattle.files.specs.declared.values.CorrectionAt.{CorrectionAt}
 use Rattle.files.specs.declared.values.RequestAt.{RequestAt}
 use Rattle.files.specs.Reading.{found_at}
-use Rattle.files.specs.Values.{reportFound, reportAt, correctionFound, correctionAt, requestFound, requestAt}
+use Rattle.files.specs.Values.{report_found, report_at, correction_found, correction_at, request_found, request_at}
 
 abbrev report-read : ReportAt → ReportRead
 report-read (ReportAt.Report x) = ReportRead.Report x
 report-read (ReportAt.Fault place cause) = ReportRead.Fault
 report-read ReportAt.Beyond = ReportRead.Fault
 
-pub report-at-fits : (file : List ℕ) (k : ℕ) (x : Report) → reportAt file k ≡ ReportAt.Report x → reportFits x ≡ true
-unfolding reportAt
-report-at-fits file k x e = go (found_at FileKind.Default file k) (reportOf (piece_of 13 file k)) refl e
+pub report-at-fits : (file : List ℕ) (k : ℕ) (x : Report) → report_at file k ≡ ReportAt.Report x → report_fits x ≡ true
+unfolding report_at
+report-at-fits file k x e = go (found_at FileKind.Default file k) (report_of (piece_of 13 file k)) refl e
   where
-    go : (f : Found) (r : ReportRead) → reportOf (piece_of 13 file k) ≡ r → reportFound f r ≡ ReportAt.Report x → reportFits x ≡ true
+    go : (f : Found) (r : ReportRead) → report_of (piece_of 13 file k) ≡ r → report_found f r ≡ ReportAt.Report x → report_fits x ≡ true
     go Found.Record (ReportRead.Report y) q e = (report-back (piece_of 13 file k) x (q ∙ ap report-read e)).1
     go Found.Record ReportRead.Fault q e = absurd (let z : ◌≡◌ {A = ℕ} 0 1 = cc in omega arith)
     go Found.Beyond r q e = absurd (let z : ◌≡◌ {A = ℕ} 0 1 = cc in omega arith)
@@ -45,11 +45,11 @@ correction-read (CorrectionAt.Correction x) = CorrectionRead.Correction x
 correction-read (CorrectionAt.Fault place cause) = CorrectionRead.Fault
 correction-read CorrectionAt.Beyond = CorrectionRead.Fault
 
-pub correction-at-fits : (file : List ℕ) (k : ℕ) (x : Correction) → correctionAt file k ≡ CorrectionAt.Correction x → correctionFits x ≡ true
-unfolding correctionAt
-correction-at-fits file k x e = go (found_at FileKind.Correction file k) (correctionOf (piece_of 13 file k)) refl e
+pub correction-at-fits : (file : List ℕ) (k : ℕ) (x : Correction) → correction_at file k ≡ CorrectionAt.Correction x → correction_fits x ≡ true
+unfolding correction_at
+correction-at-fits file k x e = go (found_at FileKind.Correction file k) (correction_of (piece_of 13 file k)) refl e
   where
-    go : (f : Found) (r : CorrectionRead) → correctionOf (piece_of 13 file k) ≡ r → correctionFound f r ≡ CorrectionAt.Correction x → correctionFits x ≡ true
+    go : (f : Found) (r : CorrectionRead) → correction_of (piece_of 13 file k) ≡ r → correction_found f r ≡ CorrectionAt.Correction x → correction_fits x ≡ true
     go Found.Record (CorrectionRead.Correction y) q e = (correction-back (piece_of 13 file k) x (q ∙ ap correction-read e)).1
     go Found.Record CorrectionRead.Fault q e = absurd (let z : ◌≡◌ {A = ℕ} 0 1 = cc in omega arith)
     go Found.Beyond r q e = absurd (let z : ◌≡◌ {A = ℕ} 0 1 = cc in omega arith)
@@ -60,11 +60,11 @@ request-read (RequestAt.Request x) = RequestRead.Request x
 request-read (RequestAt.Fault place cause) = RequestRead.Fault
 request-read RequestAt.Beyond = RequestRead.Fault
 
-pub request-at-fits : (file : List ℕ) (k : ℕ) (x : Request) → requestAt file k ≡ RequestAt.Request x → requestFits x ≡ true
-unfolding requestAt
-request-at-fits file k x e = go (found_at FileKind.Request file k) (requestOf (piece_of 13 file k)) refl e
+pub request-at-fits : (file : List ℕ) (k : ℕ) (x : Request) → request_at file k ≡ RequestAt.Request x → request_fits x ≡ true
+unfolding request_at
+request-at-fits file k x e = go (found_at FileKind.Request file k) (request_of (piece_of 13 file k)) refl e
   where
-    go : (f : Found) (r : RequestRead) → requestOf (piece_of 13 file k) ≡ r → requestFound f r ≡ RequestAt.Request x → requestFits x ≡ true
+    go : (f : Found) (r : RequestRead) → request_of (piece_of 13 file k) ≡ r → request_found f r ≡ RequestAt.Request x → request_fits x ≡ true
     go Found.Record (RequestRead.Request y) q e = (request-back (piece_of 13 file k) x (q ∙ ap request-read e)).1
     go Found.Record RequestRead.Fault q e = absurd (let z : ◌≡◌ {A = ℕ} 0 1 = cc in omega arith)
     go Found.Beyond r q e = absurd (let z : ◌≡◌ {A = ℕ} 0 1 = cc in omega arith)

@@ -20,14 +20,14 @@ use Rattle.layout.specs.declared.correction.Correction.{Correction}
 use Rattle.layout.specs.declared.correction.CorrectionRead.{CorrectionRead}
 use Rattle.layout.specs.declared.request.Request.{Request}
 use Rattle.layout.specs.declared.request.RequestRead.{RequestRead}
-use Rattle.layout.specs.Report.{reportOf, reportOfWords, reportText}
-use Rattle.layout.specs.Correction.{correctionOf, correctionOfWords, correctionText, isReport}
-use Rattle.layout.specs.Request.{requestOf, requestOfWords, requestText}
+use Rattle.layout.specs.Report.{report_of, report_of_words, report_text}
+use Rattle.layout.specs.Correction.{correction_of, correction_of_words, correction_text, is_report}
+use Rattle.layout.specs.Request.{request_of, request_of_words, request_text}
 use Rattle.layout.proofs.ReportLaws.{report-back}
 use Rattle.layout.proofs.CorrectionTrip.{correction-back}
 use Rattle.layout.proofs.RequestTrip.{request-back}
 use Rattle.records.specs.declared.names.kind.FileKind.{FileKind}
-use Rattle.records.specs.Record.{isCorrection, isRequest, isRecord, fits, text_of}
+use Rattle.records.specs.Record.{is_correction, is_request, is_record, fits, text_of}
 use Rattle.records.proofs.RecordTrip.{report-same, correction-same, request-same}
 use Rattle.files.specs.declared.judge.Judged.{Judged}
 use Rattle.files.specs.declared.judge.Judged.TheVariants.{Records}
@@ -36,36 +36,36 @@ use Rattle.files.specs.declared.values.ReportAt.{ReportAt}
 use Rattle.files.specs.declared.values.CorrectionAt.{CorrectionAt}
 use Rattle.files.specs.declared.values.RequestAt.{RequestAt}
 use Rattle.records.specs.closing.Closing.{begins}
-use Rattle.faults.specs.Record.{reportFault, recordFault}
-use Rattle.files.specs.Judged.{closed, onLine, unended, lastLine, judged, judgedFile, recordsOf}
-use Rattle.files.specs.Reading.{foundIn, found_at, recordAt}
-use Rattle.files.specs.Writing.{Holding, valuesIn, held, fileOf}
-use Rattle.files.specs.Values.{reportFound, reportAt, correctionFound, correctionAt, requestFound, requestAt}
+use Rattle.faults.specs.Record.{report_fault, record_fault}
+use Rattle.files.specs.Judged.{closed, on_line, unended, last_line, judged, judged_file, records_of}
+use Rattle.files.specs.Reading.{found_in, found_at, record_at}
+use Rattle.files.specs.Writing.{Holding, values_in, held, file_of}
+use Rattle.files.specs.Values.{report_found, report_at, correction_found, correction_at, request_found, request_at}
 use Rattle.files.proofs.ReadLaws.{record-line}
 use Rattle.files.proofs.FileTrip.{Has, file-written, words-read, words-fit}
 
 -- ---- where there is a record
 -- a place with a record is one of so many
-found_inside : (kind : FileKind) (file : List ℕ) (k : ℕ) → found_at kind file k ≡ Found.Record → (n : ℕ) × (judgedFile kind file ≡ Records n) × (k < n)
+found_inside : (kind : FileKind) (file : List ℕ) (k : ℕ) → found_at kind file k ≡ Found.Record → (n : ℕ) × (judged_file kind file ≡ Records n) × (k < n)
 unfolding found_at
-found_inside kind file k e = go (judgedFile kind file) refl e
+found_inside kind file k e = go (judged_file kind file) refl e
   where
     less : (n : ℕ) (t : Bool) → ltb k n ≡ t → cond t Found.Record Found.Beyond ≡ Found.Record → k < n
     less n true p e = ltb-true k n p
     less n false p e = absurd (let z : ◌≡◌ {A = ℕ} 0 1 = cc in omega arith)
 
-    go : (j : Judged) → judgedFile kind file ≡ j → foundIn j k ≡ Found.Record → (n : ℕ) × (judgedFile kind file ≡ Records n) × (k < n)
+    go : (j : Judged) → judged_file kind file ≡ j → found_in j k ≡ Found.Record → (n : ℕ) × (judged_file kind file ≡ Records n) × (k < n)
     go (Records n) q e = (n, q, less n (ltb k n) refl e)
     go (Judged.Fault place cause) q e = absurd (let z : ◌≡◌ {A = ℕ} 0 1 = cc in omega arith)
 
 -- its line is its text, and a record
-found-line : (kind : FileKind) (file : List ℕ) (k : ℕ) → found_at kind file k ≡ Found.Record → (recordAt kind file k ≡ piece_of 13 file k) × (isRecord kind (piece_of 13 file k) ≡ true)
-unfolding recordAt
+found-line : (kind : FileKind) (file : List ℕ) (k : ℕ) → found_at kind file k ≡ Found.Record → (record_at kind file k ≡ piece_of 13 file k) × (is_record kind (piece_of 13 file k) ≡ true)
+unfolding record_at
 found-line kind file k e =
     let i = found_inside kind file k e in
     let w = file-written kind file i.0 i.1 in
     let l = record-line kind file k i.0 i.1 i.2 in
-    (l, ap (isRecord kind) (sym l) ∙ all-at (isRecord kind) (recordsOf kind file) k [] w.0.records (omega (arith, w.1, i.2)))
+    (l, ap (is_record kind) (sym l) ∙ all-at (is_record kind) (records_of kind file) k [] w.0.records (omega (arith, w.1, i.2)))
 
 -- ---- a file that was written from words
 map_at : (f : List ℕ → List ℕ) (vs : List (List ℕ)) (k : ℕ) → k < length vs → get_or (map f vs) k [] ≡ f (get_or vs k [])
@@ -75,81 +75,81 @@ map_at f (v ∷ vs) (suc k) h = map_at f vs k (omega arith)
 
 -- the record at a place is there, and is what the words of that place spell; these make a record
 record Kept (kind : FileKind) (words : List ℕ) (k : ℕ) : Type 0 where
-  pub found : found_at kind (fileOf kind words) k ≡ Found.Record
-  pub line : piece_of 13 (fileOf kind words) k ≡ text_of kind (get_or (valuesIn kind words) k [])
-  pub fit : fits kind (get_or (valuesIn kind words) k []) ≡ true
+  pub found : found_at kind (file_of kind words) k ≡ Found.Record
+  pub line : piece_of 13 (file_of kind words) k ≡ text_of kind (get_or (values_in kind words) k [])
+  pub fit : fits kind (get_or (values_in kind words) k []) ≡ true
 
-kept : (kind : FileKind) (words : List ℕ) (n k : ℕ) → held kind (valuesIn kind words) ≡ Holding.Records n → k < n → Kept kind words k
-unfolding found_at recordAt
+kept : (kind : FileKind) (words : List ℕ) (n k : ℕ) → held kind (values_in kind words) ≡ Holding.Records n → k < n → Kept kind words k
+unfolding found_at record_at
 kept kind words n k e h =
-    let vs : List (List ℕ) = valuesIn kind words in
+    let vs : List (List ℕ) = values_in kind words in
     let r = words-read kind words n e in
     let size : length (map (text_of kind) vs) ≡ length vs = length-map vs (text_of kind) in
     let inside : k < length (map (text_of kind) vs) = omega (arith, r.1) in
     record {
       found = rw (r.0.count, lt-ltb k (length (map (text_of kind) vs)) inside);
       line =
-          sym (record-line kind (fileOf kind words) k (length (map (text_of kind) vs)) r.0.count inside)
+          sym (record-line kind (file_of kind words) k (length (map (text_of kind) vs)) r.0.count inside)
           ∙ ap (λ (ts : List (List ℕ)). get_or ts k []) r.0.texts
           ∙ map_at (text_of kind) vs k (omega (arith, r.1));
       fit = all-at (fits kind) vs k [] (words-fit kind words n e) (omega (arith, r.1));
     }
 
 -- ---- reports
-pub report-there : (file : List ℕ) (k : ℕ) → found_at FileKind.Default file k ≡ Found.Record → (x : Report) × (reportAt file k ≡ ReportAt.Report x) × (reportText x ≡ recordAt FileKind.Default file k)
-unfolding reportAt isRecord
-report-there file k e = go (reportOf (piece_of 13 file k)) refl (found-line FileKind.Default file k e).1
+pub report-there : (file : List ℕ) (k : ℕ) → found_at FileKind.Default file k ≡ Found.Record → (x : Report) × (report_at file k ≡ ReportAt.Report x) × (report_text x ≡ record_at FileKind.Default file k)
+unfolding report_at is_record
+report-there file k e = go (report_of (piece_of 13 file k)) refl (found-line FileKind.Default file k e).1
   where
-    go : (r : ReportRead) → reportOf (piece_of 13 file k) ≡ r → isReport r ≡ true → (x : Report) × (reportAt file k ≡ ReportAt.Report x) × (reportText x ≡ recordAt FileKind.Default file k)
+    go : (r : ReportRead) → report_of (piece_of 13 file k) ≡ r → is_report r ≡ true → (x : Report) × (report_at file k ≡ ReportAt.Report x) × (report_text x ≡ record_at FileKind.Default file k)
     go (ReportRead.Report x) q t = (x, rw (e, q), (report-back (piece_of 13 file k) x q).0 ∙ sym (found-line FileKind.Default file k e).0)
     go ReportRead.Fault q t = never t
 
-pub report-kept : (words : List ℕ) (n k : ℕ) → held FileKind.Default (valuesIn FileKind.Default words) ≡ Holding.Records n → k < n
-    → reportAt (fileOf FileKind.Default words) k ≡ reportFound Found.Record (reportOfWords (get_or (valuesIn FileKind.Default words) k []))
-unfolding reportAt fits text_of
+pub report-kept : (words : List ℕ) (n k : ℕ) → held FileKind.Default (values_in FileKind.Default words) ≡ Holding.Records n → k < n
+    → report_at (file_of FileKind.Default words) k ≡ report_found Found.Record (report_of_words (get_or (values_in FileKind.Default words) k []))
+unfolding report_at fits text_of
 report-kept words n k e h =
     let p = kept FileKind.Default words n k e h in
-    rw (p.found, p.line, report-same (get_or (valuesIn FileKind.Default words) k []) p.fit)
+    rw (p.found, p.line, report-same (get_or (values_in FileKind.Default words) k []) p.fit)
 
 -- ---- corrections
-pub correction-there : (file : List ℕ) (k : ℕ) → found_at FileKind.Correction file k ≡ Found.Record → (x : Correction) × (correctionAt file k ≡ CorrectionAt.Correction x) × (correctionText x ≡ recordAt FileKind.Correction file k)
-unfolding correctionAt isRecord
-correction-there file k e = go (correctionOf (piece_of 13 file k)) refl (found-line FileKind.Correction file k e).1
+pub correction-there : (file : List ℕ) (k : ℕ) → found_at FileKind.Correction file k ≡ Found.Record → (x : Correction) × (correction_at file k ≡ CorrectionAt.Correction x) × (correction_text x ≡ record_at FileKind.Correction file k)
+unfolding correction_at is_record
+correction-there file k e = go (correction_of (piece_of 13 file k)) refl (found-line FileKind.Correction file k e).1
   where
-    go : (r : CorrectionRead) → correctionOf (piece_of 13 file k) ≡ r → isCorrection r ≡ true → (x : Correction) × (correctionAt file k ≡ CorrectionAt.Correction x) × (correctionText x ≡ recordAt FileKind.Correction file k)
+    go : (r : CorrectionRead) → correction_of (piece_of 13 file k) ≡ r → is_correction r ≡ true → (x : Correction) × (correction_at file k ≡ CorrectionAt.Correction x) × (correction_text x ≡ record_at FileKind.Correction file k)
     go (CorrectionRead.Correction x) q t = (x, rw (e, q), (correction-back (piece_of 13 file k) x q).0 ∙ sym (found-line FileKind.Correction file k e).0)
     go CorrectionRead.Fault q t = never t
 
-pub correction-kept : (words : List ℕ) (n k : ℕ) → held FileKind.Correction (valuesIn FileKind.Correction words) ≡ Holding.Records n → k < n
-    → correctionAt (fileOf FileKind.Correction words) k ≡ correctionFound Found.Record (correctionOfWords (get_or (valuesIn FileKind.Correction words) k []))
-unfolding correctionAt fits text_of
+pub correction-kept : (words : List ℕ) (n k : ℕ) → held FileKind.Correction (values_in FileKind.Correction words) ≡ Holding.Records n → k < n
+    → correction_at (file_of FileKind.Correction words) k ≡ correction_found Found.Record (correction_of_words (get_or (values_in FileKind.Correction words) k []))
+unfolding correction_at fits text_of
 correction-kept words n k e h =
     let p = kept FileKind.Correction words n k e h in
-    rw (p.found, p.line, correction-same (get_or (valuesIn FileKind.Correction words) k []) p.fit)
+    rw (p.found, p.line, correction-same (get_or (values_in FileKind.Correction words) k []) p.fit)
 
 -- ---- requests
-pub request-there : (file : List ℕ) (k : ℕ) → found_at FileKind.Request file k ≡ Found.Record → (x : Request) × (requestAt file k ≡ RequestAt.Request x) × (requestText x ≡ recordAt FileKind.Request file k)
-unfolding requestAt isRecord
-request-there file k e = go (requestOf (piece_of 13 file k)) refl (found-line FileKind.Request file k e).1
+pub request-there : (file : List ℕ) (k : ℕ) → found_at FileKind.Request file k ≡ Found.Record → (x : Request) × (request_at file k ≡ RequestAt.Request x) × (request_text x ≡ record_at FileKind.Request file k)
+unfolding request_at is_record
+request-there file k e = go (request_of (piece_of 13 file k)) refl (found-line FileKind.Request file k e).1
   where
-    go : (r : RequestRead) → requestOf (piece_of 13 file k) ≡ r → isRequest r ≡ true → (x : Request) × (requestAt file k ≡ RequestAt.Request x) × (requestText x ≡ recordAt FileKind.Request file k)
+    go : (r : RequestRead) → request_of (piece_of 13 file k) ≡ r → is_request r ≡ true → (x : Request) × (request_at file k ≡ RequestAt.Request x) × (request_text x ≡ record_at FileKind.Request file k)
     go (RequestRead.Request x) q t = (x, rw (e, q), (request-back (piece_of 13 file k) x q).0 ∙ sym (found-line FileKind.Request file k e).0)
     go RequestRead.Fault q t = never t
 
-pub request-kept : (words : List ℕ) (n k : ℕ) → held FileKind.Request (valuesIn FileKind.Request words) ≡ Holding.Records n → k < n
-    → requestAt (fileOf FileKind.Request words) k ≡ requestFound Found.Record (requestOfWords (get_or (valuesIn FileKind.Request words) k []))
-unfolding requestAt fits text_of
+pub request-kept : (words : List ℕ) (n k : ℕ) → held FileKind.Request (values_in FileKind.Request words) ≡ Holding.Records n → k < n
+    → request_at (file_of FileKind.Request words) k ≡ request_found Found.Record (request_of_words (get_or (values_in FileKind.Request words) k []))
+unfolding request_at fits text_of
 request-kept words n k e h =
     let p = kept FileKind.Request words n k e h in
-    rw (p.found, p.line, request-same (get_or (valuesIn FileKind.Request words) k []) p.fit)
+    rw (p.found, p.line, request-same (get_or (values_in FileKind.Request words) k []) p.fit)
 
 -- ---- response files
 response-lines : (ls : List (List ℕ)) (i : ℕ) → judged FileKind.Response i ls ≡ judged FileKind.Default i ls
-unfolding judged lastLine unended recordFault
+unfolding judged last_line unended record_fault
 response-lines [] i = refl
 response-lines (l ∷ []) i = refl
-response-lines (l ∷ m ∷ ls) i = ap (λ (j : Judged). cond (begins l) (closed i l (m ∷ ls)) (onLine i (reportFault l) j)) (response-lines (m ∷ ls) (i + 1))
+response-lines (l ∷ m ∷ ls) i = ap (λ (j : Judged). cond (begins l) (closed i l (m ∷ ls)) (on_line i (report_fault l) j)) (response-lines (m ∷ ls) (i + 1))
 
 pub response-as-default : (file : List ℕ) (k : ℕ) → found_at FileKind.Response file k ≡ found_at FileKind.Default file k
-unfolding found_at judgedFile
-response-as-default file k = ap (λ (j : Judged). foundIn j k) (response-lines (split 13 file) 0)
+unfolding found_at judged_file
+response-as-default file k = ap (λ (j : Judged). found_in j k) (response-lines (split 13 file) 0)

@@ -3,6 +3,6 @@ use Rattle.std.specs.Prelude.{ℕ, zero, suc, ◌+◌, List}
 use Rattle.laws.specs.Split.{end_of}
 
 -- where the line k starts: behind the CR of the line before it
-unfoldable pub lineStart : List ℕ → ℕ → ℕ
-lineStart file zero = 0
-lineStart file (suc k) = end_of 13 file (lineStart file k) + 1
+unfoldable pub line_start : List ℕ → ℕ → ℕ
+line_start file zero = 0
+line_start file (suc k) = end_of 13 file (line_start file k) + 1

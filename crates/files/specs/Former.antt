@@ -3,33 +3,33 @@
 use Rattle.std.specs.Prelude.{eqb, ℕ, ◌+◌, Bool, cond, List, [], ◌∷◌}
 use Rattle.laws.specs.Lists.{same_lists}
 use Rattle.laws.specs.Split.{split}
-use Rattle.records.specs.closing.Closing.{begins, closingText}
+use Rattle.records.specs.closing.Closing.{begins, closing_text}
 use Rattle.records.specs.declared.names.kind.FileKind.{FileKind}
-use Rattle.records.specs.names.Kind.{hasClosing}
-use Rattle.records.specs.Record.{isRecord}
+use Rattle.records.specs.names.Kind.{has_closing}
+use Rattle.records.specs.Record.{is_record}
 use Rattle.files.specs.declared.judge.Judged.{Judged}
-use Rattle.files.specs.Judged.{isEnd}
+use Rattle.files.specs.Judged.{is_end}
 
 pub data Former : Type 0 where
   Records : ℕ → Former
   Fault : ℕ → Former
 
-abbrev pub formerClosed : ℕ → List ℕ → List (List ℕ) → Former
-formerClosed i l more = cond (same_lists eqb l (closingText (i + 1))) (cond (isEnd more) (Former.Records i) (Former.Fault (i + 1))) (Former.Fault i)
+abbrev pub former_closed : ℕ → List ℕ → List (List ℕ) → Former
+former_closed i l more = cond (same_lists eqb l (closing_text (i + 1))) (cond (is_end more) (Former.Records i) (Former.Fault (i + 1))) (Former.Fault i)
 
-unfoldable pub formerJudged : (List ℕ → Bool) → ℕ → List (List ℕ) → Former
-formerJudged record? i [] = Former.Fault i
-formerJudged record? i (l ∷ []) = Former.Fault i
-formerJudged record? i (l ∷ m ∷ more) =
-    cond (begins l) (formerClosed i l (m ∷ more)) (cond (record? l) (formerJudged record? (i + 1) (m ∷ more)) (Former.Fault i))
+unfoldable pub former_judged : (List ℕ → Bool) → ℕ → List (List ℕ) → Former
+former_judged record? i [] = Former.Fault i
+former_judged record? i (l ∷ []) = Former.Fault i
+former_judged record? i (l ∷ m ∷ more) =
+    cond (begins l) (former_closed i l (m ∷ more)) (cond (record? l) (former_judged record? (i + 1) (m ∷ more)) (Former.Fault i))
 
-unfoldable pub formerOne : (List ℕ → Bool) → List (List ℕ) → Former
-formerOne record? [] = Former.Fault 0
-formerOne record? (l ∷ []) = Former.Fault 0
-formerOne record? (l ∷ m ∷ more) = cond (record? l) (cond (isEnd (m ∷ more)) (Former.Records 1) (Former.Fault 1)) (Former.Fault 0)
+unfoldable pub former_one : (List ℕ → Bool) → List (List ℕ) → Former
+former_one record? [] = Former.Fault 0
+former_one record? (l ∷ []) = Former.Fault 0
+former_one record? (l ∷ m ∷ more) = cond (record? l) (cond (is_end (m ∷ more)) (Former.Records 1) (Former.Fault 1)) (Former.Fault 0)
 
-unfoldable pub formerFile : FileKind → List ℕ → Former
-formerFile kind file = cond (hasClosing kind) (formerJudged (isRecord kind) 0 (split 13 file)) (formerOne (isRecord kind) (split 13 file))
+unfoldable pub former_file : FileKind → List ℕ → Former
+former_file kind file = cond (has_closing kind) (former_judged (is_record kind) 0 (split 13 file)) (former_one (is_record kind) (split 13 file))
 
 -- what was told of a file before: the record, without field and cause
 abbrev pub formerly : Judged → Former

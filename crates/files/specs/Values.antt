@@ -2,15 +2,15 @@
 use Rattle.std.specs.Prelude.{ℕ, List, []}
 use Rattle.laws.specs.Split.{piece_of}
 use Rattle.laws.specs.Told.{Told, told}
-use Rattle.faults.specs.Cause.{faultTold}
+use Rattle.faults.specs.Cause.{fault_told}
 use Rattle.layout.specs.declared.report.ReportRead.{ReportRead}
 use Rattle.layout.specs.declared.correction.CorrectionRead.{CorrectionRead}
 use Rattle.layout.specs.declared.request.RequestRead.{RequestRead}
-use Rattle.layout.specs.Report.{reportOf}
-use Rattle.layout.specs.Correction.{correctionOf}
-use Rattle.layout.specs.Request.{requestOf}
+use Rattle.layout.specs.Report.{report_of}
+use Rattle.layout.specs.Correction.{correction_of}
+use Rattle.layout.specs.Request.{request_of}
 use Rattle.records.specs.declared.names.kind.FileKind.{FileKind}
-use Rattle.records.specs.Worded.{reportWords, correctionWords, requestWords}
+use Rattle.records.specs.Worded.{report_words, correction_words, request_words}
 use Rattle.files.specs.declared.read.Found.{Found}
 use Rattle.files.specs.declared.values.ReportAt.{ReportAt}
 use Rattle.files.specs.declared.values.CorrectionAt.{CorrectionAt}
@@ -19,47 +19,47 @@ use Rattle.files.specs.Reading.{found_at}
 
 -- ---- where a record is found, it is read (`proofs/ValueTrip`), so the last line of each is never asked
 -- reports of default and response files
-abbrev pub reportFound : Found → ReportRead → ReportAt
-reportFound (Found.Fault place cause) r = ReportAt.Fault place cause
-reportFound Found.Beyond r = ReportAt.Beyond
-reportFound Found.Record (ReportRead.Report x) = ReportAt.Report x
-reportFound Found.Record ReportRead.Fault = ReportAt.Beyond
+abbrev pub report_found : Found → ReportRead → ReportAt
+report_found (Found.Fault place cause) r = ReportAt.Fault place cause
+report_found Found.Beyond r = ReportAt.Beyond
+report_found Found.Record (ReportRead.Report x) = ReportAt.Report x
+report_found Found.Record ReportRead.Fault = ReportAt.Beyond
 
-unfoldable pub reportAt : List ℕ → ℕ → ReportAt
-reportAt file k = reportFound (found_at FileKind.Default file k) (reportOf (piece_of 13 file k))
+unfoldable pub report_at : List ℕ → ℕ → ReportAt
+report_at file k = report_found (found_at FileKind.Default file k) (report_of (piece_of 13 file k))
 
 -- corrections
-abbrev pub correctionFound : Found → CorrectionRead → CorrectionAt
-correctionFound (Found.Fault place cause) r = CorrectionAt.Fault place cause
-correctionFound Found.Beyond r = CorrectionAt.Beyond
-correctionFound Found.Record (CorrectionRead.Correction x) = CorrectionAt.Correction x
-correctionFound Found.Record CorrectionRead.Fault = CorrectionAt.Beyond
+abbrev pub correction_found : Found → CorrectionRead → CorrectionAt
+correction_found (Found.Fault place cause) r = CorrectionAt.Fault place cause
+correction_found Found.Beyond r = CorrectionAt.Beyond
+correction_found Found.Record (CorrectionRead.Correction x) = CorrectionAt.Correction x
+correction_found Found.Record CorrectionRead.Fault = CorrectionAt.Beyond
 
-unfoldable pub correctionAt : List ℕ → ℕ → CorrectionAt
-correctionAt file k = correctionFound (found_at FileKind.Correction file k) (correctionOf (piece_of 13 file k))
+unfoldable pub correction_at : List ℕ → ℕ → CorrectionAt
+correction_at file k = correction_found (found_at FileKind.Correction file k) (correction_of (piece_of 13 file k))
 
 -- the request of a request file
-abbrev pub requestFound : Found → RequestRead → RequestAt
-requestFound (Found.Fault place cause) r = RequestAt.Fault place cause
-requestFound Found.Beyond r = RequestAt.Beyond
-requestFound Found.Record (RequestRead.Request x) = RequestAt.Request x
-requestFound Found.Record RequestRead.Fault = RequestAt.Beyond
+abbrev pub request_found : Found → RequestRead → RequestAt
+request_found (Found.Fault place cause) r = RequestAt.Fault place cause
+request_found Found.Beyond r = RequestAt.Beyond
+request_found Found.Record (RequestRead.Request x) = RequestAt.Request x
+request_found Found.Record RequestRead.Fault = RequestAt.Beyond
 
-unfoldable pub requestAt : List ℕ → ℕ → RequestAt
-requestAt file k = requestFound (found_at FileKind.Request file k) (requestOf (piece_of 13 file k))
+unfoldable pub request_at : List ℕ → ℕ → RequestAt
+request_at file k = request_found (found_at FileKind.Request file k) (request_of (piece_of 13 file k))
 
 -- ---- what an answer tells: 0 with the words that a writer takes for this record, 4 with the fault, or 7
-abbrev pub reportAtTold : ReportAt → Told
-reportAtTold (ReportAt.Report r) = told 0 (reportWords r)
-reportAtTold (ReportAt.Fault place cause) = faultTold place cause
-reportAtTold ReportAt.Beyond = told 7 []
+abbrev pub report_at_told : ReportAt → Told
+report_at_told (ReportAt.Report r) = told 0 (report_words r)
+report_at_told (ReportAt.Fault place cause) = fault_told place cause
+report_at_told ReportAt.Beyond = told 7 []
 
-abbrev pub correctionAtTold : CorrectionAt → Told
-correctionAtTold (CorrectionAt.Correction c) = told 0 (correctionWords c)
-correctionAtTold (CorrectionAt.Fault place cause) = faultTold place cause
-correctionAtTold CorrectionAt.Beyond = told 7 []
+abbrev pub correction_at_told : CorrectionAt → Told
+correction_at_told (CorrectionAt.Correction c) = told 0 (correction_words c)
+correction_at_told (CorrectionAt.Fault place cause) = fault_told place cause
+correction_at_told CorrectionAt.Beyond = told 7 []
 
-abbrev pub requestAtTold : RequestAt → Told
-requestAtTold (RequestAt.Request q) = told 0 (requestWords q)
-requestAtTold (RequestAt.Fault place cause) = faultTold place cause
-requestAtTold RequestAt.Beyond = told 7 []
+abbrev pub request_at_told : RequestAt → Told
+request_at_told (RequestAt.Request q) = told 0 (request_words q)
+request_at_told (RequestAt.Fault place cause) = fault_told place cause
+request_at_told RequestAt.Beyond = told 7 []

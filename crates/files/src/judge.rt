@@ -2,7 +2,7 @@
 ghost use Rattle.std.specs.Prelude.{◌≡◌, ◌+◌, ◌≤◌, ◌<◌, length, drop};
 ghost use Rattle.laws.specs.Split.{split, between};
 ghost use Rattle.files.specs.declared.judge.Judged.{Judged};
-ghost use Rattle.files.specs.Judged.{placeAt, closed, unended, lastLine, judged, judgedOne, judgedFile};
+ghost use Rattle.files.specs.Judged.{place_at, closed, unended, last_line, judged, judged_one, judged_file};
 
 use faults::cause::{Cause, FaultPlace, RecordCheck};
 use records::names::kind::FileKind;
@@ -16,14 +16,14 @@ pub enum Judged {
 
 // A fault of the whole file stands at the place `i`, in no field.
 fn at_line(i: usize, cause: Cause) -> Judged
-    ensures { result ≡ Judged.Fault (placeAt i 0) cause }
+    ensures { result ≡ Judged.Fault (place_at i 0) cause }
 {
     Judged::Fault(FaultPlace { place: i, field: 0 }, cause)
 }
 
 // A fault in a field of the record at the place `i`.
 fn at_field(i: usize, field: usize, cause: Cause) -> Judged
-    ensures { result ≡ Judged.Fault (placeAt i field) cause }
+    ensures { result ≡ Judged.Fault (place_at i field) cause }
 {
     Judged::Fault(FaultPlace { place: i, field }, cause)
 }
@@ -55,7 +55,7 @@ fn judge_unended(kind: FileKind, line: &[u8], i: usize) -> Judged
 
 // What stands behind the last CR.
 fn judge_last(kind: FileKind, line: &[u8], i: usize) -> Judged
-    ensures { result ≡ lastLine kind i line.now }
+    ensures { result ≡ last_line kind i line.now }
 {
     if line.len() == 0 {
         return at_line(i, Cause::Closing);
@@ -89,7 +89,7 @@ fn judge_closed(kind: FileKind, file: &[u8]) -> Judged
 
 // A file of one record, without a closing record.
 fn judge_one(kind: FileKind, file: &[u8]) -> Judged
-    ensures { result ≡ judgedOne kind (split 13 file.now) }
+    ensures { result ≡ judged_one kind (split 13 file.now) }
 {
     let end = text::field_end(file, 0, 13);
     if file.len() <= end {
@@ -106,7 +106,7 @@ fn judge_one(kind: FileKind, file: &[u8]) -> Judged
 }
 
 pub fn judge(kind: FileKind, file: &[u8]) -> Judged
-    ensures { result ≡ judgedFile kind file.now }
+    ensures { result ≡ judged_file kind file.now }
 {
     if kind.has_closing() {
         return judge_closed(kind, file);

@@ -1,7 +1,7 @@
 // The record at a place of a file: its bytes, as a part of the lent file.
 ghost use Rattle.std.specs.Prelude.{◌≡◌};
 ghost use Rattle.laws.specs.Split.{end_of};
-ghost use Rattle.files.specs.Reading.{found_at, recordAt};
+ghost use Rattle.files.specs.Reading.{found_at, record_at};
 
 use crate::judge::Judged;
 use faults::cause::{Cause, FaultPlace};
@@ -32,7 +32,7 @@ pub fn find(kind: FileKind, file: &[u8], place: usize) -> Found
 
 // The bytes of the record at a place; nothing where there is none.
 pub fn record_bytes<'a>(kind: FileKind, file: &'a [u8], place: usize) -> &'a [u8]
-    ensures { result.now ≡ recordAt kind file.now place }
+    ensures { result.now ≡ record_at kind file.now place }
 {
     let Judged::Records(n) = crate::judge::judge(kind, file) else {
         return &file[0..0];

@@ -1,7 +1,7 @@
 // The value of the record at a place of a file: a report of a default or a response file, a correction, a request. 4 with the file's first
 // fault and its cause, then 7 for a place beyond its records.
 ghost use Rattle.std.specs.Prelude.{◌≡◌};
-ghost use Rattle.files.specs.Values.{reportAt, correctionAt, requestAt};
+ghost use Rattle.files.specs.Values.{report_at, correction_at, request_at};
 
 use crate::read::Found;
 use faults::cause::{Cause, FaultPlace};
@@ -18,7 +18,7 @@ pub enum ReportAt {
 }
 
 pub fn read_report(file: &[u8], place: usize) -> ReportAt
-    ensures { result ≡ reportAt file.now place }
+    ensures { result ≡ report_at file.now place }
 {
     match crate::read::find(FileKind::Default, file, place) {
         Found::Fault(at, cause) => ReportAt::Fault(at, cause),
@@ -40,7 +40,7 @@ pub enum CorrectionAt {
 }
 
 pub fn read_correction(file: &[u8], place: usize) -> CorrectionAt
-    ensures { result ≡ correctionAt file.now place }
+    ensures { result ≡ correction_at file.now place }
 {
     match crate::read::find(FileKind::Correction, file, place) {
         Found::Fault(at, cause) => CorrectionAt::Fault(at, cause),
@@ -63,7 +63,7 @@ pub enum RequestAt {
 }
 
 pub fn read_request(file: &[u8], place: usize) -> RequestAt
-    ensures { result ≡ requestAt file.now place }
+    ensures { result ≡ request_at file.now place }
 {
     match crate::read::find(FileKind::Request, file, place) {
         Found::Fault(at, cause) => RequestAt::Fault(at, cause),

@@ -1,8 +1,8 @@
 // Records read from a line, or at a place of a file, and written again.
 ghost use Rattle.std.specs.Prelude.{◌≡◌, true};
-ghost use Rattle.layout.specs.Report.{reportFits};
-ghost use Rattle.layout.specs.Correction.{correctionFits};
-ghost use Rattle.layout.specs.Request.{requestFits};
+ghost use Rattle.layout.specs.Report.{report_fits};
+ghost use Rattle.layout.specs.Correction.{correction_fits};
+ghost use Rattle.layout.specs.Request.{request_fits};
 
 use crate::show;
 use files::values::{CorrectionAt, ReportAt, RequestAt};
@@ -13,7 +13,7 @@ use records::names::kind::FileKind;
 
 // How many bytes were written, and 1,000 for a fault.
 fn put_report(r: Report, out: &mut [u8]) -> usize
-    requires { reportFits r ≡ true }
+    requires { report_fits r ≡ true }
 {
     if out.len() < r.len() {
         return 1000;
@@ -22,7 +22,7 @@ fn put_report(r: Report, out: &mut [u8]) -> usize
 }
 
 fn put_correction(c: Correction, out: &mut [u8]) -> usize
-    requires { correctionFits c ≡ true }
+    requires { correction_fits c ≡ true }
 {
     if out.len() < c.len() {
         return 1000;
@@ -31,7 +31,7 @@ fn put_correction(c: Correction, out: &mut [u8]) -> usize
 }
 
 fn put_request(r: Request, out: &mut [u8]) -> usize
-    requires { requestFits r ≡ true }
+    requires { request_fits r ≡ true }
 {
     if out.len() < r.len() {
         return 1000;

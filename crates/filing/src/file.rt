@@ -1,6 +1,6 @@
 // Filing a file, or refusing it.
 ghost use Rattle.std.specs.Prelude.{◌≡◌};
-ghost use Rattle.filing.specs.entering.Entering.{filedAs, Enterable};
+ghost use Rattle.filing.specs.entering.Entering.{filed_as, Enterable};
 ghost use Rattle.store.specs.Reads.{lent};
 ghost use Rattle.filing.specs.Effect.{Files, Accepted};
 
@@ -28,7 +28,7 @@ fn accept(
     m: usize,
 ) -> usize
     requires { Enterable (lent table.now files.old regular.old corrections.old entries.old) kind publisher.0 day.0 text.now m }
-    ensures { Accepted (filedAs kind publisher.0 day.0 text.now) (lent table.now files.old regular.old corrections.old entries.old) result (lent table.now files.new regular.new corrections.new entries.new) }
+    ensures { Accepted (filed_as kind publisher.0 day.0 text.now) (lent table.now files.old regular.old corrections.old entries.old) result (lent table.now files.new regular.new corrections.new entries.new) }
 {
     enter::enter(files, regular, corrections, kind, publisher, day, text, m);
     renew::renew(table, files, regular, corrections, entries)

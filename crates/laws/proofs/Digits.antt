@@ -11,7 +11,7 @@ use lib.ListN.{length, set, length-append}
 use borrow.Author.Tests.{le-leb, lt-ltb, le-ltb, leb-true}
 use Rattle.laws.specs.Lists.{all}
 use Rattle.laws.specs.Overlay.{overlay}
-use Rattle.laws.specs.Digits.{isDigit, allDigits, spelt, digits, down, size_of}
+use Rattle.laws.specs.Digits.{is_digit, all_digits, spelt, digits, down, size_of}
 use Rattle.laws.proofs.Tests.{and_left, and_right, and-true}
 use Rattle.laws.proofs.Tables.{all_more}
 use Rattle.laws.proofs.Overlay.{overlay-last}
@@ -55,12 +55,12 @@ spelt-digits (suc k) n =
     ∙ ap (λ (q : ℕ). q * 10 + (48 + n % 10 - 48)) (spelt-digits k (n / 10))
     ∙ omega arith
 
-pub all_digits : (k n : ℕ) → allDigits (digits k n) ≡ true
-unfolding all digits isDigit
-all_digits zero n = refl
-all_digits (suc k) n =
-    all_more isDigit (digits k (n / 10)) (48 + n % 10)
-    ∙ and-true _ _ (all_digits k (n / 10)) (and-true _ _ (le-leb 48 (48 + n % 10) (omega arith)) (le-leb (48 + n % 10) 57 (omega arith)))
+pub all_digits_lem : (k n : ℕ) → all_digits (digits k n) ≡ true
+unfolding all digits is_digit
+all_digits_lem zero n = refl
+all_digits_lem (suc k) n =
+    all_more is_digit (digits k (n / 10)) (48 + n % 10)
+    ∙ and-true _ _ (all_digits_lem k (n / 10)) (and-true _ _ (le-leb 48 (48 + n % 10) (omega arith)) (le-leb (48 + n % 10) 57 (omega arith)))
 
 -- how many digits follow the first
 pub size_none : (i m : ℕ) → m < 10 → size_of i m ≡ 0
@@ -93,21 +93,21 @@ size-end most k m h =
     let e : most - k ≡ 0 = omega arith in
     rw e
 
-pub digit_low : (x : ℕ) → isDigit x ≡ true → 48 ≤ x
-unfolding isDigit
+pub digit_low : (x : ℕ) → is_digit x ≡ true → 48 ≤ x
+unfolding is_digit
 digit_low x p = leb-true 48 x (and_left (leb 48 x) (leb x 57) p)
 
-pub digit-high : (x : ℕ) → isDigit x ≡ true → x ≤ 57
-unfolding isDigit
+pub digit-high : (x : ℕ) → is_digit x ≡ true → x ≤ 57
+unfolding is_digit
 digit-high x p = leb-true x 57 (and_right (leb 48 x) (leb x 57) p)
 
-pub spelt-below : (l : List ℕ) (n : ℕ) → allDigits l ≡ true → spelt n l < suc n * 10 ^ length l
+pub spelt-below : (l : List ℕ) (n : ℕ) → all_digits l ≡ true → spelt n l < suc n * 10 ^ length l
 unfolding all spelt
 spelt-below [] n p = omega arith
 spelt-below (x ∷ l) n p =
-    let d = and_left (isDigit x) (allDigits l) p in
+    let d = and_left (is_digit x) (all_digits l) p in
     let step : suc (n * 10 + (x - 48)) ≤ suc n * 10 = omega (arith, digit_low x d, digit-high x d) in
-    let ih = spelt-below l (n * 10 + (x - 48)) (and_right (isDigit x) (allDigits l) p) in
+    let ih = spelt-below l (n * 10 + (x - 48)) (and_right (is_digit x) (all_digits l) p) in
     let more : suc n * 10 * 10 ^ length l ≡ suc n * 10 ^ suc (length l) = rw (pow-succ', mul_assoc) in
     rw more at (lt_of_lt_of_le ih (mul-le-mul_right (10 ^ length l) step))
 
@@ -120,28 +120,28 @@ unfolding size_of
 size-suc k n h = rw (le-ltb n 10 h)
 
 -- the bytes that were read are written again
-pub digits-spelt : (l : List ℕ) (k n : ℕ) → allDigits l ≡ true → digits (k + length l) (spelt n l) ≡ digits k n ++ l
+pub digits-spelt : (l : List ℕ) (k n : ℕ) → all_digits l ≡ true → digits (k + length l) (spelt n l) ≡ digits k n ++ l
 unfolding all spelt
 digits-spelt [] k n p = rw (add-zero, append-nil)
 digits-spelt (x ∷ l) k n p =
-    let d = and_left (isDigit x) (allDigits l) p in
+    let d = and_left (is_digit x) (all_digits l) p in
     let high : (n * 10 + (x - 48)) / 10 ≡ n = omega (arith, digit_low x d, digit-high x d) in
     let low : 48 + (n * 10 + (x - 48)) % 10 ≡ x = omega (arith, digit_low x d, digit-high x d) in
     let e : k + suc (length l) ≡ suc k + length l = omega arith in
     ap (λ (j : ℕ). digits j (spelt (n * 10 + (x - 48)) l)) e
-    ∙ digits-spelt l (suc k) (n * 10 + (x - 48)) (and_right (isDigit x) (allDigits l) p)
+    ∙ digits-spelt l (suc k) (n * 10 + (x - 48)) (and_right (is_digit x) (all_digits l) p)
     ∙ rw (digits-suc, high, low, append_assoc)
 
-pub size-spelt : (l : List ℕ) (k n : ℕ) → allDigits l ≡ true → 1 ≤ n → size_of (k + length l) (spelt n l) ≡ size_of k n + length l
+pub size-spelt : (l : List ℕ) (k n : ℕ) → all_digits l ≡ true → 1 ≤ n → size_of (k + length l) (spelt n l) ≡ size_of k n + length l
 unfolding all spelt
 size-spelt [] k n p h = rw (add-zero, add-zero)
 size-spelt (x ∷ l) k n p h =
-    let d = and_left (isDigit x) (allDigits l) p in
+    let d = and_left (is_digit x) (all_digits l) p in
     let high : (n * 10 + (x - 48)) / 10 ≡ n = omega (arith, digit_low x d, digit-high x d) in
     let e : k + suc (length l) ≡ suc k + length l = omega arith in
     let big : 10 ≤ n * 10 + (x - 48) = omega arith in
     ap (λ (j : ℕ). size_of j (spelt (n * 10 + (x - 48)) l)) e
-    ∙ size-spelt l (suc k) (n * 10 + (x - 48)) (and_right (isDigit x) (allDigits l) p) (omega arith)
+    ∙ size-spelt l (suc k) (n * 10 + (x - 48)) (and_right (is_digit x) (all_digits l) p) (omega arith)
     ∙ rw (size-suc, high) (omega arith)
 
 -- a turn of `leading`
@@ -185,16 +185,16 @@ unfolding down
 down-next n p = let e : n + 1 ≡ 1 + n = omega arith in ap (λ (k : ℕ). down k p) e ∙ sym (down-down 1 n p)
 
 -- without the digits that were read, what stood before them is left
-pub down-spelt : (l : List ℕ) (n : ℕ) → allDigits l ≡ true → down (length l) (spelt n l) ≡ n
+pub down-spelt : (l : List ℕ) (n : ℕ) → all_digits l ≡ true → down (length l) (spelt n l) ≡ n
 unfolding all spelt
 down-spelt [] n p = unfold down in refl
 down-spelt (x ∷ l) n p =
-    let d = and_left (isDigit x) (allDigits l) p in
+    let d = and_left (is_digit x) (all_digits l) p in
     let high : (n * 10 + (x - 48)) / 10 ≡ n = omega (arith, digit_low x d, digit-high x d) in
     let e : suc (length l) ≡ length l + 1 = omega arith in
     ap (λ (k : ℕ). down k (spelt (n * 10 + (x - 48)) l)) e
     ∙ down-next (length l) (spelt (n * 10 + (x - 48)) l)
-    ∙ ap (λ (m : ℕ). m / 10) (down-spelt l (n * 10 + (x - 48)) (and_right (isDigit x) (allDigits l) p))
+    ∙ ap (λ (m : ℕ). m / 10) (down-spelt l (n * 10 + (x - 48)) (and_right (is_digit x) (all_digits l) p))
     ∙ high
 
 -- ---- a field of a fixed width: k digits and nothing before them
@@ -206,11 +206,11 @@ down-small (suc k) n h = down-small k (n / 10) (let e : n < 10 * 10 ^ k = rw (�
 pub width-trip : (k n : ℕ) → n < 10 ^ k → spelt 0 (digits k n) ≡ n
 width-trip k n h = rw (down-small k n h) at (spelt-digits k n)
 
-pub width_back : (l : List ℕ) → allDigits l ≡ true → digits (length l) (spelt 0 l) ≡ l
+pub width_back : (l : List ℕ) → all_digits l ≡ true → digits (length l) (spelt 0 l) ≡ l
 unfolding digits
 width_back l p = rw zero-add at (digits-spelt l 0 0 p)
 
-pub width-below : (l : List ℕ) → allDigits l ≡ true → spelt 0 l < 10 ^ length l
+pub width-below : (l : List ℕ) → all_digits l ≡ true → spelt 0 l < 10 ^ length l
 width-below l p = omega (arith, spelt-below l 0 p)
 
 -- a number of at most k + 1 digits

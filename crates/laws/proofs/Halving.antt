@@ -16,15 +16,15 @@ use lib.Dec.{eqb, leb}
 use lib.ListN.{length, get_or}
 use borrow.Author.Tests.{leb-true, eq-eqb, ne_eqb}
 use Rattle.laws.specs.Lists.{any}
-use Rattle.laws.specs.Order.{neverFalls}
+use Rattle.laws.specs.Order.{never_falls}
 use Rattle.laws.proofs.Tests.{and_left, and_right, le-or-lt}
 
 -- of any two, the first is not above the second
-falls-next : (x y : ℕ) (l : List ℕ) → neverFalls (x ∷ y ∷ l) ≡ true → (x ≤ y) × (neverFalls (y ∷ l) ≡ true)
-unfolding neverFalls
+falls-next : (x y : ℕ) (l : List ℕ) → never_falls (x ∷ y ∷ l) ≡ true → (x ≤ y) × (never_falls (y ∷ l) ≡ true)
+unfolding never_falls
 falls-next x y l e = (leb-true x y (and_left (leb x y) _ e), and_right (leb x y) _ e)
 
-pub never-above : (l : List ℕ) → neverFalls l ≡ true → (i j : ℕ) → i ≤ j → j < length l → get_or l i 0 ≤ get_or l j 0
+pub never-above : (l : List ℕ) → never_falls l ≡ true → (i j : ℕ) → i ≤ j → j < length l → get_or l i 0 ≤ get_or l j 0
 never-above [] e i j h k = absurd (omega arith)
 never-above (x ∷ l) e zero zero h k = le_refl x
 never-above (x ∷ []) e i (suc j) h k = absurd (omega arith)
@@ -59,7 +59,7 @@ pub record Within (x : ℕ) (l : List ℕ) (lo hi : ℕ) : Type 0 where
 pub within-start : (x : ℕ) (l : List ℕ) (hi : ℕ) → hi ≡ length l → Within x l 0 hi
 within-start x l hi e = record { fits = omega arith; below = λ i h. absurd (omega arith); above = λ i h k. absurd (omega arith) }
 
-module _ (x : ℕ) (l : List ℕ) (e : neverFalls l ≡ true) (lo hi i : ℕ) (w : Within x l lo hi) where
+module _ (x : ℕ) (l : List ℕ) (e : never_falls l ≡ true) (lo hi i : ℕ) (w : Within x l lo hi) where
   pub within-up : i < hi → get_or l i 0 < x → Within x l (i + 1) hi
   within-up h k = record { fits = w.fits; below = λ j m. omega (arith, never-above l e j i (omega arith) (omega arith)); above = w.above }
 

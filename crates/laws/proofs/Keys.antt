@@ -13,10 +13,10 @@ use lib.Dec.{leb}
 use lib.ListN.{length}
 use Rattle.laws.specs.Lists.{keep}
 use Rattle.laws.specs.Keys.{room, packed, Fits}
-use Rattle.laws.specs.Order.{put, inOrder, sorted, notAfter}
+use Rattle.laws.specs.Order.{put, in_order, sorted, not_after}
 use Rattle.laws.proofs.Tests.{le-or-lt}
 use Rattle.laws.proofs.Lists.{mem-keep}
-use Rattle.laws.proofs.Order.{mem-inOrder}
+use Rattle.laws.proofs.Order.{mem-in_order}
 use Rattle.laws.proofs.ByKey.{after-below, after-level, after-above}
 
 -- ---- one order for another. An element is only ever compared with those that stand behind it
@@ -60,10 +60,10 @@ module _ {A B : Type 0} (f : A → B) (le : A → A → Bool) (le' : B → B →
       go true ih = refl
       go false ih = ap (λ (r : List B). f y ∷ r) ih
 
-  pub map-onward : (l : List A) → Onward (λ (x y : A). le x y ≡ le' (f x) (f y)) l → map f (inOrder le l) ≡ inOrder le' (map f l)
-  unfolding inOrder
+  pub map-onward : (l : List A) → Onward (λ (x y : A). le x y ≡ le' (f x) (f y)) l → map f (in_order le l) ≡ in_order le' (map f l)
+  unfolding in_order
   map-onward [] o = refl
-  map-onward (x ∷ l) o = map-put x (inOrder le l) (λ y m. o.0 y (mem-inOrder le l m)) ∙ ap (put le' (f x)) (map-onward l o.1)
+  map-onward (x ∷ l) o = map-put x (in_order le l) (λ y m. o.0 y (mem-in_order le l m)) ∙ ap (put le' (f x)) (map-onward l o.1)
 
 -- one relation for another, where the elements keep what is needed for it
 pub onward-both : {A : Type 0} (P : A → Type 0) (R S : A → A → Type 0) → ((x y : A) → P x → P y → R x y → S x y) → (l : List A) → ((x : A) → Memᴰ x l → P x) → Onward R l → Onward S l
@@ -80,12 +80,12 @@ onward-each : {A : Type 0} (R : A → A → Type 0) (l : List A) → ((x y : A) 
 onward-each R [] h = tt
 onward-each R (x ∷ l) h = ((λ y m. h x y (Memᴰ.head refl) (Memᴰ.tail m)), onward-each R l (λ y z j k. h y z (Memᴰ.tail j) (Memᴰ.tail k)))
 
-pub map-inOrder : {A B : Type 0} (f : A → B) (le : A → A → Bool) (le' : B → B → Bool) (l : List A) → ((x y : A) → Memᴰ x l → Memᴰ y l → le x y ≡ le' (f x) (f y)) → map f (inOrder le l) ≡ inOrder le' (map f l)
-map-inOrder {A} f le le' l h = map-onward f le le' l (onward-each (λ (x y : A). le x y ≡ le' (f x) (f y)) l h)
+pub map-in_order : {A B : Type 0} (f : A → B) (le : A → A → Bool) (le' : B → B → Bool) (l : List A) → ((x y : A) → Memᴰ x l → Memᴰ y l → le x y ≡ le' (f x) (f y)) → map f (in_order le l) ≡ in_order le' (map f l)
+map-in_order {A} f le le' l h = map-onward f le le' l (onward-each (λ (x y : A). le x y ≡ le' (f x) (f y)) l h)
 
 -- what sorted numbers stand for
-pub sorted-stand-for : {A : Type 0} (le : A → A → Bool) (f : ℕ → A) (ks : List ℕ) → ((x y : ℕ) → Memᴰ x ks → Memᴰ y ks → leb x y ≡ le (f x) (f y)) → map f (sorted ks) ≡ inOrder le (map f ks)
-sorted-stand-for le f ks h = map-inOrder f leb le ks h
+pub sorted-stand-for : {A : Type 0} (le : A → A → Bool) (f : ℕ → A) (ks : List ℕ) → ((x y : ℕ) → Memᴰ x ks → Memᴰ y ks → leb x y ≡ le (f x) (f y)) → map f (sorted ks) ≡ in_order le (map f ks)
+sorted-stand-for le f ks h = map-in_order f leb le ks h
 
 -- ---- a number for a list of digits, each below its bound
 digit : (x y r p : ℕ) → x < y → r < p → x * p + r < y * p
@@ -103,8 +103,8 @@ packed-below (b ∷ bs) [] h = absurd h
 packed-below (b ∷ bs) (x ∷ xs) h = digit x b (packed bs xs) (room bs) h.0 (packed-below bs xs h.1)
 
 -- the numbers come in the order of the lists
-pub packed-order : (bs xs ys : List ℕ) → Fits bs xs → Fits bs ys → leb (packed bs xs) (packed bs ys) ≡ notAfter xs ys
-packed-order [] [] [] h k = unfold notAfter in refl
+pub packed-order : (bs xs ys : List ℕ) → Fits bs xs → Fits bs ys → leb (packed bs xs) (packed bs ys) ≡ not_after xs ys
+packed-order [] [] [] h k = unfold not_after in refl
 packed-order [] [] (y ∷ ys) h k = absurd k
 packed-order [] (x ∷ xs) ys h k = absurd h
 packed-order (b ∷ bs) [] ys h k = absurd h
@@ -124,32 +124,32 @@ packed-order (b ∷ bs) (x ∷ xs) (y ∷ ys) h k =
     s< : s < room bs
     s< = packed-below bs ys k.1
 
-    level : leb r s ≡ notAfter xs ys → x ≡ y → leb (x * room bs + r) (y * room bs + s) ≡ notAfter (x ∷ xs) (y ∷ ys)
+    level : leb r s ≡ not_after xs ys → x ≡ y → leb (x * room bs + r) (y * room bs + s) ≡ not_after (x ∷ xs) (y ∷ ys)
     level ih e = rw e (leb-add (y * room bs) r s ∙ ih ∙ sym (after-level y y xs ys refl))
 
-    below : x < y → leb (x * room bs + r) (y * room bs + s) ≡ notAfter (x ∷ xs) (y ∷ ys)
+    below : x < y → leb (x * room bs + r) (y * room bs + s) ≡ not_after (x ∷ xs) (y ∷ ys)
     below p = le-leb (x * room bs + r) (y * room bs + s) (omega (arith, digit x y r (room bs) p r<)) ∙ sym (after-below x y xs ys p)
 
-    above : y < x → leb (x * room bs + r) (y * room bs + s) ≡ notAfter (x ∷ xs) (y ∷ ys)
+    above : y < x → leb (x * room bs + r) (y * room bs + s) ≡ not_after (x ∷ xs) (y ∷ ys)
     above p = lt-leb (x * room bs + r) (y * room bs + s) (omega (arith, digit y x s (room bs) p s<)) ∙ sym (after-above x y xs ys p)
 
-none_left : notAfter [] [] ≡ true
-unfolding notAfter
+none_left : not_after [] [] ≡ true
+unfolding not_after
 none_left = refl
 
 -- a last digit that does not fall between equal lists changes nothing: so it may say which element it is, for code that has to find it again
-pub tagged-order : (xs ys : List ℕ) (i j : ℕ) → length xs ≡ length ys → (xs ≡ ys → i ≤ j) → notAfter (xs ++ (i ∷ [])) (ys ++ (j ∷ [])) ≡ notAfter xs ys
+pub tagged-order : (xs ys : List ℕ) (i j : ℕ) → length xs ≡ length ys → (xs ≡ ys → i ≤ j) → not_after (xs ++ (i ∷ [])) (ys ++ (j ∷ [])) ≡ not_after xs ys
 tagged-order [] [] i j l h = ⊎_elim (after-level i j [] []) (λ p. after-below i j [] [] p ∙ sym none_left) (eq-or-lt_of_le (h refl))
 tagged-order [] (y ∷ ys) i j l h = absurd (omega arith)
 tagged-order (x ∷ xs) [] i j l h = absurd (omega arith)
 tagged-order (x ∷ xs) (y ∷ ys) i j l h =
     ⊎_elim (λ (p : x ≤ y). ⊎_elim (λ (e : x ≡ y). level e (tagged-order xs ys i j (omega arith) (λ q. h (λ k. e k ∷ q k)))) below (eq-or-lt_of_le p)) above (le-or-lt x y)
   where
-    level : x ≡ y → notAfter (xs ++ (i ∷ [])) (ys ++ (j ∷ [])) ≡ notAfter xs ys → notAfter (x ∷ (xs ++ (i ∷ []))) (y ∷ (ys ++ (j ∷ []))) ≡ notAfter (x ∷ xs) (y ∷ ys)
+    level : x ≡ y → not_after (xs ++ (i ∷ [])) (ys ++ (j ∷ [])) ≡ not_after xs ys → not_after (x ∷ (xs ++ (i ∷ []))) (y ∷ (ys ++ (j ∷ []))) ≡ not_after (x ∷ xs) (y ∷ ys)
     level e ih = after-level x y _ _ e ∙ ih ∙ sym (after-level x y xs ys e)
 
-    below : x < y → notAfter (x ∷ (xs ++ (i ∷ []))) (y ∷ (ys ++ (j ∷ []))) ≡ notAfter (x ∷ xs) (y ∷ ys)
+    below : x < y → not_after (x ∷ (xs ++ (i ∷ []))) (y ∷ (ys ++ (j ∷ []))) ≡ not_after (x ∷ xs) (y ∷ ys)
     below p = after-below x y _ _ p ∙ sym (after-below x y xs ys p)
 
-    above : y < x → notAfter (x ∷ (xs ++ (i ∷ []))) (y ∷ (ys ++ (j ∷ []))) ≡ notAfter (x ∷ xs) (y ∷ ys)
+    above : y < x → not_after (x ∷ (xs ++ (i ∷ []))) (y ∷ (ys ++ (j ∷ []))) ≡ not_after (x ∷ xs) (y ∷ ys)
     above p = after-above x y _ _ p ∙ sym (after-above x y xs ys p)

@@ -22,7 +22,7 @@ use native.Mathlib.Numerals.{add-one}
 use native.Mathlib.Omega.{arith}
 use lib.ListN.{length, get_or, drop, set, drop_of_length-le}
 use lib.Seq.{drop-cons}
-use Rattle.laws.specs.Lists.{first_at, any, all, mapFirst}
+use Rattle.laws.specs.Lists.{first_at, any, all, map_first}
 
 -- no element before i passes the test
 abbrev pub Searched : {A : Type 0} → (A → Bool) → List A → ℕ → Type 0
@@ -30,7 +30,7 @@ Searched p xs i = i + first_at p (drop i xs) ≡ first_at p xs
 
 -- f has been done to the elements before i, and the list is now ys
 abbrev pub Mapped : {A : Type 0} → (A → A) → List A → List A → ℕ → Type 0
-Mapped f xs ys i = ys ≡ mapFirst f i xs
+Mapped f xs ys i = ys ≡ map_first f i xs
 
 -- one turn of the search, wherever it began
 module _ {A : Type 0} (f : A → Bool) (d : A) (xs : List A) (i : ℕ) where
@@ -85,18 +85,18 @@ module _ {A : Type 0} (p : A → Bool) (d : A) (xs : List A) (i : ℕ) where
   all-passed h inv = rw (drop_of_length-le xs h) at inv
 
 module _ {A : Type 0} (f : A → A) (d : A) where
-  map_read : (xs : List A) (i : ℕ) → get_or (mapFirst f i xs) i d ≡ get_or xs i d
+  map_read : (xs : List A) (i : ℕ) → get_or (map_first f i xs) i d ≡ get_or xs i d
   map_read xs zero = refl
   map_read [] (suc i) = refl
   map_read (x ∷ xs) (suc i) = map_read xs i
 
-  map-suc : (xs : List A) (i : ℕ) → set (mapFirst f i xs) i (f (get_or xs i d)) ≡ mapFirst f (suc i) xs
+  map-suc : (xs : List A) (i : ℕ) → set (map_first f i xs) i (f (get_or xs i d)) ≡ map_first f (suc i) xs
   map-suc [] zero = refl
   map-suc (x ∷ xs) zero = refl
   map-suc [] (suc i) = refl
   map-suc (x ∷ xs) (suc i) = ap (λ (l : List A). f x ∷ l) (map-suc xs i)
 
-  map-all : (xs : List A) (i : ℕ) → length xs ≤ i → mapFirst f i xs ≡ map f xs
+  map-all : (xs : List A) (i : ℕ) → length xs ≤ i → map_first f i xs ≡ map f xs
   map-all [] zero h = refl
   map-all [] (suc i) h = refl
   map-all (x ∷ xs) zero h = absurd (not-suc-le-zero h)

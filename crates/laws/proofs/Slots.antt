@@ -9,7 +9,7 @@ use native.Mathlib.Omega.{arith}
 use lib.ListN.{length, take, drop, get_or, set, replicate, length-append, length-replicate, length-take, length-drop, take-append-drop}
 use lib.Seq.{take-add, take_at, drop_at, drop-append-add, take-suc, take-take, take_all, length-take-le, drop-cons}
 use Rattle.laws.specs.Overlay.{overlay, part}
-use Rattle.laws.specs.Slots.{slot_at, slot_of, heldIn}
+use Rattle.laws.specs.Slots.{slot_at, slot_of, held_in}
 use Rattle.laws.proofs.Overlay.{part_same, part-before, part-after, overlay-append, overlay-none, overlay-parts}
 use Rattle.laws.proofs.Lists.{flat_append}
 
@@ -55,8 +55,8 @@ pub length-slot : (width : ℕ) (bytes : List ℕ) → length bytes < width → 
 unfolding slot_of
 length-slot width bytes h = simp (length-append, length-replicate) (omega arith)
 
-pub held-slot : (width : ℕ) (bytes : List ℕ) → heldIn (slot_of width bytes) ≡ bytes
-unfolding slot_of heldIn
+pub held-slot : (width : ℕ) (bytes : List ℕ) → held_in (slot_of width bytes) ≡ bytes
+unfolding slot_of held_in
 held-slot width bytes = take_at bytes _ _ refl
 
 -- a length byte, then the bytes, then zeros, written one after the other, are the slot
@@ -74,24 +74,24 @@ slot-split w xs at h = rw (drop-cons xs at 0 (omega arith), add-one)
 
 -- the m bytes behind the first byte of a slot are its bytes, where m is what the first byte says
 pub held-short : (width : ℕ) (xs : List ℕ) (at n m : ℕ) → at + width ≤ length xs → n ≡ get_or xs at 0 → n < width → m ≡ n
-    → take m (drop (at + 1) xs) ≡ heldIn (part xs at width)
-unfolding heldIn
+    → take m (drop (at + 1) xs) ≡ held_in (part xs at width)
+unfolding held_in
 held-short zero xs at n m fits e h em = absurd (omega arith)
 held-short (suc w) xs at n m fits e h em =
     ap (λ (k : ℕ). take k (drop (at + 1) xs)) (em ∙ e)
     ∙ sym (take-take (get_or xs at 0) w (drop (at + 1) xs) (omega arith))
-    ∙ sym (ap heldIn (slot-split w xs at fits))
+    ∙ sym (ap held_in (slot-split w xs at fits))
 
 -- or all that stand there, where it says more
 pub held-long : (width : ℕ) (xs : List ℕ) (at n m : ℕ) → at + width ≤ length xs → n ≡ get_or xs at 0 → width ≤ n → m + 1 ≡ width
-    → take m (drop (at + 1) xs) ≡ heldIn (part xs at width)
-unfolding heldIn
+    → take m (drop (at + 1) xs) ≡ held_in (part xs at width)
+unfolding held_in
 held-long zero xs at n m fits e h em = absurd (omega arith)
 held-long (suc w) xs at n m fits e h em =
     let all : m ≡ w = omega arith in
     ap (λ (k : ℕ). take k (drop (at + 1) xs)) all
     ∙ sym (take_all (get_or xs at 0) (take w (drop (at + 1) xs)) (rw length-take (omega arith)))
-    ∙ sym (ap heldIn (slot-split w xs at fits))
+    ∙ sym (ap held_in (slot-split w xs at fits))
 
 -- ---- slots that are written one behind the other: each is read at its place
 module _ {A : Type 0} (width : ℕ) (f : A → List ℕ) (each : (x : A) → length (f x) ≡ width) where

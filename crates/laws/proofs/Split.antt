@@ -11,7 +11,7 @@ use lib.Seq.{drop-cons, drop-drop, length-take-le}
 use lib.Dec.{eqb, ltb}
 use borrow.Author.Tests.{eq-eqb, ne_eqb, eqb-true, lt-ltb, le-ltb, not-true}
 use Rattle.laws.specs.Lists.{all, first_at}
-use Rattle.laws.specs.Split.{before, split, joined, isNot, lacks, isSep, between, piece_of, end_of, behind, EndsAt}
+use Rattle.laws.specs.Split.{before, split, joined, is_not, lacks, is_sep, between, piece_of, end_of, behind, EndsAt}
 use mathlib.Core.Logic.{◌⊎◌, ⊎_elim}
 use Rattle.laws.proofs.Tests.{and_left, and_right, le-or-lt, cond-le, eqb_refl}
 use Rattle.laws.proofs.Tables.{all_weaker, all_append}
@@ -56,28 +56,28 @@ behind-suc sep b s k =
     (λ (h : k < length s). rw (lt-ltb k (length s) h, lt-ltb (suc k) (suc (length s)) (omega arith), add-one, add-one))
     (le-or-lt (length s) k)
 
-split-first : (sep : ℕ) (s : List ℕ) → split sep s ≡ take (first_at (isSep sep) s) s ∷ behind sep s (first_at (isSep sep) s)
-unfolding split isSep before
+split-first : (sep : ℕ) (s : List ℕ) → split sep s ≡ take (first_at (is_sep sep) s) s ∷ behind sep s (first_at (is_sep sep) s)
+unfolding split is_sep before
 split-first sep [] = refl
 split-first sep (b ∷ s) = go (eqb b sep) (split-first sep s)
   where
     k : ℕ
-    k = first_at (isSep sep) s
+    k = first_at (is_sep sep) s
 
     go : (t : Bool) → split sep s ≡ take k s ∷ behind sep s k → before t b (split sep s) ≡ take (cond t 0 (suc k)) (b ∷ s) ∷ behind sep (b ∷ s) (cond t 0 (suc k))
     go true ih = rw (lt-ltb 0 (suc (length s)) (omega arith))
     go false ih = rw (ih, behind-suc sep b s k)
 
-first-le : (sep : ℕ) (s : List ℕ) → first_at (isSep sep) s ≤ length s
+first-le : (sep : ℕ) (s : List ℕ) → first_at (is_sep sep) s ≤ length s
 first-le sep [] = omega arith
-first-le sep (b ∷ s) = cond-le (isSep sep b) 0 (suc (first_at (isSep sep) s)) (suc (length s)) (omega arith) (omega (arith, first-le sep s))
+first-le sep (b ∷ s) = cond-le (is_sep sep b) 0 (suc (first_at (is_sep sep) s)) (suc (length s)) (omega arith) (omega (arith, first-le sep s))
 
 -- where a piece ends, what stands behind it
 module _ (sep : ℕ) (s : List ℕ) (at : ℕ) (h : at ≤ length s) where
   pub ends_at : EndsAt sep s at (end_of sep s at)
   unfolding end_of
   ends_at =
-      let k : ℕ = first_at (isSep sep) (drop at s) in
+      let k : ℕ = first_at (is_sep sep) (drop at s) in
       let l : length (drop at s) ≡ length s - at = length-drop at s in
       let le : k ≤ length (drop at s) = first-le sep (drop at s) in
       let size : at + k - at ≡ k = omega arith in
@@ -122,7 +122,7 @@ module _ (sep : ℕ) (s : List ℕ) (at k : ℕ) (h : at ≤ length s) where
 -- ---- joining and cutting
 -- a piece without a separator is the first, whatever follows its separator
 pub split-more : (sep : ℕ) (f s : List ℕ) → lacks sep f ≡ true → split sep (f ++ sep ∷ s) ≡ f ∷ split sep s
-unfolding all isNot split before
+unfolding all is_not split before
 split-more sep [] s p = rw (eq-eqb sep sep refl)
 split-more sep (b ∷ f) s p =
     let ih = split-more sep f s (and_right (not (eqb b sep)) (lacks sep f) p) in
@@ -131,7 +131,7 @@ split-more sep (b ∷ f) s p =
 
 -- and the only one, where nothing follows
 pub split_one : (sep : ℕ) (f : List ℕ) → lacks sep f ≡ true → split sep f ≡ f ∷ []
-unfolding all isNot split before
+unfolding all is_not split before
 split_one sep [] p = refl
 split_one sep (b ∷ f) p =
     let ih = split_one sep f (and_right (not (eqb b sep)) (lacks sep f) p) in
@@ -160,9 +160,9 @@ joined-split sep (b ∷ s) = go (eqb b sep) refl (split sep s) (split-some sep s
 
 -- a list of elements that all pass a test lacks a separator that fails it
 pub lacks-by : (p : ℕ → Bool) (sep : ℕ) → p sep ≡ false → (f : List ℕ) → all p f ≡ true → lacks sep f ≡ true
-unfolding isNot
+unfolding is_not
 lacks-by p sep no-sep f h =
-    all_weaker p (isNot sep) (λ x e. ap not (ne_eqb x sep (λ q. true≢false (sym e ∙ ap p q ∙ no-sep)))) f h
+    all_weaker p (is_not sep) (λ x e. ap not (ne_eqb x sep (λ q. true≢false (sym e ∙ ap p q ∙ no-sep)))) f h
 
 -- what passes in the pieces and in the separator passes in the pieces joined
 pub all-joined : (q : ℕ → Bool) (sep : ℕ) → q sep ≡ true → (fs : List (List ℕ)) → all (all q) fs ≡ true → all q (joined sep fs) ≡ true
@@ -176,9 +176,9 @@ all-joined q sep s (f ∷ g ∷ fs) h =
 -- ---- what stands behind so many separators
 -- pieces with a separator between them have one
 lacks-none : {A : Type 0} (sep : ℕ) (f g : List ℕ) → lacks sep (f ++ sep ∷ g) ≡ true → A
-unfolding all isNot
+unfolding all is_not
 lacks-none sep f g h =
-    let e : lacks sep (sep ∷ g) ≡ true = and_right (lacks sep f) _ (sym (all_append (isNot sep) f (sep ∷ g)) ∙ h) in
+    let e : lacks sep (sep ∷ g) ≡ true = and_right (lacks sep f) _ (sym (all_append (is_not sep) f (sep ∷ g)) ∙ h) in
     let no : eqb sep sep ≡ false = not-true (eqb sep sep) (and_left (not (eqb sep sep)) _ e) in
     absurd (let z : ◌≡◌ {A = ℕ} 0 1 = cc (eqb_refl sep) in omega arith)
 
@@ -212,8 +212,8 @@ module _ (sep : ℕ) (s : List ℕ) (at k : ℕ) (h : at ≤ length s) where
   rest_ended p l = rest-none sep (split sep (drop at s)) k (omega (arith, ap length (ends_last (ends_at sep s at h) l)))
 
 -- the first separator behind a list without one
-pub first_past : (sep : ℕ) (f g : List ℕ) → lacks sep f ≡ true → first_at (isSep sep) (f ++ sep ∷ g) ≡ length f
-unfolding all isNot isSep
+pub first_past : (sep : ℕ) (f g : List ℕ) → lacks sep f ≡ true → first_at (is_sep sep) (f ++ sep ∷ g) ≡ length f
+unfolding all is_not is_sep
 first_past sep [] g h = rw (eqb_refl sep)
 first_past sep (b ∷ f) g h =
     rw (not-true (eqb b sep) (and_left (not (eqb b sep)) (lacks sep f) h))

@@ -103,19 +103,19 @@ module _ {A : Type 0} where
   length-table zero f = refl
   length-table (suc n) f = length-append (table n f) (f n ∷ []) ∙ omega (arith, length-table n f)
 
-  pub getD-table : (n i : ℕ) (f : ℕ → A) (d : A) → i < n → get_or (table n f) i d ≡ f i
+  pub get_or-table : (n i : ℕ) (f : ℕ → A) (d : A) → i < n → get_or (table n f) i d ≡ f i
   unfolding table
-  getD-table zero i f d h = absurd (omega arith)
-  getD-table (suc n) i f d h = elim (ℕ_discrete i n) [
+  get_or-table zero i f d h = absurd (omega arith)
+  get_or-table (suc n) i f d h = elim (ℕ_discrete i n) [
     | yes e ↦ get_or_at (table n f) (f n) [] d i (length-table n f ∙ sym e) ∙ ap f (sym e)
-    | no ne ↦ get_or-append (table n f) (f n ∷ []) d i (omega (arith, length-table n f)) ∙ getD-table n i f d (omega arith)
+    | no ne ↦ get_or-append (table n f) (f n ∷ []) d i (omega (arith, length-table n f)) ∙ get_or-table n i f d (omega arith)
   ]
 
   -- a table with its first i elements taken away
   pub drop-table : (n i : ℕ) (f : ℕ → A) → i < n → drop i (table n f) ≡ f i ∷ drop (i + 1) (table n f)
   drop-table n i f h =
       drop-cons (table n f) i (f i) (omega (arith, length-table n f))
-      ∙ rw (getD-table n i f (f i) h, add-one)
+      ∙ rw (get_or-table n i f (f i) h, add-one)
 
   pub drop-none : (n i : ℕ) (f : ℕ → A) → n ≤ i → drop i (table n f) ≡ []
   drop-none n i f h = drop_of_length-le (table n f) {i = i} (omega (arith, length-table n f))
@@ -145,7 +145,7 @@ module _ {A : Type 0} where
   pub table-self : (l : List A) (d : A) (n : ℕ) → length l ≡ n → table n (λ (i : ℕ). get_or l i d) ≡ l
   table-self l d n e =
       ext_get_or d (table n (λ (i : ℕ). get_or l i d)) l (length-table n (λ (i : ℕ). get_or l i d) ∙ sym e)
-      (λ i h. getD-table n i (λ (i : ℕ). get_or l i d) d (omega (arith, length-table n (λ (i : ℕ). get_or l i d))))
+      (λ i h. get_or-table n i (λ (i : ℕ). get_or l i d) d (omega (arith, length-table n (λ (i : ℕ). get_or l i d))))
 
   -- what passes at each index passes in the table
   pub all-each : (p : A → Bool) (n : ℕ) (f : ℕ → A) → ((i : ℕ) → i < n → p (f i) ≡ true) → all p (table n f) ≡ true
@@ -169,5 +169,5 @@ module _ {A : Type 0} where
 -- a test of each number below n
 pub tested : (p : ℕ → Bool) (n : ℕ) → all p (table n (λ (i : ℕ). i)) ≡ true → (k : ℕ) → k < n → p k ≡ true
 tested p n t k h =
-    ap p (sym (getD-table n k (λ (i : ℕ). i) 0 h))
+    ap p (sym (get_or-table n k (λ (i : ℕ). i) 0 h))
     ∙ all-at p (table n (λ (i : ℕ). i)) k 0 t (omega (arith, length-table n (λ (i : ℕ). i)))

@@ -1,4 +1,4 @@
--- Laws of tests, and of a table of rules (`firstLine`) against code that tests one rule after the other.
+-- Laws of tests, and of a table of rules (`first_line`) against code that tests one rule after the other.
 --     never               no test is both
 --     either              one of two tests holds
 --     agree-where         two tests agree if they agree where a fact holds, and each of them tells that fact

@@ -16,30 +16,30 @@ use Rattle.laws.specs.Words.{low_first, word_of, word_at}
 use Rattle.laws.proofs.Tests.{and_left, and_right}
 use Rattle.laws.proofs.Overlay.{part_same, part-before, part-part}
 
-pub length-lowFirst : (k n : ℕ) → length (low_first k n) ≡ k
+pub length-low_first : (k n : ℕ) → length (low_first k n) ≡ k
 unfolding low_first
-length-lowFirst zero n = refl
-length-lowFirst (suc k) n = ap suc (length-lowFirst k (n / 256))
+length-low_first zero n = refl
+length-low_first (suc k) n = ap suc (length-low_first k (n / 256))
 
 -- the bytes of a number that fits make the number
-pub word-lowFirst : (k n : ℕ) → n < 256 ^ k → word_of (low_first k n) ≡ n
+pub word-low_first : (k n : ℕ) → n < 256 ^ k → word_of (low_first k n) ≡ n
 unfolding low_first word_of
-word-lowFirst zero n h = omega arith
-word-lowFirst (suc k) n h = ap (λ (m : ℕ). n % 256 + 256 * m) (word-lowFirst k (n / 256) (less h)) ∙ omega arith
+word-low_first zero n h = omega arith
+word-low_first (suc k) n h = ap (λ (m : ℕ). n % 256 + 256 * m) (word-low_first k (n / 256) (less h)) ∙ omega arith
   where
     less : n < 256 ^ suc k → n / 256 < 256 ^ k
     less b = let e : 256 ^ suc k ≡ 256 ^ k * 256 = pow-suc 256 k in omega arith
 
 -- and bytes are those of the number that they make
-pub lowFirst-word : (bs : List ℕ) → all (λ (b : ℕ). ltb b 256) bs ≡ true → low_first (length bs) (word_of bs) ≡ bs
+pub low_first-word : (bs : List ℕ) → all (λ (b : ℕ). ltb b 256) bs ≡ true → low_first (length bs) (word_of bs) ≡ bs
 unfolding low_first word_of all
-lowFirst-word [] h = refl
-lowFirst-word (b ∷ bs) h =
+low_first-word [] h = refl
+low_first-word (b ∷ bs) h =
     let fits : b < 256 = ltb-true b 256 (and_left (ltb b 256) (all (λ (b : ℕ). ltb b 256) bs) h) in
     let low : (b + 256 * word_of bs) % 256 ≡ b = omega arith in
     let high : (b + 256 * word_of bs) / 256 ≡ word_of bs = omega arith in
     ap₂ (λ (x y : ℕ). x ∷ low_first (length bs) y) low high
-    ∙ ap (λ (l : List ℕ). b ∷ l) (lowFirst-word bs (and_right (ltb b 256) (all (λ (b : ℕ). ltb b 256) bs) h))
+    ∙ ap (λ (l : List ℕ). b ∷ l) (low_first-word bs (and_right (ltb b 256) (all (λ (b : ℕ). ltb b 256) bs) h))
 
 -- they make a number that fits
 pub word_below : (bs : List ℕ) → all (λ (b : ℕ). ltb b 256) bs ≡ true → word_of bs < 256 ^ length bs
@@ -56,7 +56,7 @@ word_below (b ∷ bs) h =
 pub word_same : (k : ℕ) (xs : List ℕ) (at n : ℕ) → at + k ≤ length xs → n < 256 ^ k → word_at k (overlay xs at (low_first k n)) at ≡ n
 unfolding word_at
 word_same k xs at n h b =
-    ap word_of (part_same xs at (low_first k n) k (omega (arith, length-lowFirst k n)) (length-lowFirst k n)) ∙ word-lowFirst k n b
+    ap word_of (part_same xs at (low_first k n) k (omega (arith, length-low_first k n)) (length-low_first k n)) ∙ word-low_first k n b
 
 -- what stands elsewhere is read as before
 pub word-before : (k : ℕ) (xs : List ℕ) (at : ℕ) (ys : List ℕ) (j : ℕ) → j + k ≤ at → word_at k (overlay xs at ys) j ≡ word_at k xs j
@@ -80,7 +80,7 @@ word_more k xs at h = rw (drop-cons xs at 0 h, add-one)
 -- ---- numbers written one behind the other
 pub word_first : (k n : ℕ) (rest : List ℕ) → n < 256 ^ k → word_at k (low_first k n ++ rest) 0 ≡ n
 unfolding word_at part
-word_first k n rest h = ap word_of (take_at (low_first k n) rest k (length-lowFirst k n)) ∙ word-lowFirst k n h
+word_first k n rest h = ap word_of (take_at (low_first k n) rest k (length-low_first k n)) ∙ word-low_first k n h
 
 pub word-behind : (k j at : ℕ) (xs rest : List ℕ) → length xs ≡ j → word_at k (xs ++ rest) (j + at) ≡ word_at k rest at
 unfolding word_at part
@@ -88,4 +88,4 @@ word-behind k j at xs rest e =
     ap (λ (l : List ℕ). word_of (take k l)) (sym (drop-drop at j (xs ++ rest)) ∙ ap (drop at) (drop_at xs rest j e))
 
 pub word_next : (k j m at : ℕ) (rest : List ℕ) → word_at k (low_first j m ++ rest) (j + at) ≡ word_at k rest at
-word_next k j m at rest = word-behind k j at (low_first j m) rest (length-lowFirst j m)
+word_next k j m at rest = word-behind k j at (low_first j m) rest (length-low_first j m)

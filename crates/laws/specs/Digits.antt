@@ -3,11 +3,11 @@ use Rattle.std.specs.Prelude.{ℕ, zero, suc, ◌+◌, ◌-◌, ◌*◌, ◌/◌
 use Rattle.laws.specs.Lists.{all}
 
 -- '0' is 48 and '9' is 57
-unfoldable pub isDigit : ℕ → Bool
-isDigit b = leb 48 b && leb b 57
+unfoldable pub is_digit : ℕ → Bool
+is_digit b = leb 48 b && leb b 57
 
-abbrev pub allDigits : List ℕ → Bool
-allDigits f = all isDigit f
+abbrev pub all_digits : List ℕ → Bool
+all_digits f = all is_digit f
 
 -- the number n with the digits of f appended
 unfoldable pub spelt : ℕ → List ℕ → ℕ

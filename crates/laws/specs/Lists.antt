@@ -29,9 +29,9 @@ module _ {A : Type 0} where
   distinct same (x ∷ xs) = cond (any (same x) xs) (distinct same xs) (x ∷ distinct same xs)
 
   -- no element is the same as one behind it
-  unfoldable pub noneTwice : (A → A → Bool) → List A → Bool
-  noneTwice same [] = true
-  noneTwice same (x ∷ xs) = not (any (same x) xs) && noneTwice same xs
+  unfoldable pub none_twice : (A → A → Bool) → List A → Bool
+  none_twice same [] = true
+  none_twice same (x ∷ xs) = not (any (same x) xs) && none_twice same xs
 
   -- f x, of all x together
   unfoldable pub total : (A → ℕ) → List A → ℕ
@@ -44,15 +44,15 @@ module _ {A : Type 0} where
   first_at p (x ∷ xs) = cond (p x) 0 (suc (first_at p xs))
 
   -- a table of rules: the answer of the first line whose test holds, and `other` where none does
-  abbrev pub firstLine : List (Bool × A) → A → A
-  firstLine [] other = other
-  firstLine (line ∷ lines) other = cond line.0 line.1 (firstLine lines other)
+  abbrev pub first_line : List (Bool × A) → A → A
+  first_line [] other = other
+  first_line (line ∷ lines) other = cond line.0 line.1 (first_line lines other)
 
   -- the function done to the first n elements, the others as they are
-  abbrev pub mapFirst : (A → A) → ℕ → List A → List A
-  mapFirst f zero xs = xs
-  mapFirst f (suc n) [] = []
-  mapFirst f (suc n) (x ∷ xs) = f x ∷ mapFirst f n xs
+  abbrev pub map_first : (A → A) → ℕ → List A → List A
+  map_first f zero xs = xs
+  map_first f (suc n) [] = []
+  map_first f (suc n) (x ∷ xs) = f x ∷ map_first f n xs
 
   -- whether two lists are as long and the same at each place, by a test of two elements
   unfoldable pub same_lists : (A → A → Bool) → List A → List A → Bool

@@ -19,6 +19,6 @@ unfoldable pub is_held : ℕ → List ℕ → Bool
 is_held width s = ltb (get_or s 0 0) width && all is_zero (drop (get_or s 0 0 + 1) s)
 
 -- the bytes that a slot holds: as many as its first byte says, and no more than stand behind it
-unfoldable pub heldIn : List ℕ → List ℕ
-heldIn [] = []
-heldIn (n ∷ rest) = take n rest
+unfoldable pub held_in : List ℕ → List ℕ
+held_in [] = []
+held_in (n ∷ rest) = take n rest

@@ -23,23 +23,23 @@ joined sep [] = []
 joined sep (f ∷ []) = f
 joined sep (f ∷ g ∷ fs) = f ++ sep ∷ joined sep (g ∷ fs)
 
-unfoldable pub isNot : ℕ → ℕ → Bool
-isNot sep b = not (eqb b sep)
+unfoldable pub is_not : ℕ → ℕ → Bool
+is_not sep b = not (eqb b sep)
 
 -- no element is the separator
 abbrev pub lacks : ℕ → List ℕ → Bool
-lacks sep f = all (isNot sep) f
+lacks sep f = all (is_not sep) f
 
 -- the elements from the place a up to the place e, as `&s[a..e]` has them
 abbrev pub between : List ℕ → ℕ → ℕ → List ℕ
 between s a e = take (e - a) (drop a s)
 
-unfoldable pub isSep : ℕ → ℕ → Bool
-isSep sep b = eqb b sep
+unfoldable pub is_sep : ℕ → ℕ → Bool
+is_sep sep b = eqb b sep
 
 -- where the piece that starts at `at` ends: at the next separator, or with the list
 unfoldable pub end_of : ℕ → List ℕ → ℕ → ℕ
-end_of sep s at = at + first_at (isSep sep) (drop at s)
+end_of sep s at = at + first_at (is_sep sep) (drop at s)
 
 -- the pieces behind one that ends at e
 abbrev pub behind : ℕ → List ℕ → ℕ → List (List ℕ)

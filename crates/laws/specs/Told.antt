@@ -9,9 +9,9 @@ abbrev pub told : ℕ → List ℕ → Told
 told n vs = record { number = n; values = vs }
 
 -- the value i; `none` where there is none
-abbrev pub valueOr : ℕ → ℕ → Told → ℕ
-valueOr none i t = get_or t.values i none
+abbrev pub value_or : ℕ → ℕ → Told → ℕ
+value_or none i t = get_or t.values i none
 
 -- the same, 0 where there is none
 abbrev pub value_at : ℕ → Told → ℕ
-value_at i t = valueOr 0 i t
+value_at i t = value_or 0 i t

@@ -18,7 +18,7 @@ use Rattle.layout.specs.declared.part.Part.{Part}
 use Rattle.layout.specs.declared.part.PartRead.{PartRead}
 use Rattle.layout.specs.declared.correction.CorrectionRead.TheVariants.{Fault}
 use Rattle.layout.specs.Part.{part_of}
-use Rattle.layout.specs.Correction.{head_of, reportedOf, soundOf, threeOf, correctionOf}
+use Rattle.layout.specs.Correction.{head_of, reported_of, sound_of, three_of, correction_of}
 use Rattle.layout.proofs.PartTrip.{part-back}
 use Rattle.layout.proofs.RecordBytes.{lacks-part}
 use Rattle.layout.proofs.CorrectionLaws.{correction-count, correction-three, three-1, three-2, three-3, three-4}
@@ -33,8 +33,8 @@ pub part-rest : (s : List ℕ) (at : ℕ) {r : PartRead} → part_of (take (leng
 part-rest s at p = ap part_of (sym (take_all (length s - at) (drop at s) (omega (arith, length-drop at s)))) ∙ p
 
 module _ (s : List ℕ) where
-  fault-any : threeOf (piece_of 58 s 0) (piece_of 58 s 1) (piece_of 58 s 2) ≡ Fault → correctionOf s ≡ Fault
-  unfolding correctionOf
+  fault-any : three_of (piece_of 58 s 0) (piece_of 58 s 1) (piece_of 58 s 2) ≡ Fault → correction_of s ≡ Fault
+  unfolding correction_of
   fault-any p = rw p (go (eqb (length (split 58 s)) 3))
     where
       go : (t : Bool) → cond t Fault Fault ≡ Fault
@@ -42,10 +42,10 @@ module _ (s : List ℕ) where
       go false = refl
 
   module _ {a : ℕ} (q₁ : a ≡ end_of 58 s 0) where
-    pub colon-1 : length s ≤ a → correctionOf s ≡ Fault
+    pub colon-1 : length s ≤ a → correction_of s ≡ Fault
     colon-1 h = correction-count s (λ e. omega (arith, count-last (passed_none 58 s) q₁ h))
 
-    pub head-1 : head_of (between s 0 a) ≡ CorrectionCodeRead.Fault → correctionOf s ≡ Fault
+    pub head-1 : head_of (between s 0 a) ≡ CorrectionCodeRead.Fault → correction_of s ≡ Fault
     head-1 p = fault-any (three-1 _ _ _ (ap head_of (next-piece (passed_none 58 s) q₁) ∙ p))
 
     module _ (h₁ : a < length s) {code : CorrectionCode} (p₁ : head_of (between s 0 a) ≡ CorrectionCodeRead.CorrectionCode code) {b : ℕ} (q₂ : b ≡ end_of 58 s (a + 1)) where
@@ -55,30 +55,30 @@ module _ (s : List ℕ) where
       head : head_of (piece_of 58 s 0) ≡ CorrectionCodeRead.CorrectionCode code
       head = ap head_of (next-piece (passed_none 58 s) q₁) ∙ p₁
 
-      pub colon-2 : length s ≤ b → correctionOf s ≡ Fault
+      pub colon-2 : length s ≤ b → correction_of s ≡ Fault
       colon-2 h = correction-count s (λ e. omega (arith, count-last one q₂ h))
 
-      pub reported-2 : reportedOf (between s (a + 1) b) ≡ PartRead.Fault → correctionOf s ≡ Fault
-      reported-2 p = fault-any (three-2 _ _ _ head (ap reportedOf (next-piece one q₂) ∙ p))
+      pub reported-2 : reported_of (between s (a + 1) b) ≡ PartRead.Fault → correction_of s ≡ Fault
+      reported-2 p = fault-any (three-2 _ _ _ head (ap reported_of (next-piece one q₂) ∙ p))
 
-      module _ (h₂ : b < length s) {u : Part} (p₂ : reportedOf (between s (a + 1) b) ≡ PartRead.Part u) where
+      module _ (h₂ : b < length s) {u : Part} (p₂ : reported_of (between s (a + 1) b) ≡ PartRead.Part u) where
         two : Passed 58 s 2 (b + 1)
         two = passed-more one q₂ h₂
 
-        reported : reportedOf (piece_of 58 s 1) ≡ PartRead.Part u
-        reported = ap reportedOf (next-piece one q₂) ∙ p₂
+        reported : reported_of (piece_of 58 s 1) ≡ PartRead.Part u
+        reported = ap reported_of (next-piece one q₂) ∙ p₂
 
         last : length (split 58 (drop (b + 1) s)) ≡ 1 → piece_of 58 s 2 ≡ drop (b + 1) s
         last l = two.pieces 0 ∙ single (drop (b + 1) s) (split 58 (drop (b + 1) s)) l (joined-split 58 (drop (b + 1) s))
 
-        pub part-3 : part_of (drop (b + 1) s) ≡ PartRead.Fault → correctionOf s ≡ Fault
+        pub part-3 : part_of (drop (b + 1) s) ≡ PartRead.Fault → correction_of s ≡ Fault
         part-3 p =
             ⊎_elim
             (λ (h : 2 ≤ length (split 58 (drop (b + 1) s))). correction-count s (λ e. omega (arith, two.count)))
             (λ (h : length (split 58 (drop (b + 1) s)) < 2). fault-any (three-3 _ _ _ head reported (ap part_of (last (omega (arith, split-some 58 (drop (b + 1) s)))) ∙ p)))
             (le-or-lt 2 (length (split 58 (drop (b + 1) s))))
 
-        pub part-4 : {k : Part} → part_of (drop (b + 1) s) ≡ PartRead.Part k → correctionOf s ≡ soundOf code u k
+        pub part-4 : {k : Part} → part_of (drop (b + 1) s) ≡ PartRead.Part k → correction_of s ≡ sound_of code u k
         part-4 {k} p =
             let l : length (split 58 (drop (b + 1) s)) ≡ 1 = ap length (split_one 58 (drop (b + 1) s) (rw (part-back (drop (b + 1) s) k p).0 at (lacks-part k))) in
             correction-three s (omega (arith, two.count)) ∙ three-4 _ _ _ head reported (ap part_of (last l) ∙ p)

@@ -12,57 +12,57 @@ use lib.ListN.{length, get_or, take, drop, length-drop, drop_of_length-le}
 use lib.Seq.{drop-cons, length-take-le}
 use borrow.Author.Tests.{lt-ltb, le-ltb, le-leb, lt-leb, eq-eqb, ne_eqb}
 use Rattle.laws.specs.Lists.{all, first_at}
-use Rattle.laws.specs.Digits.{isDigit, spelt}
-use Rattle.laws.specs.Split.{between, isSep, end_of}
+use Rattle.laws.specs.Digits.{is_digit, spelt}
+use Rattle.laws.specs.Split.{between, is_sep, end_of}
 use Rattle.laws.proofs.Loops.{first-here}
 use Rattle.laws.proofs.Tests.{le-or-lt}
-use Rattle.text.specs.Spelt.{spells, digitsOf}
+use Rattle.text.specs.Spelt.{spells, digits_of}
 use Rattle.fields.specs.declared.number.Digits.{Digits}
 use Rattle.fields.specs.declared.number.DigitsRead.{DigitsRead}
 use Rattle.fields.specs.declared.number.NumberRead.{NumberRead}
-use Rattle.fields.specs.Number.{digitsFrom, digitsFieldOf, number_of}
+use Rattle.fields.specs.Number.{digits_from, digits_field_of, number_of}
 use Rattle.layout.specs.declared.walk.DigitsAt.{DigitsAt}
 use Rattle.layout.specs.declared.walk.NumberAt.{NumberAt}
-use Rattle.layout.specs.Walk.{reachOf, digitsThen, digitsAt, number_at}
+use Rattle.layout.specs.Walk.{reach_of, digits_then, digits_at, number_at}
 use Rattle.layout.proofs.WalkLaws.{end-from, digits-none, digits-then, number-none, number-then}
 
 -- how far the first comma is
 abbrev comma : List ℕ → ℕ
-comma g = first_at (isSep 44) g
+comma g = first_at (is_sep 44) g
 
 -- what a field reads as of which digits worth n lie before the place k, g follows, and the comma is one of the first m bytes of g
 unfoldable pub found : ℕ → ℕ → ℕ → List ℕ → DigitsAt
-found m n k g = cond (ltb (comma g) (length g)) (digitsThen (cond (ltb (comma g) m) (digitsFrom (spells n (take (comma g) g))) DigitsRead.Fault) (k + comma g + 1)) DigitsAt.Fault
+found m n k g = cond (ltb (comma g) (length g)) (digits_then (cond (ltb (comma g) m) (digits_from (spells n (take (comma g) g))) DigitsRead.Fault) (k + comma g + 1)) DigitsAt.Fault
 
 -- ---- the next byte
 module _ (m n k b : ℕ) (t : List ℕ) where
   comma-on : (b ≡ 44 → ⊥) → comma (b ∷ t) ≡ suc (comma t)
-  unfolding isSep
+  unfolding is_sep
   comma-on h = rw (ne_eqb b 44 h)
 
   comma-here : b ≡ 44 → comma (b ∷ t) ≡ 0
-  unfolding isSep
+  unfolding is_sep
   comma-here h = rw (eq-eqb b 44 h)
 
   next-comma : b ≡ 44 → found (suc m) n k (b ∷ t) ≡ DigitsAt.Digits (record { 0 = n }) (k + 1)
-  unfolding found spells all spelt digitsFrom
+  unfolding found spells all spelt digits_from
   next-comma h = rw (comma-here h, lt-ltb 0 (length (b ∷ t)) (omega arith), lt-ltb 0 (suc m) (omega arith), add-zero)
 
   next-digit : 48 ≤ b → b ≤ 57 → found (suc m) n k (b ∷ t) ≡ found m (n * 10 + (b - 48)) (k + 1) t
-  unfolding found spells all isDigit spelt
+  unfolding found spells all is_digit spelt
   next-digit low high =
       let place : k + suc (comma t) + 1 ≡ k + 1 + comma t + 1 = omega arith in
       rw (comma-on (λ e. omega arith), leb-suc-suc (suc (comma t)) (length t), leb-suc-suc (suc (comma t)) m, le-leb 48 b low, le-leb b 57 high, place)
 
 -- neither a digit nor the comma: a fault, however far the comma is
-fault-in : (far near : Bool) (next : ℕ) → cond far (digitsThen (cond near DigitsRead.Fault DigitsRead.Fault) next) DigitsAt.Fault ≡ DigitsAt.Fault
+fault-in : (far near : Bool) (next : ℕ) → cond far (digits_then (cond near DigitsRead.Fault DigitsRead.Fault) next) DigitsAt.Fault ≡ DigitsAt.Fault
 fault-in true true next = refl
 fault-in true false next = refl
 fault-in false near next = refl
 
 module _ (m n k b : ℕ) (t : List ℕ) where
-  next-other : isDigit b ≡ false → (b ≡ 44 → ⊥) → found m n k (b ∷ t) ≡ DigitsAt.Fault
-  unfolding found spells all digitsFrom
+  next-other : is_digit b ≡ false → (b ≡ 44 → ⊥) → found m n k (b ∷ t) ≡ DigitsAt.Fault
+  unfolding found spells all digits_from
   next-other other h = rw (comma-on m n k b t h, other) (fault-in (ltb (suc (comma t)) (suc (length t))) (ltb (suc (comma t)) m) (k + suc (comma t) + 1))
 
 -- ---- the same at a place of a line
@@ -77,11 +77,11 @@ module _ (s : List ℕ) (m n i : ℕ) (h : i < length s) where
       ∙ ap (λ (j : ℕ). found m (n * 10 + (get_or s i 0 - 48)) (i + 1) (drop j s)) (sym (add-one i))
 
   pub found-low : get_or s i 0 < 48 → (get_or s i 0 ≡ 44 → ⊥) → found m n i (drop i s) ≡ DigitsAt.Fault
-  unfolding isDigit
+  unfolding is_digit
   found-low low ne = ap (found m n i) (drop-cons s i 0 h) ∙ next-other m n i (get_or s i 0) (drop (suc i) s) (rw (lt-leb 48 (get_or s i 0) low)) ne
 
   pub found-high : 57 < get_or s i 0 → found m n i (drop i s) ≡ DigitsAt.Fault
-  unfolding isDigit
+  unfolding is_digit
   found-high high =
       ap (found m n i) (drop-cons s i 0 h)
       ∙ next-other m n i (get_or s i 0) (drop (suc i) s) (rw (le-leb 48 (get_or s i 0) (omega arith), lt-leb (get_or s i 0) 57 high)) (λ e. omega arith)
@@ -97,8 +97,8 @@ found-late n k g = rw (le-ltb (comma g) 0 (omega arith)) (fault-in (ltb (comma g
 
 -- ---- before the first byte: at most 11 digits come before the comma
 module _ (s : List ℕ) (at : ℕ) where
-  field_found : comma (drop at s) < length (drop at s) → digitsFieldOf (between s at (end_of 44 s at)) ≡ cond (ltb (comma (drop at s)) 12) (digitsFrom (spells 1 (take (comma (drop at s)) (drop at s)))) DigitsRead.Fault
-  unfolding end_of digitsFieldOf digitsOf
+  field_found : comma (drop at s) < length (drop at s) → digits_field_of (between s at (end_of 44 s at)) ≡ cond (ltb (comma (drop at s)) 12) (digits_from (spells 1 (take (comma (drop at s)) (drop at s)))) DigitsRead.Fault
+  unfolding end_of digits_field_of digits_of
   field_found h =
       let j : ℕ = comma (drop at s) in
       let e : at + j - at ≡ j = omega arith in
@@ -108,7 +108,7 @@ module _ (s : List ℕ) (at : ℕ) where
       (λ (k : 11 < j). rw (e, l, lt-leb j 11 k, le-ltb j 12 (omega arith)))
       (le-or-lt j 11)
 
-  pub found_first : digitsAt s at ≡ found 12 1 at (drop at s)
+  pub found_first : digits_at s at ≡ found 12 1 at (drop at s)
   unfolding found end_of
   found_first =
       let j : ℕ = comma (drop at s) in
@@ -118,17 +118,17 @@ module _ (s : List ℕ) (at : ℕ) where
       (le-or-lt (length (drop at s)) j)
 
   -- how far it is looked for
-  pub reach-within : reachOf s at ≤ length s
-  unfolding reachOf
+  pub reach-within : reach_of s at ≤ length s
+  unfolding reach_of
   reach-within = ⊎_elim (λ (h : length s ≤ at + 12). rw (le-leb (length s) (at + 12) h) (omega arith)) (λ (h : at + 12 < length s). rw (lt-leb (length s) (at + 12) h) (omega arith)) (le-or-lt (length s) (at + 12))
 
-  pub reach-twelve : reachOf s at ≤ at + 12
-  unfolding reachOf
+  pub reach-twelve : reach_of s at ≤ at + 12
+  unfolding reach_of
   reach-twelve = ⊎_elim (λ (h : length s ≤ at + 12). rw (le-leb (length s) (at + 12) h) (omega arith)) (λ (h : at + 12 < length s). rw (lt-leb (length s) (at + 12) h) (omega arith)) (le-or-lt (length s) (at + 12))
 
   -- and nothing is found behind that
-  pub found-beyond : (n i : ℕ) → reachOf s at ≤ i → found (at + 12 - i) n i (drop i s) ≡ DigitsAt.Fault
-  unfolding reachOf
+  pub found-beyond : (n i : ℕ) → reach_of s at ≤ i → found (at + 12 - i) n i (drop i s) ≡ DigitsAt.Fault
+  unfolding reach_of
   found-beyond n i h =
       ⊎_elim
       (λ (l : length s ≤ at + 12). found_none s (at + 12 - i) n i (rw (le-leb (length s) (at + 12) l) at h))
@@ -140,9 +140,9 @@ module _ (s : List ℕ) (at : ℕ) where
 -- ---- the second field: empty, or past the end of the line
 module _ (first : Digits) (s : List ℕ) (at : ℕ) where
   pub number-empty : at < length s → get_or s at 0 ≡ 44 → number_at first s at ≡ NumberAt.Number (record { first = first; last = record { 0 = 1 } }) (at + 1)
-  unfolding end_of isSep number_of
+  unfolding end_of is_sep number_of
   number-empty h e =
-      let here : at ≡ at + comma (drop at s) = sym (first-here (isSep 44) 0 s at h (eq-eqb (get_or s at 0) 44 e)) in
+      let here : at ≡ at + comma (drop at s) = sym (first-here (is_sep 44) 0 s at h (eq-eqb (get_or s at 0) 44 e)) in
       let none : at - at ≡ 0 = omega arith in
       number-then first s at at here h {r = NumberRead.Number (record { first = first; last = record { 0 = 1 } })} (rw none refl)
 

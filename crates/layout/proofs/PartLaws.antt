@@ -18,10 +18,10 @@ use Rattle.fields.specs.declared.number.Digits.{Digits}
 use Rattle.fields.specs.declared.number.DigitsRead.{DigitsRead}
 use Rattle.fields.specs.declared.number.Number.{Number}
 use Rattle.fields.specs.declared.number.NumberRead.{NumberRead}
-use Rattle.fields.specs.Code.{maybeCodeOf, maybeCodeOfWord, maybeCodeText}
-use Rattle.fields.specs.Date.{maybeDateOf, maybeDateOfWord, maybeDateText}
-use Rattle.fields.specs.Kind.{maybeKindOf, maybeKindOfWord, maybeKindText}
-use Rattle.fields.specs.Number.{digitsFieldOf, digitsText, digitsSize, number_of, numberFits}
+use Rattle.fields.specs.Code.{maybe_code_of, maybe_code_of_word, maybe_code_text}
+use Rattle.fields.specs.Date.{maybe_date_of, maybe_date_of_word, maybe_date_text}
+use Rattle.fields.specs.Kind.{maybe_kind_of, maybe_kind_of_word, maybe_kind_text}
+use Rattle.fields.specs.Number.{digits_field_of, digits_text, digits_size, number_of, number_fits}
 use Rattle.fields.proofs.CodeLaws.{length-code}
 use Rattle.fields.proofs.DateLaws.{length-date}
 use Rattle.fields.proofs.KindLaws.{length-kind}
@@ -29,54 +29,54 @@ use Rattle.fields.proofs.NumberLaws.{length-field}
 use Rattle.layout.specs.declared.part.Part.{Part}
 use Rattle.layout.specs.declared.part.PartRead.{PartRead}
 use Rattle.layout.specs.declared.part.PartRead.TheVariants.{Fault}
-use Rattle.layout.specs.Part.{sixOf, restOfWords, numberOfWords, partOfWords, partText}
-use Rattle.layout.specs.Putting.{followed, numberFollowed, networksFollowed}
+use Rattle.layout.specs.Part.{six_of, rest_of_words, number_of_words, part_of_words, part_text}
+use Rattle.layout.specs.Putting.{followed, number_followed, networks_followed}
 
 -- ---- six fields that have their values
 module _ (a b c d e f : List ℕ) {first : Digits} {number : Number} {date : MaybeDate} {gaining losing : MaybeCode} {kind : MaybeKind} where
-  pub six-known : digitsFieldOf a ≡ DigitsRead.Digits first → number_of first b ≡ NumberRead.Number number → maybeDateOf c ≡ MaybeDateRead.MaybeDate date
-      → maybeCodeOf d ≡ MaybeCodeRead.MaybeCode gaining → maybeCodeOf e ≡ MaybeCodeRead.MaybeCode losing → maybeKindOf f ≡ MaybeKindRead.MaybeKind kind
-      → sixOf a b c d e f ≡ PartRead.Part (record { number = number; date = date; gaining = gaining; losing = losing; kind = kind })
-  unfolding sixOf
+  pub six-known : digits_field_of a ≡ DigitsRead.Digits first → number_of first b ≡ NumberRead.Number number → maybe_date_of c ≡ MaybeDateRead.MaybeDate date
+      → maybe_code_of d ≡ MaybeCodeRead.MaybeCode gaining → maybe_code_of e ≡ MaybeCodeRead.MaybeCode losing → maybe_kind_of f ≡ MaybeKindRead.MaybeKind kind
+      → six_of a b c d e f ≡ PartRead.Part (record { number = number; date = date; gaining = gaining; losing = losing; kind = kind })
+  unfolding six_of
   six-known p₁ p₂ p₃ p₄ p₅ p₆ = rw (p₁, p₂, p₃, p₄, p₅, p₆)
 
 -- ---- which way the words go
 module _ (w : List ℕ) where
-  pub words_count : (length w ≡ 6 → ⊥) → partOfWords w ≡ Fault
-  unfolding partOfWords
+  pub words_count : (length w ≡ 6 → ⊥) → part_of_words w ≡ Fault
+  unfolding part_of_words
   words_count n = rw (ne_eqb (length w) 6 n)
 
   module _ (l : length w ≡ 6) where
-    pub words-number : numberFits (numberOfWords w) ≡ false → partOfWords w ≡ Fault
-    unfolding partOfWords
+    pub words-number : number_fits (number_of_words w) ≡ false → part_of_words w ≡ Fault
+    unfolding part_of_words
     words-number p = rw (eq-eqb (length w) 6 l, p)
 
-    pub words-rest : numberFits (numberOfWords w) ≡ true → partOfWords w ≡ restOfWords (numberOfWords w) (get_or w 2 0) (get_or w 3 0) (get_or w 4 0) (get_or w 5 0)
-    unfolding partOfWords
+    pub words-rest : number_fits (number_of_words w) ≡ true → part_of_words w ≡ rest_of_words (number_of_words w) (get_or w 2 0) (get_or w 3 0) (get_or w 4 0) (get_or w 5 0)
+    unfolding part_of_words
     words-rest p = rw (eq-eqb (length w) 6 l, p)
 
 module _ (number : Number) (c d e f : ℕ) where
-  pub rest-1 : maybeDateOfWord c ≡ MaybeDateRead.Fault → restOfWords number c d e f ≡ Fault
-  unfolding restOfWords
+  pub rest-1 : maybe_date_of_word c ≡ MaybeDateRead.Fault → rest_of_words number c d e f ≡ Fault
+  unfolding rest_of_words
   rest-1 p₁ = rw p₁
 
-  module _ {date : MaybeDate} (p₁ : maybeDateOfWord c ≡ MaybeDateRead.MaybeDate date) where
-    pub rest-2 : maybeCodeOfWord d ≡ MaybeCodeRead.Fault → restOfWords number c d e f ≡ Fault
-    unfolding restOfWords
+  module _ {date : MaybeDate} (p₁ : maybe_date_of_word c ≡ MaybeDateRead.MaybeDate date) where
+    pub rest-2 : maybe_code_of_word d ≡ MaybeCodeRead.Fault → rest_of_words number c d e f ≡ Fault
+    unfolding rest_of_words
     rest-2 p₂ = rw (p₁, p₂)
 
-    module _ {gaining : MaybeCode} (p₂ : maybeCodeOfWord d ≡ MaybeCodeRead.MaybeCode gaining) where
-      pub rest-3 : maybeCodeOfWord e ≡ MaybeCodeRead.Fault → restOfWords number c d e f ≡ Fault
-      unfolding restOfWords
+    module _ {gaining : MaybeCode} (p₂ : maybe_code_of_word d ≡ MaybeCodeRead.MaybeCode gaining) where
+      pub rest-3 : maybe_code_of_word e ≡ MaybeCodeRead.Fault → rest_of_words number c d e f ≡ Fault
+      unfolding rest_of_words
       rest-3 p₃ = rw (p₁, p₂, p₃)
 
-      module _ {losing : MaybeCode} (p₃ : maybeCodeOfWord e ≡ MaybeCodeRead.MaybeCode losing) where
-        pub rest-4 : maybeKindOfWord f ≡ MaybeKindRead.Fault → restOfWords number c d e f ≡ Fault
-        unfolding restOfWords
+      module _ {losing : MaybeCode} (p₃ : maybe_code_of_word e ≡ MaybeCodeRead.MaybeCode losing) where
+        pub rest-4 : maybe_kind_of_word f ≡ MaybeKindRead.Fault → rest_of_words number c d e f ≡ Fault
+        unfolding rest_of_words
         rest-4 p₄ = rw (p₁, p₂, p₃, p₄)
 
-        pub rest-5 : {kind : MaybeKind} → maybeKindOfWord f ≡ MaybeKindRead.MaybeKind kind → restOfWords number c d e f ≡ PartRead.Part (record { number = number; date = date; gaining = gaining; losing = losing; kind = kind })
-        unfolding restOfWords
+        pub rest-5 : {kind : MaybeKind} → maybe_kind_of_word f ≡ MaybeKindRead.MaybeKind kind → rest_of_words number c d e f ≡ PartRead.Part (record { number = number; date = date; gaining = gaining; losing = losing; kind = kind })
+        unfolding rest_of_words
         rest-5 p₄ = rw (p₁, p₂, p₃, p₄)
 
 -- ---- the text as the calls of `write` lay it: fields with the comma behind each
@@ -88,48 +88,48 @@ pair-on a b rest = append_assoc (followed a) (followed b) rest ∙ followed-on a
 
 module _ (p : Part) where
   -- behind the date, and behind the number
-  abbrev pub networksOn : List ℕ
-  networksOn = networksFollowed p.gaining p.losing ++ maybeKindText p.kind
+  abbrev pub networks_on : List ℕ
+  networks_on = networks_followed p.gaining p.losing ++ maybe_kind_text p.kind
 
-  abbrev pub dateOn : List ℕ
-  dateOn = followed (maybeDateText p.date) ++ networksOn
+  abbrev pub date_on : List ℕ
+  date_on = followed (maybe_date_text p.date) ++ networks_on
 
-  pub whole : partText p ≡ numberFollowed p.number ++ dateOn
-  unfolding partText
+  pub whole : part_text p ≡ number_followed p.number ++ date_on
+  unfolding part_text
   whole =
       sym
-      (pair-on (digitsText p.number.first) (digitsText p.number.last) dateOn
-      ∙ ap (λ (r : List ℕ). digitsText p.number.first ++ (44 ∷ (digitsText p.number.last ++ (44 ∷ r))))
-      (followed-on (maybeDateText p.date) networksOn
-      ∙ ap (λ (r : List ℕ). maybeDateText p.date ++ (44 ∷ r)) (pair-on (maybeCodeText p.gaining) (maybeCodeText p.losing) (maybeKindText p.kind))))
+      (pair-on (digits_text p.number.first) (digits_text p.number.last) date_on
+      ∙ ap (λ (r : List ℕ). digits_text p.number.first ++ (44 ∷ (digits_text p.number.last ++ (44 ∷ r))))
+      (followed-on (maybe_date_text p.date) networks_on
+      ∙ ap (λ (r : List ℕ). maybe_date_text p.date ++ (44 ∷ r)) (pair-on (maybe_code_text p.gaining) (maybe_code_text p.losing) (maybe_kind_text p.kind))))
 
   -- it begins with the number's first field
-  pub begins : partText p ≡ digitsText p.number.first ++ (44 ∷ (followed (digitsText p.number.last) ++ dateOn))
-  begins = whole ∙ append_assoc (followed (digitsText p.number.first)) (followed (digitsText p.number.last)) dateOn ∙ followed-on (digitsText p.number.first) (followed (digitsText p.number.last) ++ dateOn)
+  pub begins : part_text p ≡ digits_text p.number.first ++ (44 ∷ (followed (digits_text p.number.last) ++ date_on))
+  begins = whole ∙ append_assoc (followed (digits_text p.number.first)) (followed (digits_text p.number.last)) date_on ∙ followed-on (digits_text p.number.first) (followed (digits_text p.number.last) ++ date_on)
 
-  pub room-part : (o : List ℕ) (at : ℕ) → at + length (partText p) ≤ length o → Room o at (numberFollowed p.number ++ dateOn)
+  pub room-part : (o : List ℕ) (at : ℕ) → at + length (part_text p) ≤ length o → Room o at (number_followed p.number ++ date_on)
   room-part o at h = record { fits = rw whole at h }
 
 -- ---- how long the fields are
-pub date-short : (d : MaybeDate) → length (maybeDateText d) ≤ 8
+pub date-short : (d : MaybeDate) → length (maybe_date_text d) ≤ 8
 date-short (MaybeDate.Date d) = omega (arith, length-date d)
 date-short MaybeDate.Empty = omega arith
 
-pub code-short : (c : MaybeCode) → length (maybeCodeText c) ≤ 4
+pub code-short : (c : MaybeCode) → length (maybe_code_text c) ≤ 4
 code-short (MaybeCode.Code c) = omega (arith, length-code c)
 code-short MaybeCode.Empty = omega arith
 
-pub kind-short : (k : MaybeKind) → length (maybeKindText k) ≤ 1
+pub kind-short : (k : MaybeKind) → length (maybe_kind_text k) ≤ 1
 kind-short (MaybeKind.Kind k) = omega (arith, length-kind k)
 kind-short MaybeKind.Empty = omega arith
 
-pub digits-short : (d : Digits) → digitsSize d ≤ 12
+pub digits-short : (d : Digits) → digits_size d ≤ 12
 digits-short d = size-le 12 d.0
 
-pub length_part : (p : Part) → length (partText p) ≡ digitsSize p.number.first + digitsSize p.number.last + length (maybeDateText p.date) + length (maybeCodeText p.gaining) + length (maybeCodeText p.losing) + length (maybeKindText p.kind) + 5
+pub length_part : (p : Part) → length (part_text p) ≡ digits_size p.number.first + digits_size p.number.last + length (maybe_date_text p.date) + length (maybe_code_text p.gaining) + length (maybe_code_text p.losing) + length (maybe_kind_text p.kind) + 5
 length_part p =
     rw (whole p) (simp length-append (omega (arith, length-field p.number.first, length-field p.number.last)))
 
-pub part-short : (p : Part) → length (partText p) ≤ 46
+pub part-short : (p : Part) → length (part_text p) ≤ 46
 part-short p =
     omega (arith, length_part p, digits-short p.number.first, digits-short p.number.last, date-short p.date, code-short p.gaining, code-short p.losing, kind-short p.kind)

@@ -6,18 +6,18 @@ use mathlib.Core.List.{List, [], ◌∷◌, ◌++◌}
 use lib.ListN.{length}
 use Rattle.laws.proofs.Overlay.{Room}
 use Rattle.laws.proofs.Tests.{and_left, and_right}
-use Rattle.fields.specs.Code.{codeFits, maybeCodeFits}
-use Rattle.fields.specs.CorrectionCode.{correctionCodeFits}
-use Rattle.fields.specs.Date.{maybeDateFits}
-use Rattle.fields.specs.Number.{numberFits}
+use Rattle.fields.specs.Code.{code_fits, maybe_code_fits}
+use Rattle.fields.specs.CorrectionCode.{correction_code_fits}
+use Rattle.fields.specs.Date.{maybe_date_fits}
+use Rattle.fields.specs.Number.{number_fits}
 use Rattle.layout.specs.declared.part.Part.{Part}
 use Rattle.layout.specs.declared.report.Report.{Report}
 use Rattle.layout.specs.declared.correction.Correction.{Correction}
 use Rattle.layout.specs.declared.request.Request.{Request}
-use Rattle.layout.specs.Part.{partFits}
-use Rattle.layout.specs.Report.{reportPart, reportFits}
-use Rattle.layout.specs.Correction.{correctionFits}
-use Rattle.layout.specs.Request.{requestFits}
+use Rattle.layout.specs.Part.{part_fits}
+use Rattle.layout.specs.Report.{report_part, report_fits}
+use Rattle.layout.specs.Correction.{correction_fits}
+use Rattle.layout.specs.Request.{request_fits}
 
 -- room as a caller gives it
 pub room : (o : List ℕ) (at : ℕ) (t : List ℕ) → at + length t ≤ length o → Room o at t
@@ -27,24 +27,24 @@ abbrev pub comma : List ℕ
 comma = 44 ∷ []
 
 -- ---- what fits a record fits its fields
-pub part-fields : (p : Part) → partFits p ≡ true
-    → (numberFits p.number ≡ true) × (maybeDateFits p.date ≡ true) × (maybeCodeFits p.gaining ≡ true) × (maybeCodeFits p.losing ≡ true)
-unfolding partFits
+pub part-fields : (p : Part) → part_fits p ≡ true
+    → (number_fits p.number ≡ true) × (maybe_date_fits p.date ≡ true) × (maybe_code_fits p.gaining ≡ true) × (maybe_code_fits p.losing ≡ true)
+unfolding part_fits
 part-fields p h =
-    let behind = and_right (numberFits p.number) _ h in
-    let codes = and_right (maybeDateFits p.date) _ behind in
-    (and_left (numberFits p.number) _ h, and_left (maybeDateFits p.date) _ behind, and_left (maybeCodeFits p.gaining) _ codes, and_right (maybeCodeFits p.gaining) _ codes)
+    let behind = and_right (number_fits p.number) _ h in
+    let codes = and_right (maybe_date_fits p.date) _ behind in
+    (and_left (number_fits p.number) _ h, and_left (maybe_date_fits p.date) _ behind, and_left (maybe_code_fits p.gaining) _ codes, and_right (maybe_code_fits p.gaining) _ codes)
 
-pub report-part : (r : Report) → reportFits r ≡ true → partFits (reportPart r) ≡ true
-unfolding reportFits
-report-part r h = and_left (partFits (reportPart r)) _ h
+pub report-part : (r : Report) → report_fits r ≡ true → part_fits (report_part r) ≡ true
+unfolding report_fits
+report-part r h = and_left (part_fits (report_part r)) _ h
 
-pub correction-parts : (c : Correction) → correctionFits c ≡ true → (correctionCodeFits c.code ≡ true) × (partFits c.u ≡ true) × (partFits c.k ≡ true)
-unfolding correctionFits
+pub correction-parts : (c : Correction) → correction_fits c ≡ true → (correction_code_fits c.code ≡ true) × (part_fits c.u ≡ true) × (part_fits c.k ≡ true)
+unfolding correction_fits
 correction-parts c h =
-    let parts = and_right (correctionCodeFits c.code) _ h in
-    (and_left (correctionCodeFits c.code) _ h, and_left (partFits c.u) _ parts, and_left (partFits c.k) _ (and_right (partFits c.u) _ parts))
+    let parts = and_right (correction_code_fits c.code) _ h in
+    (and_left (correction_code_fits c.code) _ h, and_left (part_fits c.u) _ parts, and_left (part_fits c.k) _ (and_right (part_fits c.u) _ parts))
 
-pub request-fields : (r : Request) → requestFits r ≡ true → (codeFits r.code ≡ true) × (maybeDateFits r.from ≡ true)
-unfolding requestFits
-request-fields r h = (and_left (codeFits r.code) _ h, and_right (codeFits r.code) _ h)
+pub request-fields : (r : Request) → request_fits r ≡ true → (code_fits r.code ≡ true) × (maybe_date_fits r.from ≡ true)
+unfolding request_fits
+request-fields r h = (and_left (code_fits r.code) _ h, and_right (code_fits r.code) _ h)

@@ -5,100 +5,100 @@ use mathlib.Core.Bool.{Bool, true, false, ◌||◌}
 use mathlib.Core.List.{List, [], ◌∷◌, ◌++◌}
 use lib.Dec.{eqb}
 use Rattle.laws.specs.Lists.{all}
-use Rattle.laws.specs.Digits.{isDigit}
-use Rattle.laws.specs.Split.{lacks, isNot}
+use Rattle.laws.specs.Digits.{is_digit}
+use Rattle.laws.specs.Split.{lacks, is_not}
 use Rattle.laws.proofs.Tests.{and-true}
 use Rattle.laws.proofs.Tables.{all_append, all_weaker}
 use Rattle.laws.proofs.Split.{lacks-by, all-joined}
 use Rattle.fields.specs.declared.correction_code.CorrectionCode.{CorrectionCode}
-use Rattle.fields.specs.Bytes.{fieldByte, recordByte}
-use Rattle.fields.specs.Code.{codeText, maybeCodeText}
-use Rattle.fields.specs.CorrectionCode.{correctionCodeText}
-use Rattle.fields.specs.Date.{maybeDateText}
-use Rattle.fields.specs.Kind.{maybeKindText}
-use Rattle.fields.specs.Number.{digitsText, digitsSize}
+use Rattle.fields.specs.Bytes.{field_byte, record_byte}
+use Rattle.fields.specs.Code.{code_text, maybe_code_text}
+use Rattle.fields.specs.CorrectionCode.{correction_code_text}
+use Rattle.fields.specs.Date.{maybe_date_text}
+use Rattle.fields.specs.Kind.{maybe_kind_text}
+use Rattle.fields.specs.Number.{digits_text, digits_size}
 use Rattle.fields.proofs.ByteLaws.{bytes-digits, bytes-code, bytes-maybe-code, bytes-maybe-date, bytes-maybe-kind}
 use Rattle.layout.specs.declared.part.Part.{Part}
 use Rattle.layout.specs.declared.correction.Correction.{Correction}
 use Rattle.layout.specs.declared.request.Request.{Request}
-use Rattle.layout.specs.Part.{fields_of, partText}
-use Rattle.layout.specs.Correction.{correctionText}
-use Rattle.layout.specs.Request.{requestText}
+use Rattle.layout.specs.Part.{fields_of, part_text}
+use Rattle.layout.specs.Correction.{correction_text}
+use Rattle.layout.specs.Request.{request_text}
 
 -- a field's byte, or a comma
-unfoldable pub partByte : ℕ → Bool
-partByte b = fieldByte b || eqb b 44
+unfoldable pub part_byte : ℕ → Bool
+part_byte b = field_byte b || eqb b 44
 
 module _ (p : Part) where
-  weak : (b : ℕ) → fieldByte b ≡ true → partByte b ≡ true
-  unfolding partByte
+  weak : (b : ℕ) → field_byte b ≡ true → part_byte b ≡ true
+  unfolding part_byte
   weak b e = rw e
 
-  field-bytes : all (all partByte) (fields_of p) ≡ true
+  field-bytes : all (all part_byte) (fields_of p) ≡ true
   unfolding all
   field-bytes =
-      let d : (f : List ℕ) → all fieldByte f ≡ true → all partByte f ≡ true = λ f h. all_weaker fieldByte partByte weak f h in
+      let d : (f : List ℕ) → all field_byte f ≡ true → all part_byte f ≡ true = λ f h. all_weaker field_byte part_byte weak f h in
       rw (
-        d (digitsText p.number.first) (bytes-digits (digitsSize p.number.first) p.number.first.0),
-        d (digitsText p.number.last) (bytes-digits (digitsSize p.number.last) p.number.last.0),
-        d (maybeDateText p.date) (bytes-maybe-date p.date),
-        d (maybeCodeText p.gaining) (bytes-maybe-code p.gaining),
-        d (maybeCodeText p.losing) (bytes-maybe-code p.losing),
-        d (maybeKindText p.kind) (bytes-maybe-kind p.kind),
+        d (digits_text p.number.first) (bytes-digits (digits_size p.number.first) p.number.first.0),
+        d (digits_text p.number.last) (bytes-digits (digits_size p.number.last) p.number.last.0),
+        d (maybe_date_text p.date) (bytes-maybe-date p.date),
+        d (maybe_code_text p.gaining) (bytes-maybe-code p.gaining),
+        d (maybe_code_text p.losing) (bytes-maybe-code p.losing),
+        d (maybe_kind_text p.kind) (bytes-maybe-kind p.kind),
       )
 
-  pub part_bytes : all partByte (partText p) ≡ true
-  unfolding partText partByte fieldByte isDigit
-  part_bytes = all-joined partByte 44 refl (fields_of p) field-bytes
+  pub part_bytes : all part_byte (part_text p) ≡ true
+  unfolding part_text part_byte field_byte is_digit
+  part_bytes = all-joined part_byte 44 refl (fields_of p) field-bytes
 
   -- no colon
-  pub lacks-part : lacks 58 (partText p) ≡ true
-  unfolding partByte fieldByte isDigit
-  lacks-part = lacks-by partByte 58 refl (partText p) part_bytes
+  pub lacks-part : lacks 58 (part_text p) ≡ true
+  unfolding part_byte field_byte is_digit
+  lacks-part = lacks-by part_byte 58 refl (part_text p) part_bytes
 
-  pub lacks-reported : lacks 58 (partText p ++ (44 ∷ 75 ∷ [])) ≡ true
-  unfolding all isNot
-  lacks-reported = all_append (isNot 58) (partText p) (44 ∷ 75 ∷ []) ∙ rw lacks-part
+  pub lacks-reported : lacks 58 (part_text p ++ (44 ∷ 75 ∷ [])) ≡ true
+  unfolding all is_not
+  lacks-reported = all_append (is_not 58) (part_text p) (44 ∷ 75 ∷ []) ∙ rw lacks-part
 
-pub lacks-head : (c : CorrectionCode) → lacks 58 (correctionCodeText c ++ (85 ∷ [])) ≡ true
-unfolding all isNot fieldByte isDigit
-lacks-head c = all_append (isNot 58) (correctionCodeText c) (85 ∷ []) ∙ rw (lacks-by fieldByte 58 refl (correctionCodeText c) (bytes-digits 4 c.0))
+pub lacks-head : (c : CorrectionCode) → lacks 58 (correction_code_text c ++ (85 ∷ [])) ≡ true
+unfolding all is_not field_byte is_digit
+lacks-head c = all_append (is_not 58) (correction_code_text c) (85 ∷ []) ∙ rw (lacks-by field_byte 58 refl (correction_code_text c) (bytes-digits 4 c.0))
 
 -- ---- each byte of a record is one of 4.4.1, and none is a line end
-part-record : (b : ℕ) → partByte b ≡ true → recordByte b ≡ true
-unfolding partByte recordByte
-part-record b e = go (fieldByte b) (eqb b 44) e
+part-record : (b : ℕ) → part_byte b ≡ true → record_byte b ≡ true
+unfolding part_byte record_byte
+part-record b e = go (field_byte b) (eqb b 44) e
   where
     go : (s t : Bool) → (s || t) ≡ true → (s || (t || (eqb b 58 || (eqb b 85 || eqb b 75)))) ≡ true
     go true t h = refl
     go false true h = refl
     go false false h = cc
 
-field-record : (b : ℕ) → fieldByte b ≡ true → recordByte b ≡ true
-unfolding recordByte
+field-record : (b : ℕ) → field_byte b ≡ true → record_byte b ≡ true
+unfolding record_byte
 field-record b e = rw e
 
-pub part-record-bytes : (p : Part) → all recordByte (partText p) ≡ true
-part-record-bytes p = all_weaker partByte recordByte part-record (partText p) (part_bytes p)
+pub part-record-bytes : (p : Part) → all record_byte (part_text p) ≡ true
+part-record-bytes p = all_weaker part_byte record_byte part-record (part_text p) (part_bytes p)
 
-pub correction-bytes : (c : Correction) → all recordByte (correctionText c) ≡ true
-unfolding correctionText all recordByte fieldByte isDigit
+pub correction-bytes : (c : Correction) → all record_byte (correction_text c) ≡ true
+unfolding correction_text all record_byte field_byte is_digit
 correction-bytes c =
-    all_append recordByte (correctionCodeText c.code) _
-    ∙ and-true _ _ (all_weaker fieldByte recordByte field-record (correctionCodeText c.code) (bytes-digits 4 c.code.0))
-    (all_append recordByte (partText c.u) _ ∙ and-true _ _ (part-record-bytes c.u) (part-record-bytes c.k))
+    all_append record_byte (correction_code_text c.code) _
+    ∙ and-true _ _ (all_weaker field_byte record_byte field-record (correction_code_text c.code) (bytes-digits 4 c.code.0))
+    (all_append record_byte (part_text c.u) _ ∙ and-true _ _ (part-record-bytes c.u) (part-record-bytes c.k))
 
-pub request-bytes : (r : Request) → all recordByte (requestText r) ≡ true
-unfolding requestText all
+pub request-bytes : (r : Request) → all record_byte (request_text r) ≡ true
+unfolding request_text all
 request-bytes r =
-    let d : (f : List ℕ) → all fieldByte f ≡ true → all recordByte f ≡ true = λ f h. all_weaker fieldByte recordByte field-record f h in
-    all-joined recordByte 44 comma (codeText r.code ∷ maybeDateText r.from ∷ [] ∷ [])
-    (rw (d (codeText r.code) (bytes-code r.code), d (maybeDateText r.from) (bytes-maybe-date r.from)))
+    let d : (f : List ℕ) → all field_byte f ≡ true → all record_byte f ≡ true = λ f h. all_weaker field_byte record_byte field-record f h in
+    all-joined record_byte 44 comma (code_text r.code ∷ maybe_date_text r.from ∷ [] ∷ [])
+    (rw (d (code_text r.code) (bytes-code r.code), d (maybe_date_text r.from) (bytes-maybe-date r.from)))
   where
-    comma : recordByte 44 ≡ true
-    comma = unfold recordByte fieldByte isDigit in refl
+    comma : record_byte 44 ≡ true
+    comma = unfold record_byte field_byte is_digit in refl
 
 -- a record has no CR (13), no LF (10)
-pub no-line-end : (s : List ℕ) → all recordByte s ≡ true → (lacks 13 s ≡ true) × (lacks 10 s ≡ true)
-unfolding recordByte fieldByte isDigit
-no-line-end s h = (lacks-by recordByte 13 refl s h, lacks-by recordByte 10 refl s h)
+pub no-line-end : (s : List ℕ) → all record_byte s ≡ true → (lacks 13 s ≡ true) × (lacks 10 s ≡ true)
+unfolding record_byte field_byte is_digit
+no-line-end s h = (lacks-by record_byte 13 refl s h, lacks-by record_byte 10 refl s h)

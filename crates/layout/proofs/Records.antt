@@ -5,19 +5,19 @@ use mathlib.Core.Bool.{true}
 use mathlib.Core.List.{List, ◌++◌}
 use lib.ListN.{length, get_or, get_or-append}
 use Rattle.laws.specs.Lists.{all}
-use Rattle.laws.specs.Digits.{isDigit, digits}
+use Rattle.laws.specs.Digits.{is_digit, digits}
 use Rattle.laws.proofs.Tables.{all-at}
-use Rattle.laws.proofs.Digits.{length_digits, all_digits}
-use Rattle.fields.specs.Bytes.{recordByte}
+use Rattle.laws.proofs.Digits.{length_digits, all_digits_lem}
+use Rattle.fields.specs.Bytes.{record_byte}
 use Rattle.layout.specs.declared.correction.Correction.{Correction}
 use Rattle.layout.specs.declared.correction.CorrectionRead.{CorrectionRead}
 use Rattle.layout.specs.declared.report.Report.{Report}
 use Rattle.layout.specs.declared.report.ReportRead.{ReportRead}
 use Rattle.layout.specs.declared.request.Request.{Request}
 use Rattle.layout.specs.declared.request.RequestRead.{RequestRead}
-use Rattle.layout.specs.Report.{reportOf, reportPart}
-use Rattle.layout.specs.Correction.{correctionOf}
-use Rattle.layout.specs.Request.{requestOf}
+use Rattle.layout.specs.Report.{report_of, report_part}
+use Rattle.layout.specs.Correction.{correction_of}
+use Rattle.layout.specs.Request.{request_of}
 use Rattle.layout.proofs.PartLaws.{begins}
 use Rattle.layout.proofs.CorrectionLaws as corrections
 use Rattle.layout.proofs.RecordBytes.{part-record-bytes, correction-bytes, request-bytes}
@@ -26,17 +26,17 @@ use Rattle.layout.proofs.RequestTrip.{request-back}
 use Rattle.layout.proofs.CorrectionTrip.{correction-back}
 
 -- ---- each byte
-pub report-characters : (s : List ℕ) (r : Report) → reportOf s ≡ ReportRead.Report r → all recordByte s ≡ true
-report-characters s r h = rw (report-back s r h).0 at (part-record-bytes (reportPart r))
+pub report-characters : (s : List ℕ) (r : Report) → report_of s ≡ ReportRead.Report r → all record_byte s ≡ true
+report-characters s r h = rw (report-back s r h).0 at (part-record-bytes (report_part r))
 
-pub correction-characters : (s : List ℕ) (c : Correction) → correctionOf s ≡ CorrectionRead.Correction c → all recordByte s ≡ true
+pub correction-characters : (s : List ℕ) (c : Correction) → correction_of s ≡ CorrectionRead.Correction c → all record_byte s ≡ true
 correction-characters s c h = rw (correction-back s c h).0 at (correction-bytes c)
 
-pub request-characters : (s : List ℕ) (r : Request) → requestOf s ≡ RequestRead.Request r → all recordByte s ≡ true
+pub request-characters : (s : List ℕ) (r : Request) → request_of s ≡ RequestRead.Request r → all record_byte s ≡ true
 request-characters s r h = rw (request-back s r h).0 at (request-bytes r)
 
 -- ---- the first byte
-digit-first : (k n : ℕ) (t : List ℕ) → 0 < k → isDigit (get_or (digits k n ++ t) 0 0) ≡ true
+digit-first : (k n : ℕ) (t : List ℕ) → 0 < k → is_digit (get_or (digits k n ++ t) 0 0) ≡ true
 digit-first k n t h =
     let l : 0 < length (digits k n) = rw length_digits h in
-    ap isDigit (get_or-append (digits k n) t 0 0 l) ∙ all-at isDigit (digits k n) 0 0 (all_digits k n) l
+    ap is_digit (get_or-append (digits k n) t 0 0 l) ∙ all-at is_digit (digits k n) 0 0 (all_digits_lem k n) l

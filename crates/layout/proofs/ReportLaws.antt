@@ -13,7 +13,7 @@ use Rattle.fields.specs.declared.date.MaybeDate.{MaybeDate}
 use Rattle.fields.specs.declared.gaining.Gaining.{Gaining}
 use Rattle.fields.specs.declared.kind.Kind.{Kind}
 use Rattle.fields.specs.declared.kind.MaybeKind.{MaybeKind}
-use Rattle.fields.specs.Gaining.{gainingOf, gainingField}
+use Rattle.fields.specs.Gaining.{gaining_of, gaining_field}
 use Rattle.fields.specs.Number.{is_empty}
 use Rattle.calendar.specs.declared.dates.CalendarDays.{CalendarDays}
 use Rattle.layout.specs.declared.part.Part.{Part}
@@ -21,37 +21,37 @@ use Rattle.layout.specs.declared.report.Report.{Report}
 use Rattle.layout.specs.declared.report.ReportRead.{ReportRead}
 use Rattle.layout.specs.declared.part.PartRead.{PartRead}
 use Rattle.layout.specs.declared.report.ReportRead.TheVariants.{Fault}
-use Rattle.layout.specs.Part.{part_of, partOfWords, partFits, partText}
-use Rattle.layout.specs.Report.{isNamed, onSomeDate, onSomeCode, onSomeKind, whole_of, reportFrom, reportOf, reportOfWords, reportPart, reportFits, reportText}
+use Rattle.layout.specs.Part.{part_of, part_of_words, part_fits, part_text}
+use Rattle.layout.specs.Report.{is_named, on_some_date, on_some_code, on_some_kind, whole_of, report_from, report_of, report_of_words, report_part, report_fits, report_text}
 use Rattle.layout.proofs.PartTrip.{part-trip, part-back, part-words, part-longest}
 
 -- a part with nothing missing is a report
 pub whole-report : (p : Part) {date : CalendarDays} {losing : Code} {kind : Kind} {gaining : Gaining}
     → is_empty p.number.first ≡ false → p.date ≡ MaybeDate.Date date → p.losing ≡ MaybeCode.Code losing → p.kind ≡ MaybeKind.Kind kind
-    → isNamed p.gaining kind ≡ true → gaining ≡ gainingOf p.gaining
+    → is_named p.gaining kind ≡ true → gaining ≡ gaining_of p.gaining
     → whole_of p ≡ ReportRead.Report (record { number = p.number; date = date; gaining = gaining; losing = losing; kind = kind })
 unfolding whole_of
 whole-report p e₁ e₂ e₃ e₄ e₅ e₆ = rw (e₁, e₂, e₃, e₄, e₅, e₆)
 
 -- ---- reports and the parts that they are
-field_back : (g : Gaining) → gainingOf (gainingField g) ≡ g
+field_back : (g : Gaining) → gaining_of (gaining_field g) ≡ g
 field_back (Gaining.Code c) = refl
 field_back Gaining.Owner = refl
 
-of-back : (f : MaybeCode) → gainingField (gainingOf f) ≡ f
+of-back : (f : MaybeCode) → gaining_field (gaining_of f) ≡ f
 of-back (MaybeCode.Code c) = refl
 of-back MaybeCode.Empty = refl
 
 module _ {r : Report} where
-  date-on : (m : MaybeDate) (k : CalendarDays → ReportRead) → onSomeDate m k ≡ ReportRead.Report r → (x : CalendarDays) × (m ≡ MaybeDate.Date x) × (k x ≡ ReportRead.Report r)
+  date-on : (m : MaybeDate) (k : CalendarDays → ReportRead) → on_some_date m k ≡ ReportRead.Report r → (x : CalendarDays) × (m ≡ MaybeDate.Date x) × (k x ≡ ReportRead.Report r)
   date-on (MaybeDate.Date x) k h = (x, refl, h)
   date-on MaybeDate.Empty k h = absurd (let z : ◌≡◌ {A = ℕ} 0 1 = cc in omega arith)
 
-  code-on : (m : MaybeCode) (k : Code → ReportRead) → onSomeCode m k ≡ ReportRead.Report r → (x : Code) × (m ≡ MaybeCode.Code x) × (k x ≡ ReportRead.Report r)
+  code-on : (m : MaybeCode) (k : Code → ReportRead) → on_some_code m k ≡ ReportRead.Report r → (x : Code) × (m ≡ MaybeCode.Code x) × (k x ≡ ReportRead.Report r)
   code-on (MaybeCode.Code x) k h = (x, refl, h)
   code-on MaybeCode.Empty k h = absurd (let z : ◌≡◌ {A = ℕ} 0 1 = cc in omega arith)
 
-  kind-on : (m : MaybeKind) (k : Kind → ReportRead) → onSomeKind m k ≡ ReportRead.Report r → (x : Kind) × (m ≡ MaybeKind.Kind x) × (k x ≡ ReportRead.Report r)
+  kind-on : (m : MaybeKind) (k : Kind → ReportRead) → on_some_kind m k ≡ ReportRead.Report r → (x : Kind) × (m ≡ MaybeKind.Kind x) × (k x ≡ ReportRead.Report r)
   kind-on (MaybeKind.Kind x) k h = (x, refl, h)
   kind-on MaybeKind.Empty k h = absurd (let z : ◌≡◌ {A = ℕ} 0 1 = cc in omega arith)
 
@@ -65,71 +65,71 @@ module _ {r : Report} where
   named-on false q h = absurd (let z : ◌≡◌ {A = ℕ} 0 1 = cc in omega arith)
 
 -- the report's own part is whole, and the part that a report was made of is its own
-pub whole_part : (r : Report) → is_empty r.number.first ≡ false → isNamed (gainingField r.gaining) r.kind ≡ true → whole_of (reportPart r) ≡ ReportRead.Report r
-whole_part r e n = whole-report (reportPart r) e refl refl refl n (sym (field_back r.gaining))
+pub whole_part : (r : Report) → is_empty r.number.first ≡ false → is_named (gaining_field r.gaining) r.kind ≡ true → whole_of (report_part r) ≡ ReportRead.Report r
+whole_part r e n = whole-report (report_part r) e refl refl refl n (sym (field_back r.gaining))
 
-pub whole_back : (p : Part) (r : Report) → whole_of p ≡ ReportRead.Report r → (reportPart r ≡ p) × (is_empty r.number.first ≡ false) × (isNamed (gainingField r.gaining) r.kind ≡ true)
+pub whole_back : (p : Part) (r : Report) → whole_of p ≡ ReportRead.Report r → (report_part r ≡ p) × (is_empty r.number.first ≡ false) × (is_named (gaining_field r.gaining) r.kind ≡ true)
 unfolding whole_of
 whole_back p r h =
     let x₀ = some-on (is_empty p.number.first) _ h in
     let x₁ = date-on p.date _ x₀.1 in
     let x₂ = code-on p.losing _ x₁.2 in
     let x₃ = kind-on p.kind _ x₂.2 in
-    let x₄ = named-on (isNamed p.gaining x₃.0) _ x₃.2 in
+    let x₄ = named-on (is_named p.gaining x₃.0) _ x₃.2 in
     let same = x₄.1 in
     let g = of-back p.gaining in
     let d = sym x₁.1 in
     let l = sym x₂.1 in
     let k = sym x₃.1 in
-    let own : reportPart (record { number = p.number; date = x₁.0; gaining = gainingOf p.gaining; losing = x₂.0; kind = x₃.0 }) ≡ p =
+    let own : report_part (record { number = p.number; date = x₁.0; gaining = gaining_of p.gaining; losing = x₂.0; kind = x₃.0 }) ≡ p =
     (λ i. record { number = p.number; date = d i; gaining = g i; losing = l i; kind = k i }) in (
-      ap reportPart (sym same) ∙ own,
+      ap report_part (sym same) ∙ own,
       ap (λ (q : Report). is_empty q.number.first) (sym same) ∙ x₀.0,
-      ap (λ (q : Report). isNamed (gainingField q.gaining) q.kind) (sym same) ∙ ap (λ (f : MaybeCode). isNamed f x₃.0) g ∙ x₄.0,
+      ap (λ (q : Report). is_named (gaining_field q.gaining) q.kind) (sym same) ∙ ap (λ (f : MaybeCode). is_named f x₃.0) g ∙ x₄.0,
     )
 
 -- ---- what was written is read back
-pub report-trip : (r : Report) → reportFits r ≡ true → reportOf (reportText r) ≡ ReportRead.Report r
-unfolding reportOf reportFrom reportFits
+pub report-trip : (r : Report) → report_fits r ≡ true → report_of (report_text r) ≡ ReportRead.Report r
+unfolding report_of report_from report_fits
 report-trip r h =
-    let a = and_left (partFits (reportPart r)) _ h in
-    let b = and_right (partFits (reportPart r)) _ h in
-    ap reportFrom (part-trip (reportPart r) a)
+    let a = and_left (part_fits (report_part r)) _ h in
+    let b = and_right (part_fits (report_part r)) _ h in
+    ap report_from (part-trip (report_part r) a)
     ∙ whole_part r (not-true (is_empty r.number.first) (and_left (not (is_empty r.number.first)) _ b)) (and_right (not (is_empty r.number.first)) _ b)
 
 -- ---- what was read is written again
-from_back : (x : PartRead) (r : Report) → reportFrom x ≡ ReportRead.Report r → (p : Part) × (x ≡ PartRead.Part p) × (whole_of p ≡ ReportRead.Report r)
-unfolding reportFrom
+from_back : (x : PartRead) (r : Report) → report_from x ≡ ReportRead.Report r → (p : Part) × (x ≡ PartRead.Part p) × (whole_of p ≡ ReportRead.Report r)
+unfolding report_from
 from_back (PartRead.Part p) r h = (p, refl, h)
 from_back PartRead.Fault r h = absurd (let z : ◌≡◌ {A = ℕ} 0 1 = cc in omega arith)
 
-fits-from : (p : Part) (r : Report) → partFits p ≡ true → whole_of p ≡ ReportRead.Report r → reportFits r ≡ true
-unfolding reportFits
+fits-from : (p : Part) (r : Report) → part_fits p ≡ true → whole_of p ≡ ReportRead.Report r → report_fits r ≡ true
+unfolding report_fits
 fits-from p r f h =
     let w = whole_back p r h in
-    and-true _ _ (ap partFits w.0 ∙ f) (and-true _ _ (ap not w.1) w.2)
+    and-true _ _ (ap part_fits w.0 ∙ f) (and-true _ _ (ap not w.1) w.2)
 
-pub report-back : (s : List ℕ) (r : Report) → reportOf s ≡ ReportRead.Report r → (reportText r ≡ s) × (reportFits r ≡ true)
-unfolding reportOf
+pub report-back : (s : List ℕ) (r : Report) → report_of s ≡ ReportRead.Report r → (report_text r ≡ s) × (report_fits r ≡ true)
+unfolding report_of
 report-back s r h =
     let x = from_back (part_of s) r h in
     let b = part-back s x.0 x.1 in
     let w = whole_back x.0 r x.2 in
-    (ap partText w.0 ∙ b.0, fits-from x.0 r b.1 x.2)
+    (ap part_text w.0 ∙ b.0, fits-from x.0 r b.1 x.2)
 
 -- what is made of words fits
-pub report-words : (w : List ℕ) (r : Report) → reportOfWords w ≡ ReportRead.Report r → reportFits r ≡ true
-unfolding reportOfWords
+pub report-words : (w : List ℕ) (r : Report) → report_of_words w ≡ ReportRead.Report r → report_fits r ≡ true
+unfolding report_of_words
 report-words w r h =
-    let x = from_back (partOfWords w) r h in
+    let x = from_back (part_of_words w) r h in
     fits-from x.0 r (part-words w x.0 x.1) x.2
 
 -- ---- how long it can be
-pub report-longest : (r : Report) → reportFits r ≡ true → length (reportText r) ≤ 44
-unfolding reportFits
-report-longest r h = part-longest (reportPart r) (and_left (partFits (reportPart r)) _ h)
+pub report-longest : (r : Report) → report_fits r ≡ true → length (report_text r) ≤ 44
+unfolding report_fits
+report-longest r h = part-longest (report_part r) (and_left (part_fits (report_part r)) _ h)
 
-pub report-record : (s : List ℕ) (r : Report) → reportOf s ≡ ReportRead.Report r → length s ≤ 44
+pub report-record : (s : List ℕ) (r : Report) → report_of s ≡ ReportRead.Report r → length s ≤ 44
 report-record s r h =
     let b = report-back s r h in
     rw b.0 at (report-longest r b.1)

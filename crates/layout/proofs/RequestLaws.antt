@@ -11,59 +11,59 @@ use Rattle.fields.specs.declared.code.Code.{Code}
 use Rattle.fields.specs.declared.code.CodeRead.{CodeRead}
 use Rattle.fields.specs.declared.date.MaybeDate.{MaybeDate}
 use Rattle.fields.specs.declared.date.MaybeDateRead.{MaybeDateRead}
-use Rattle.fields.specs.Code.{code_of, codeOfWord, codeText}
-use Rattle.fields.specs.Date.{maybeDateOf, maybeDateOfWord, maybeDateText}
+use Rattle.fields.specs.Code.{code_of, code_of_word, code_text}
+use Rattle.fields.specs.Date.{maybe_date_of, maybe_date_of_word, maybe_date_text}
 use Rattle.fields.proofs.CodeLaws.{length-code}
 use Rattle.layout.specs.declared.request.Request.{Request}
 use Rattle.layout.specs.declared.request.RequestRead.{RequestRead}
 use Rattle.layout.specs.declared.request.RequestRead.TheVariants.{Fault}
-use Rattle.layout.specs.Request.{threeOf, requestOf, requestOfWords, requestText}
+use Rattle.layout.specs.Request.{three_of, request_of, request_of_words, request_text}
 
 module _ (s : List ℕ) where
-  pub request-count : (length (split 44 s) - 1 ≡ 2 → ⊥) → requestOf s ≡ Fault
-  unfolding requestOf
+  pub request-count : (length (split 44 s) - 1 ≡ 2 → ⊥) → request_of s ≡ Fault
+  unfolding request_of
   request-count n = rw (ne_eqb (length (split 44 s)) 3 (λ e. n (omega arith)))
 
-  pub request-three : length (split 44 s) - 1 ≡ 2 → requestOf s ≡ threeOf (piece_of 44 s 0) (piece_of 44 s 1) (piece_of 44 s 2)
-  unfolding requestOf
+  pub request-three : length (split 44 s) - 1 ≡ 2 → request_of s ≡ three_of (piece_of 44 s 0) (piece_of 44 s 1) (piece_of 44 s 2)
+  unfolding request_of
   request-three e = rw (eq-eqb (length (split 44 s)) 3 (omega arith))
 
 module _ (a b c : List ℕ) where
-  pub three-1 : code_of a ≡ CodeRead.Fault → threeOf a b c ≡ Fault
-  unfolding threeOf
+  pub three-1 : code_of a ≡ CodeRead.Fault → three_of a b c ≡ Fault
+  unfolding three_of
   three-1 p₁ = rw p₁
 
   module _ {code : Code} (p₁ : code_of a ≡ CodeRead.Code code) where
-    pub three-2 : maybeDateOf b ≡ MaybeDateRead.Fault → threeOf a b c ≡ Fault
-    unfolding threeOf
+    pub three-2 : maybe_date_of b ≡ MaybeDateRead.Fault → three_of a b c ≡ Fault
+    unfolding three_of
     three-2 p₂ = rw (p₁, p₂)
 
-    module _ {date : MaybeDate} (p₂ : maybeDateOf b ≡ MaybeDateRead.MaybeDate date) where
-      pub three-3 : (length c ≡ 0 → ⊥) → threeOf a b c ≡ Fault
-      unfolding threeOf
+    module _ {date : MaybeDate} (p₂ : maybe_date_of b ≡ MaybeDateRead.MaybeDate date) where
+      pub three-3 : (length c ≡ 0 → ⊥) → three_of a b c ≡ Fault
+      unfolding three_of
       three-3 n = rw (p₁, p₂, ne_eqb (length c) 0 n)
 
-      pub three-4 : length c ≡ 0 → threeOf a b c ≡ RequestRead.Request (record { code = code; from = date })
-      unfolding threeOf
+      pub three-4 : length c ≡ 0 → three_of a b c ≡ RequestRead.Request (record { code = code; from = date })
+      unfolding three_of
       three-4 e = rw (p₁, p₂, eq-eqb (length c) 0 e)
 
 module _ (w : List ℕ) where
-  pub words-1 : (length w ≡ 2 → ⊥) → requestOfWords w ≡ Fault
-  unfolding requestOfWords
+  pub words-1 : (length w ≡ 2 → ⊥) → request_of_words w ≡ Fault
+  unfolding request_of_words
   words-1 n = rw (ne_eqb (length w) 2 n)
 
   module _ (l : length w ≡ 2) where
-    pub words-2 : codeOfWord (get_or w 0 0) ≡ CodeRead.Fault → requestOfWords w ≡ Fault
-    unfolding requestOfWords
+    pub words-2 : code_of_word (get_or w 0 0) ≡ CodeRead.Fault → request_of_words w ≡ Fault
+    unfolding request_of_words
     words-2 p₁ = rw (eq-eqb (length w) 2 l, p₁)
 
-    module _ {code : Code} (p₁ : codeOfWord (get_or w 0 0) ≡ CodeRead.Code code) where
-      pub words-3 : maybeDateOfWord (get_or w 1 0) ≡ MaybeDateRead.Fault → requestOfWords w ≡ Fault
-      unfolding requestOfWords
+    module _ {code : Code} (p₁ : code_of_word (get_or w 0 0) ≡ CodeRead.Code code) where
+      pub words-3 : maybe_date_of_word (get_or w 1 0) ≡ MaybeDateRead.Fault → request_of_words w ≡ Fault
+      unfolding request_of_words
       words-3 p₂ = rw (eq-eqb (length w) 2 l, p₁, p₂)
 
-      pub words-4 : {date : MaybeDate} → maybeDateOfWord (get_or w 1 0) ≡ MaybeDateRead.MaybeDate date → requestOfWords w ≡ RequestRead.Request (record { code = code; from = date })
-      unfolding requestOfWords
+      pub words-4 : {date : MaybeDate} → maybe_date_of_word (get_or w 1 0) ≡ MaybeDateRead.MaybeDate date → request_of_words w ≡ RequestRead.Request (record { code = code; from = date })
+      unfolding request_of_words
       words-4 p₂ = rw (eq-eqb (length w) 2 l, p₁, p₂)
 
 -- ---- what is left to write before each of the calls of `write`
@@ -72,20 +72,20 @@ module _ (r : Request) where
   left4 = 44 ∷ []
 
   abbrev pub left3 : List ℕ
-  left3 = maybeDateText r.from ++ left4
+  left3 = maybe_date_text r.from ++ left4
 
   abbrev pub left2 : List ℕ
   left2 = 44 ∷ left3
 
   abbrev pub left1 : List ℕ
-  left1 = codeText r.code ++ left2
+  left1 = code_text r.code ++ left2
 
-  pub whole : requestText r ≡ left1
-  unfolding requestText
+  pub whole : request_text r ≡ left1
+  unfolding request_text
   whole = refl
 
-  pub room-request : (o : List ℕ) (at : ℕ) → at + length (requestText r) ≤ length o → Room o at left1
+  pub room-request : (o : List ℕ) (at : ℕ) → at + length (request_text r) ≤ length o → Room o at left1
   room-request o at h = record { fits = rw whole at h }
 
-  pub length-request : length (requestText r) ≡ length (maybeDateText r.from) + 6
+  pub length-request : length (request_text r) ≡ length (maybe_date_text r.from) + 6
   length-request = rw whole (simp length-append (omega (arith, length-code r.code)))

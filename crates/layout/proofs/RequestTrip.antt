@@ -8,7 +8,7 @@ use lib.Dec.{eqb}
 use lib.ListN.{length, get_or}
 use borrow.Author.Tests.{eqb-true}
 use Rattle.laws.specs.Lists.{all}
-use Rattle.laws.specs.Digits.{isDigit}
+use Rattle.laws.specs.Digits.{is_digit}
 use Rattle.laws.specs.Split.{split, joined, lacks}
 use Rattle.laws.proofs.Tests.{and_left, and_right, and-true}
 use Rattle.laws.proofs.Split.{split-joined, joined-split, lacks-by}
@@ -16,41 +16,41 @@ use Rattle.fields.specs.declared.code.Code.{Code}
 use Rattle.fields.specs.declared.code.CodeRead.{CodeRead}
 use Rattle.fields.specs.declared.date.MaybeDate.{MaybeDate}
 use Rattle.fields.specs.declared.date.MaybeDateRead.{MaybeDateRead}
-use Rattle.fields.specs.Bytes.{fieldByte}
-use Rattle.fields.specs.Code.{code_of, codeOfWord, codeFits, codeText}
-use Rattle.fields.specs.Date.{maybeDateOf, maybeDateOfWord, maybeDateText}
+use Rattle.fields.specs.Bytes.{field_byte}
+use Rattle.fields.specs.Code.{code_of, code_of_word, code_fits, code_text}
+use Rattle.fields.specs.Date.{maybe_date_of, maybe_date_of_word, maybe_date_text}
 use Rattle.fields.proofs.ByteLaws.{bytes-code, bytes-maybe-date}
 use Rattle.fields.proofs.CodeLaws.{code-trip, code-back}
 use Rattle.fields.proofs.DateLaws.{maybe-date-trip, maybe-date-back}
 use Rattle.fields.proofs.WordLaws.{code-word, maybe-date-word}
 use Rattle.layout.specs.declared.request.Request.{Request}
 use Rattle.layout.specs.declared.request.RequestRead.{RequestRead}
-use Rattle.layout.specs.Part.{onDate}
-use Rattle.layout.specs.Request.{onSender, threeOf, requestOf, requestFits, requestText, requestOfWords}
+use Rattle.layout.specs.Part.{on_date}
+use Rattle.layout.specs.Request.{on_sender, three_of, request_of, request_fits, request_text, request_of_words}
 use Rattle.layout.proofs.PartLaws.{date-short}
 use Rattle.layout.proofs.RequestLaws.{three-4, length-request}
 
 abbrev pieces_of : Request → List (List ℕ)
-pieces_of r = codeText r.code ∷ maybeDateText r.from ∷ [] ∷ []
+pieces_of r = code_text r.code ∷ maybe_date_text r.from ∷ [] ∷ []
 
 module _ (r : Request) where
   pieces-lack : all (lacks 44) (pieces_of r) ≡ true
-  unfolding all fieldByte isDigit
+  unfolding all field_byte is_digit
   pieces-lack =
-      rw (lacks-by fieldByte 44 refl (codeText r.code) (bytes-code r.code), lacks-by fieldByte 44 refl (maybeDateText r.from) (bytes-maybe-date r.from))
+      rw (lacks-by field_byte 44 refl (code_text r.code) (bytes-code r.code), lacks-by field_byte 44 refl (maybe_date_text r.from) (bytes-maybe-date r.from))
 
-  split-request : split 44 (requestText r) ≡ pieces_of r
-  unfolding requestText
+  split-request : split 44 (request_text r) ≡ pieces_of r
+  unfolding request_text
   split-request = split-joined 44 _ _ pieces-lack
 
   -- what was written is read back
-  pub request-trip : requestFits r ≡ true → requestOf (requestText r) ≡ RequestRead.Request r
-  unfolding requestOf requestFits
+  pub request-trip : request_fits r ≡ true → request_of (request_text r) ≡ RequestRead.Request r
+  unfolding request_of request_fits
   request-trip h =
       rw split-request
-      (three-4 _ _ _ (code-trip r.code (and_left (codeFits r.code) _ h)) (maybe-date-trip r.from (and_right (codeFits r.code) _ h)) refl)
+      (three-4 _ _ _ (code-trip r.code (and_left (code_fits r.code) _ h)) (maybe-date-trip r.from (and_right (code_fits r.code) _ h)) refl)
 
-  pub request-longest : length (requestText r) ≤ 14
+  pub request-longest : length (request_text r) ≤ 14
   request-longest = omega (arith, length-request r, date-short r.from)
 
 -- ---- what was read is written again
@@ -61,11 +61,11 @@ request-same : (q r : Request) → RequestRead.Request q ≡ RequestRead.Request
 request-same q r h = cc
 
 module _ {r : Request} where
-  sender-on : (x : CodeRead) (k : Code → RequestRead) → onSender x k ≡ RequestRead.Request r → (c : Code) × (x ≡ CodeRead.Code c) × (k c ≡ RequestRead.Request r)
+  sender-on : (x : CodeRead) (k : Code → RequestRead) → on_sender x k ≡ RequestRead.Request r → (c : Code) × (x ≡ CodeRead.Code c) × (k c ≡ RequestRead.Request r)
   sender-on (CodeRead.Code c) k h = (c, refl, h)
   sender-on CodeRead.Fault k h = absurd (never r h)
 
-  date-on : (x : MaybeDateRead) (k : MaybeDate → RequestRead) → onDate x RequestRead.Fault k ≡ RequestRead.Request r → (d : MaybeDate) × (x ≡ MaybeDateRead.MaybeDate d) × (k d ≡ RequestRead.Request r)
+  date-on : (x : MaybeDateRead) (k : MaybeDate → RequestRead) → on_date x RequestRead.Fault k ≡ RequestRead.Request r → (d : MaybeDate) × (x ≡ MaybeDateRead.MaybeDate d) × (k d ≡ RequestRead.Request r)
   date-on (MaybeDateRead.MaybeDate d) k h = (d, refl, h)
   date-on MaybeDateRead.Fault k h = absurd (never r h)
 
@@ -77,48 +77,48 @@ empty : (c : List ℕ) → eqb (length c) 0 ≡ true → [] ≡ c
 empty [] e = refl
 empty (b ∷ c) e = absurd (omega (arith, eqb-true (length (b ∷ c)) 0 e))
 
-three_back : (a b c : List ℕ) (r : Request) → threeOf a b c ≡ RequestRead.Request r → (pieces_of r ≡ a ∷ b ∷ c ∷ []) × (requestFits r ≡ true)
-unfolding threeOf requestFits
+three_back : (a b c : List ℕ) (r : Request) → three_of a b c ≡ RequestRead.Request r → (pieces_of r ≡ a ∷ b ∷ c ∷ []) × (request_fits r ≡ true)
+unfolding three_of request_fits
 three_back a b c r h =
     let x₁ = sender-on (code_of a) _ h in
-    let x₂ = date-on (maybeDateOf b) _ x₁.2 in
+    let x₂ = date-on (maybe_date_of b) _ x₁.2 in
     let x₃ = nothing-on (eqb (length c) 0) _ x₂.2 in
     let b₁ = code-back a x₁.0 x₁.1 in
     let b₂ = maybe-date-back b x₂.0 x₂.1 in
     let b₃ = empty c x₃.0 in
-    (ap pieces_of (sym x₃.1) ∙ (λ i. b₁.0 i ∷ b₂.0 i ∷ b₃ i ∷ []), ap requestFits (sym x₃.1) ∙ and-true _ _ b₁.1 b₂.1)
+    (ap pieces_of (sym x₃.1) ∙ (λ i. b₁.0 i ∷ b₂.0 i ∷ b₃ i ∷ []), ap request_fits (sym x₃.1) ∙ and-true _ _ b₁.1 b₂.1)
 
-list_back : (fs : List (List ℕ)) (r : Request) → length fs ≡ 3 → threeOf (get_or fs 0 []) (get_or fs 1 []) (get_or fs 2 []) ≡ RequestRead.Request r → (pieces_of r ≡ fs) × (requestFits r ≡ true)
+list_back : (fs : List (List ℕ)) (r : Request) → length fs ≡ 3 → three_of (get_or fs 0 []) (get_or fs 1 []) (get_or fs 2 []) ≡ RequestRead.Request r → (pieces_of r ≡ fs) × (request_fits r ≡ true)
 list_back [] r l h = absurd (omega arith)
 list_back (a ∷ []) r l h = absurd (omega arith)
 list_back (a ∷ b ∷ []) r l h = absurd (omega arith)
 list_back (a ∷ b ∷ c ∷ []) r l h = three_back a b c r h
 list_back (a ∷ b ∷ c ∷ d ∷ fs) r l h = absurd (omega arith)
 
-pub request-back : (s : List ℕ) (r : Request) → requestOf s ≡ RequestRead.Request r → (requestText r ≡ s) × (requestFits r ≡ true)
-unfolding requestOf requestText
+pub request-back : (s : List ℕ) (r : Request) → request_of s ≡ RequestRead.Request r → (request_text r ≡ s) × (request_fits r ≡ true)
+unfolding request_of request_text
 request-back s r h = go (eqb (length (split 44 s)) 3) refl h
   where
     fs : List (List ℕ)
     fs = split 44 s
 
-    go : (t : Bool) → eqb (length fs) 3 ≡ t → cond t (threeOf (get_or fs 0 []) (get_or fs 1 []) (get_or fs 2 [])) RequestRead.Fault ≡ RequestRead.Request r → (requestText r ≡ s) × (requestFits r ≡ true)
+    go : (t : Bool) → eqb (length fs) 3 ≡ t → cond t (three_of (get_or fs 0 []) (get_or fs 1 []) (get_or fs 2 [])) RequestRead.Fault ≡ RequestRead.Request r → (request_text r ≡ s) × (request_fits r ≡ true)
     go true q e =
         let b = list_back fs r (eqb-true (length fs) 3 q) e in
         (ap (joined 44) b.0 ∙ joined-split 44 s, b.1)
     go false q e = absurd (never r e)
 
-pub request-record : (s : List ℕ) (r : Request) → requestOf s ≡ RequestRead.Request r → length s ≤ 14
+pub request-record : (s : List ℕ) (r : Request) → request_of s ≡ RequestRead.Request r → length s ≤ 14
 request-record s r h = rw (request-back s r h).0 at (request-longest r)
 
 -- what is made of words fits
-pub request-words : (w : List ℕ) (r : Request) → requestOfWords w ≡ RequestRead.Request r → requestFits r ≡ true
-unfolding requestOfWords requestFits
+pub request-words : (w : List ℕ) (r : Request) → request_of_words w ≡ RequestRead.Request r → request_fits r ≡ true
+unfolding request_of_words request_fits
 request-words w r h = go (eqb (length w) 2) h
   where
-    go : (t : Bool) → cond t (onSender (codeOfWord (get_or w 0 0)) (λ code. onDate (maybeDateOfWord (get_or w 1 0)) RequestRead.Fault (λ from. RequestRead.Request (record { code = code; from = from })))) RequestRead.Fault ≡ RequestRead.Request r → requestFits r ≡ true
+    go : (t : Bool) → cond t (on_sender (code_of_word (get_or w 0 0)) (λ code. on_date (maybe_date_of_word (get_or w 1 0)) RequestRead.Fault (λ from. RequestRead.Request (record { code = code; from = from })))) RequestRead.Fault ≡ RequestRead.Request r → request_fits r ≡ true
     go true e =
-        let x₁ = sender-on (codeOfWord (get_or w 0 0)) _ e in
-        let x₂ = date-on (maybeDateOfWord (get_or w 1 0)) _ x₁.2 in
-        ap requestFits (sym (request-same _ r x₂.2)) ∙ and-true _ _ (code-word (get_or w 0 0) x₁.0 x₁.1) (maybe-date-word (get_or w 1 0) x₂.0 x₂.1)
+        let x₁ = sender-on (code_of_word (get_or w 0 0)) _ e in
+        let x₂ = date-on (maybe_date_of_word (get_or w 1 0)) _ x₁.2 in
+        ap request_fits (sym (request-same _ r x₂.2)) ∙ and-true _ _ (code-word (get_or w 0 0) x₁.0 x₁.1) (maybe-date-word (get_or w 1 0) x₂.0 x₂.1)
     go false e = absurd (never r e)

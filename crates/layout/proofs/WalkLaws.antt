@@ -22,18 +22,18 @@ use Rattle.fields.specs.declared.number.Digits.{Digits}
 use Rattle.fields.specs.declared.number.DigitsRead.{DigitsRead}
 use Rattle.fields.specs.declared.number.Number.{Number}
 use Rattle.fields.specs.declared.number.NumberRead.{NumberRead}
-use Rattle.fields.specs.Code.{maybeCodeOf}
-use Rattle.fields.specs.Date.{maybeDateOf}
-use Rattle.fields.specs.Kind.{kindBy, kind_of, maybeKindFrom, maybeKindOf}
-use Rattle.fields.specs.Number.{digitsFieldOf, number_of}
+use Rattle.fields.specs.Code.{maybe_code_of}
+use Rattle.fields.specs.Date.{maybe_date_of}
+use Rattle.fields.specs.Kind.{kind_by, kind_of, maybe_kind_from, maybe_kind_of}
+use Rattle.fields.specs.Number.{digits_field_of, number_of}
 use Rattle.layout.specs.declared.part.PartRead.{PartRead}
 use Rattle.layout.specs.declared.part.PartRead.TheVariants.{Fault}
 use Rattle.layout.specs.declared.walk.DigitsAt.{DigitsAt}
 use Rattle.layout.specs.declared.walk.NumberAt.{NumberAt}
 use Rattle.layout.specs.declared.walk.DateAt.{DateAt}
 use Rattle.layout.specs.declared.walk.CodeAt.{CodeAt}
-use Rattle.layout.specs.Part.{onDigits, onNumber, onDate, onCode, onKind, sixOf, part_of}
-use Rattle.layout.specs.Walk.{digitsThen, digitsAt, numberThen, number_at, dateThen, dateAt, codeThen, code_at}
+use Rattle.layout.specs.Part.{on_digits, on_number, on_date, on_code, on_kind, six_of, part_of}
+use Rattle.layout.specs.Walk.{digits_then, digits_at, number_then, number_at, date_then, date_at, code_then, code_at}
 
 pub end-from : (s : List ℕ) (at : ℕ) → at ≤ end_of 44 s at
 unfolding end_of
@@ -48,62 +48,62 @@ more-here : (s : List ℕ) (at : ℕ) → end_of 44 s at < length s → split 44
 more-here s at h = ends_more (ends_at 44 s at (omega (arith, end-from s at))) h
 
 -- ---- any field that a comma follows, whatever it holds: a reader of the pieces goes as one does that starts at a place of the line. `on` goes on with what a
--- field says, `onAt` with what is found at a place and where the next field starts; a piece alone is the last field, which no comma follows
+-- field says, `on_at` with what is found at a place and where the next field starts; a piece alone is the last field, which no comma follows
 module _ {X R : Type 0} (read : List ℕ → R) (on : R → (X → PartRead) → PartRead) where
   unfoldable headed : (X → List (List ℕ) → PartRead) → List (List ℕ) → PartRead
   headed K [] = Fault
   headed K (f ∷ fs) = on (read f) λ x. K x fs
 
-module _ {X R A : Type 0} (read : List ℕ → R) (on : R → (X → PartRead) → PartRead) (onAt : A → (X → ℕ → PartRead) → PartRead) (then : R → ℕ → A) (found : List ℕ → ℕ → A) where
+module _ {X R A : Type 0} (read : List ℕ → R) (on : R → (X → PartRead) → PartRead) (on_at : A → (X → ℕ → PartRead) → PartRead) (then : R → ℕ → A) (found : List ℕ → ℕ → A) where
   -- what is asked of them: where nothing follows there is a fault, and both go on alike
   pub record Goes : Type 0 where
     pub stops : (r : R) (k : X → PartRead) → ((x : X) → k x ≡ Fault) → on r k ≡ Fault
-    pub goes : (r : R) (k : X → ℕ → PartRead) (next : ℕ) → on r (λ x. k x next) ≡ onAt (then r next) k
-    pub none : (s : List ℕ) (at : ℕ) (k : X → ℕ → PartRead) → length s ≤ end_of 44 s at → onAt (found s at) k ≡ Fault
+    pub goes : (r : R) (k : X → ℕ → PartRead) (next : ℕ) → on r (λ x. k x next) ≡ on_at (then r next) k
+    pub none : (s : List ℕ) (at : ℕ) (k : X → ℕ → PartRead) → length s ≤ end_of 44 s at → on_at (found s at) k ≡ Fault
     pub more : (s : List ℕ) (at : ℕ) → end_of 44 s at < length s → found s at ≡ then (read (between s at (end_of 44 s at))) (end_of 44 s at + 1)
 
-  field_at : Goes → (K : X → List (List ℕ) → PartRead) → ((x : X) → K x [] ≡ Fault) → (s : List ℕ) (at : ℕ) → headed read on K (split 44 (drop at s)) ≡ onAt (found s at) (λ x next. K x (split 44 (drop next s)))
+  field_at : Goes → (K : X → List (List ℕ) → PartRead) → ((x : X) → K x [] ≡ Fault) → (s : List ℕ) (at : ℕ) → headed read on K (split 44 (drop at s)) ≡ on_at (found s at) (λ x next. K x (split 44 (drop next s)))
   unfolding headed
   field_at g K none s at =
       let e : ℕ = end_of 44 s at in
       let k : X → ℕ → PartRead = λ x next. K x (split 44 (drop next s)) in
       ⊎_elim
       (λ (h : length s ≤ e). ap (headed read on K) (last-here s at h) ∙ g.stops (read (between s at e)) (λ x. K x []) none ∙ sym (g.none s at k h))
-      (λ (h : e < length s). ap (headed read on K) (more-here s at h) ∙ g.goes (read (between s at e)) k (e + 1) ∙ ap (λ (r : A). onAt r k) (sym (g.more s at h)))
+      (λ (h : e < length s). ap (headed read on K) (more-here s at h) ∙ g.goes (read (between s at e)) k (e + 1) ∙ ap (λ (r : A). on_at r k) (sym (g.more s at h)))
       (le-or-lt (length s) e)
 
 -- ---- the digits of a number's first field
 module _ (s : List ℕ) (at e : ℕ) (q : e ≡ end_of 44 s at) where
-  pub digits-none : length s ≤ e → digitsAt s at ≡ DigitsAt.Fault
-  unfolding digitsAt
+  pub digits-none : length s ≤ e → digits_at s at ≡ DigitsAt.Fault
+  unfolding digits_at
   digits-none h = rw (← q, le-ltb e (length s) h)
 
-  pub digits-then : e < length s → {r : DigitsRead} → digitsFieldOf (between s at e) ≡ r → digitsAt s at ≡ digitsThen r (e + 1)
-  unfolding digitsAt
+  pub digits-then : e < length s → {r : DigitsRead} → digits_field_of (between s at e) ≡ r → digits_at s at ≡ digits_then r (e + 1)
+  unfolding digits_at
   digits-then h p = rw (← q, lt-ltb e (length s) h, p)
 
-abbrev digitsHead : (Digits → List (List ℕ) → PartRead) → List (List ℕ) → PartRead
-digitsHead K = headed (digitsFieldOf) (λ r k. onDigits r Fault k) K
+abbrev digits_head : (Digits → List (List ℕ) → PartRead) → List (List ℕ) → PartRead
+digits_head K = headed (digits_field_of) (λ r k. on_digits r Fault k) K
 
-abbrev onDigitsAt : DigitsAt → (Digits → ℕ → PartRead) → PartRead
-onDigitsAt (DigitsAt.Digits x next) k = k x next
-onDigitsAt DigitsAt.Fault k = Fault
+abbrev on_digits_at : DigitsAt → (Digits → ℕ → PartRead) → PartRead
+on_digits_at (DigitsAt.Digits x next) k = k x next
+on_digits_at DigitsAt.Fault k = Fault
 
-digits-stops : (r : DigitsRead) (k : Digits → PartRead) → ((x : Digits) → k x ≡ Fault) → onDigits r Fault k ≡ Fault
+digits-stops : (r : DigitsRead) (k : Digits → PartRead) → ((x : Digits) → k x ≡ Fault) → on_digits r Fault k ≡ Fault
 digits-stops (DigitsRead.Digits x) k h = h x
 digits-stops DigitsRead.Fault k h = refl
 
-digits-goes : (r : DigitsRead) (k : Digits → ℕ → PartRead) (next : ℕ) → onDigits r Fault (λ x. k x next) ≡ onDigitsAt (digitsThen r next) k
+digits-goes : (r : DigitsRead) (k : Digits → ℕ → PartRead) (next : ℕ) → on_digits r Fault (λ x. k x next) ≡ on_digits_at (digits_then r next) k
 digits-goes (DigitsRead.Digits x) k next = refl
 digits-goes DigitsRead.Fault k next = refl
 
-digits-at : (K : Digits → List (List ℕ) → PartRead) → ((x : Digits) → K x [] ≡ Fault) → (s : List ℕ) (at : ℕ) → digitsHead K (split 44 (drop at s)) ≡ onDigitsAt (digitsAt s at) (λ x next. K x (split 44 (drop next s)))
+digits-at : (K : Digits → List (List ℕ) → PartRead) → ((x : Digits) → K x [] ≡ Fault) → (s : List ℕ) (at : ℕ) → digits_head K (split 44 (drop at s)) ≡ on_digits_at (digits_at s at) (λ x next. K x (split 44 (drop next s)))
 digits-at =
-    field_at (digitsFieldOf) (λ r k. onDigits r Fault k) onDigitsAt digitsThen (digitsAt)
+    field_at (digits_field_of) (λ r k. on_digits r Fault k) on_digits_at digits_then (digits_at)
     (record {
       stops = digits-stops;
       goes = digits-goes;
-      none = λ s at k h. ap (λ (r : DigitsAt). onDigitsAt r k) (digits-none s at (end_of 44 s at) refl h);
+      none = λ s at k h. ap (λ (r : DigitsAt). on_digits_at r k) (digits-none s at (end_of 44 s at) refl h);
       more = λ s at h. digits-then s at (end_of 44 s at) refl h refl;
     })
 
@@ -113,67 +113,67 @@ module _ (first : Digits) (s : List ℕ) (at e : ℕ) (q : e ≡ end_of 44 s at)
   unfolding number_at
   number-none h = rw (← q, le-ltb e (length s) h)
 
-  pub number-then : e < length s → {r : NumberRead} → number_of first (between s at e) ≡ r → number_at first s at ≡ numberThen r (e + 1)
+  pub number-then : e < length s → {r : NumberRead} → number_of first (between s at e) ≡ r → number_at first s at ≡ number_then r (e + 1)
   unfolding number_at
   number-then h p = rw (← q, lt-ltb e (length s) h, p)
 
-abbrev numberHead : Digits → (Number → List (List ℕ) → PartRead) → List (List ℕ) → PartRead
-numberHead first K = headed (number_of first) (λ r k. onNumber r Fault k) K
+abbrev number_head : Digits → (Number → List (List ℕ) → PartRead) → List (List ℕ) → PartRead
+number_head first K = headed (number_of first) (λ r k. on_number r Fault k) K
 
-abbrev onNumberAt : NumberAt → (Number → ℕ → PartRead) → PartRead
-onNumberAt (NumberAt.Number x next) k = k x next
-onNumberAt NumberAt.Fault k = Fault
+abbrev on_number_at : NumberAt → (Number → ℕ → PartRead) → PartRead
+on_number_at (NumberAt.Number x next) k = k x next
+on_number_at NumberAt.Fault k = Fault
 
-number-stops : (r : NumberRead) (k : Number → PartRead) → ((x : Number) → k x ≡ Fault) → onNumber r Fault k ≡ Fault
+number-stops : (r : NumberRead) (k : Number → PartRead) → ((x : Number) → k x ≡ Fault) → on_number r Fault k ≡ Fault
 number-stops (NumberRead.Number x) k h = h x
 number-stops NumberRead.Fault k h = refl
 
-number-goes : (r : NumberRead) (k : Number → ℕ → PartRead) (next : ℕ) → onNumber r Fault (λ x. k x next) ≡ onNumberAt (numberThen r next) k
+number-goes : (r : NumberRead) (k : Number → ℕ → PartRead) (next : ℕ) → on_number r Fault (λ x. k x next) ≡ on_number_at (number_then r next) k
 number-goes (NumberRead.Number x) k next = refl
 number-goes NumberRead.Fault k next = refl
 
-number-at : (first : Digits) (K : Number → List (List ℕ) → PartRead) → ((x : Number) → K x [] ≡ Fault) → (s : List ℕ) (at : ℕ) → numberHead first K (split 44 (drop at s)) ≡ onNumberAt (number_at first s at) (λ x next. K x (split 44 (drop next s)))
+number-at : (first : Digits) (K : Number → List (List ℕ) → PartRead) → ((x : Number) → K x [] ≡ Fault) → (s : List ℕ) (at : ℕ) → number_head first K (split 44 (drop at s)) ≡ on_number_at (number_at first s at) (λ x next. K x (split 44 (drop next s)))
 number-at first =
-    field_at (number_of first) (λ r k. onNumber r Fault k) onNumberAt numberThen (number_at first)
+    field_at (number_of first) (λ r k. on_number r Fault k) on_number_at number_then (number_at first)
     (record {
       stops = number-stops;
       goes = number-goes;
-      none = λ s at k h. ap (λ (r : NumberAt). onNumberAt r k) (number-none first s at (end_of 44 s at) refl h);
+      none = λ s at k h. ap (λ (r : NumberAt). on_number_at r k) (number-none first s at (end_of 44 s at) refl h);
       more = λ s at h. number-then first s at (end_of 44 s at) refl h refl;
     })
 
 -- ---- a date, or an empty field
 module _ (s : List ℕ) (at e : ℕ) (q : e ≡ end_of 44 s at) where
-  pub date-none : length s ≤ e → dateAt s at ≡ DateAt.Fault
-  unfolding dateAt
+  pub date-none : length s ≤ e → date_at s at ≡ DateAt.Fault
+  unfolding date_at
   date-none h = rw (← q, le-ltb e (length s) h)
 
-  pub date-then : e < length s → {r : MaybeDateRead} → maybeDateOf (between s at e) ≡ r → dateAt s at ≡ dateThen r (e + 1)
-  unfolding dateAt
+  pub date-then : e < length s → {r : MaybeDateRead} → maybe_date_of (between s at e) ≡ r → date_at s at ≡ date_then r (e + 1)
+  unfolding date_at
   date-then h p = rw (← q, lt-ltb e (length s) h, p)
 
-abbrev dateHead : (MaybeDate → List (List ℕ) → PartRead) → List (List ℕ) → PartRead
-dateHead K = headed (maybeDateOf) (λ r k. onDate r Fault k) K
+abbrev date_head : (MaybeDate → List (List ℕ) → PartRead) → List (List ℕ) → PartRead
+date_head K = headed (maybe_date_of) (λ r k. on_date r Fault k) K
 
-abbrev onDateAt : DateAt → (MaybeDate → ℕ → PartRead) → PartRead
-onDateAt (DateAt.Date x next) k = k x next
-onDateAt DateAt.Fault k = Fault
+abbrev on_date_at : DateAt → (MaybeDate → ℕ → PartRead) → PartRead
+on_date_at (DateAt.Date x next) k = k x next
+on_date_at DateAt.Fault k = Fault
 
-date-stops : (r : MaybeDateRead) (k : MaybeDate → PartRead) → ((x : MaybeDate) → k x ≡ Fault) → onDate r Fault k ≡ Fault
+date-stops : (r : MaybeDateRead) (k : MaybeDate → PartRead) → ((x : MaybeDate) → k x ≡ Fault) → on_date r Fault k ≡ Fault
 date-stops (MaybeDateRead.MaybeDate x) k h = h x
 date-stops MaybeDateRead.Fault k h = refl
 
-date-goes : (r : MaybeDateRead) (k : MaybeDate → ℕ → PartRead) (next : ℕ) → onDate r Fault (λ x. k x next) ≡ onDateAt (dateThen r next) k
+date-goes : (r : MaybeDateRead) (k : MaybeDate → ℕ → PartRead) (next : ℕ) → on_date r Fault (λ x. k x next) ≡ on_date_at (date_then r next) k
 date-goes (MaybeDateRead.MaybeDate x) k next = refl
 date-goes MaybeDateRead.Fault k next = refl
 
-date-at : (K : MaybeDate → List (List ℕ) → PartRead) → ((x : MaybeDate) → K x [] ≡ Fault) → (s : List ℕ) (at : ℕ) → dateHead K (split 44 (drop at s)) ≡ onDateAt (dateAt s at) (λ x next. K x (split 44 (drop next s)))
+date-at : (K : MaybeDate → List (List ℕ) → PartRead) → ((x : MaybeDate) → K x [] ≡ Fault) → (s : List ℕ) (at : ℕ) → date_head K (split 44 (drop at s)) ≡ on_date_at (date_at s at) (λ x next. K x (split 44 (drop next s)))
 date-at =
-    field_at (maybeDateOf) (λ r k. onDate r Fault k) onDateAt dateThen (dateAt)
+    field_at (maybe_date_of) (λ r k. on_date r Fault k) on_date_at date_then (date_at)
     (record {
       stops = date-stops;
       goes = date-goes;
-      none = λ s at k h. ap (λ (r : DateAt). onDateAt r k) (date-none s at (end_of 44 s at) refl h);
+      none = λ s at k h. ap (λ (r : DateAt). on_date_at r k) (date-none s at (end_of 44 s at) refl h);
       more = λ s at h. date-then s at (end_of 44 s at) refl h refl;
     })
 
@@ -183,110 +183,110 @@ module _ (s : List ℕ) (at e : ℕ) (q : e ≡ end_of 44 s at) where
   unfolding code_at
   code-none h = rw (← q, le-ltb e (length s) h)
 
-  pub code-then : e < length s → {r : MaybeCodeRead} → maybeCodeOf (between s at e) ≡ r → code_at s at ≡ codeThen r (e + 1)
+  pub code-then : e < length s → {r : MaybeCodeRead} → maybe_code_of (between s at e) ≡ r → code_at s at ≡ code_then r (e + 1)
   unfolding code_at
   code-then h p = rw (← q, lt-ltb e (length s) h, p)
 
-abbrev codeHead : (MaybeCode → List (List ℕ) → PartRead) → List (List ℕ) → PartRead
-codeHead K = headed (maybeCodeOf) (λ r k. onCode r Fault k) K
+abbrev code_head : (MaybeCode → List (List ℕ) → PartRead) → List (List ℕ) → PartRead
+code_head K = headed (maybe_code_of) (λ r k. on_code r Fault k) K
 
-abbrev onCodeAt : CodeAt → (MaybeCode → ℕ → PartRead) → PartRead
-onCodeAt (CodeAt.Code x next) k = k x next
-onCodeAt CodeAt.Fault k = Fault
+abbrev on_code_at : CodeAt → (MaybeCode → ℕ → PartRead) → PartRead
+on_code_at (CodeAt.Code x next) k = k x next
+on_code_at CodeAt.Fault k = Fault
 
-code-stops : (r : MaybeCodeRead) (k : MaybeCode → PartRead) → ((x : MaybeCode) → k x ≡ Fault) → onCode r Fault k ≡ Fault
+code-stops : (r : MaybeCodeRead) (k : MaybeCode → PartRead) → ((x : MaybeCode) → k x ≡ Fault) → on_code r Fault k ≡ Fault
 code-stops (MaybeCodeRead.MaybeCode x) k h = h x
 code-stops MaybeCodeRead.Fault k h = refl
 
-code-goes : (r : MaybeCodeRead) (k : MaybeCode → ℕ → PartRead) (next : ℕ) → onCode r Fault (λ x. k x next) ≡ onCodeAt (codeThen r next) k
+code-goes : (r : MaybeCodeRead) (k : MaybeCode → ℕ → PartRead) (next : ℕ) → on_code r Fault (λ x. k x next) ≡ on_code_at (code_then r next) k
 code-goes (MaybeCodeRead.MaybeCode x) k next = refl
 code-goes MaybeCodeRead.Fault k next = refl
 
-code-at : (K : MaybeCode → List (List ℕ) → PartRead) → ((x : MaybeCode) → K x [] ≡ Fault) → (s : List ℕ) (at : ℕ) → codeHead K (split 44 (drop at s)) ≡ onCodeAt (code_at s at) (λ x next. K x (split 44 (drop next s)))
+code-at : (K : MaybeCode → List (List ℕ) → PartRead) → ((x : MaybeCode) → K x [] ≡ Fault) → (s : List ℕ) (at : ℕ) → code_head K (split 44 (drop at s)) ≡ on_code_at (code_at s at) (λ x next. K x (split 44 (drop next s)))
 code-at =
-    field_at (maybeCodeOf) (λ r k. onCode r Fault k) onCodeAt codeThen (code_at)
+    field_at (maybe_code_of) (λ r k. on_code r Fault k) on_code_at code_then (code_at)
     (record {
       stops = code-stops;
       goes = code-goes;
-      none = λ s at k h. ap (λ (r : CodeAt). onCodeAt r k) (code-none s at (end_of 44 s at) refl h);
+      none = λ s at k h. ap (λ (r : CodeAt). on_code_at r k) (code-none s at (end_of 44 s at) refl h);
       more = λ s at h. code-then s at (end_of 44 s at) refl h refl;
     })
 
 -- ---- the kind, which ends the part
-abbrev kindLast : Number → MaybeDate → MaybeCode → MaybeCode → List (List ℕ) → PartRead
-kindLast number date gaining losing [] = Fault
-kindLast number date gaining losing (f ∷ []) = onKind (maybeKindOf f) Fault λ kind. PartRead.Part (record { number = number; date = date; gaining = gaining; losing = losing; kind = kind })
-kindLast number date gaining losing (f ∷ g ∷ fs) = Fault
+abbrev kind_last : Number → MaybeDate → MaybeCode → MaybeCode → List (List ℕ) → PartRead
+kind_last number date gaining losing [] = Fault
+kind_last number date gaining losing (f ∷ []) = on_kind (maybe_kind_of f) Fault λ kind. PartRead.Part (record { number = number; date = date; gaining = gaining; losing = losing; kind = kind })
+kind_last number date gaining losing (f ∷ g ∷ fs) = Fault
 
 -- no kind has a comma
-kind-comma : (f t : List ℕ) → maybeKindOf (f ++ 44 ∷ t) ≡ MaybeKindRead.Fault
-unfolding maybeKindOf maybeKindFrom kind_of kindBy
+kind-comma : (f t : List ℕ) → maybe_kind_of (f ++ 44 ∷ t) ≡ MaybeKindRead.Fault
+unfolding maybe_kind_of maybe_kind_from kind_of kind_by
 kind-comma [] [] = refl
 kind-comma [] (x ∷ t) = rw (ne_eqb (length (44 ∷ x ∷ t)) 0 (λ e. omega arith), ne_eqb (length (44 ∷ x ∷ t)) 1 (λ e. omega arith))
 kind-comma (y ∷ f) t =
     rw (ne_eqb (length (y ∷ (f ++ 44 ∷ t))) 0 (λ e. omega arith), ne_eqb (length (y ∷ (f ++ 44 ∷ t))) 1 (λ e. omega (arith, length-append f (44 ∷ t))))
 
 kind_at : (number : Number) (date : MaybeDate) (gaining losing : MaybeCode) (t : List ℕ)
-    → kindLast number date gaining losing (split 44 t) ≡ onKind (maybeKindOf t) Fault λ kind. PartRead.Part (record { number = number; date = date; gaining = gaining; losing = losing; kind = kind })
+    → kind_last number date gaining losing (split 44 t) ≡ on_kind (maybe_kind_of t) Fault λ kind. PartRead.Part (record { number = number; date = date; gaining = gaining; losing = losing; kind = kind })
 kind_at number date gaining losing t = go (split 44 t) (split-some 44 t) (joined-split 44 t)
   where
     k : MaybeKindRead → PartRead
-    k r = onKind r Fault λ kind. PartRead.Part (record { number = number; date = date; gaining = gaining; losing = losing; kind = kind })
+    k r = on_kind r Fault λ kind. PartRead.Part (record { number = number; date = date; gaining = gaining; losing = losing; kind = kind })
 
-    go : (fs : List (List ℕ)) → 1 ≤ length fs → joined 44 fs ≡ t → kindLast number date gaining losing fs ≡ k (maybeKindOf t)
+    go : (fs : List (List ℕ)) → 1 ≤ length fs → joined 44 fs ≡ t → kind_last number date gaining losing fs ≡ k (maybe_kind_of t)
     go [] h e = absurd (omega arith)
-    go (f ∷ []) h e = ap (λ (l : List ℕ). k (maybeKindOf l)) e
-    go (f ∷ g ∷ fs) h e = ap k (sym (kind-comma f (joined 44 (g ∷ fs)))) ∙ ap (λ (l : List ℕ). k (maybeKindOf l)) e
+    go (f ∷ []) h e = ap (λ (l : List ℕ). k (maybe_kind_of l)) e
+    go (f ∷ g ∷ fs) h e = ap k (sym (kind-comma f (joined 44 (g ∷ fs)))) ∙ ap (λ (l : List ℕ). k (maybe_kind_of l)) e
 
 -- ---- the six of them, from each on
-abbrev fromLosing : Number → MaybeDate → MaybeCode → List (List ℕ) → PartRead
-fromLosing number date gaining fs = codeHead (λ losing. kindLast number date gaining losing) fs
+abbrev from_losing : Number → MaybeDate → MaybeCode → List (List ℕ) → PartRead
+from_losing number date gaining fs = code_head (λ losing. kind_last number date gaining losing) fs
 
-abbrev fromGaining : Number → MaybeDate → List (List ℕ) → PartRead
-fromGaining number date fs = codeHead (λ gaining. fromLosing number date gaining) fs
+abbrev from_gaining : Number → MaybeDate → List (List ℕ) → PartRead
+from_gaining number date fs = code_head (λ gaining. from_losing number date gaining) fs
 
-abbrev fromDate : Number → List (List ℕ) → PartRead
-fromDate number fs = dateHead (λ date. fromGaining number date) fs
+abbrev from_date : Number → List (List ℕ) → PartRead
+from_date number fs = date_head (λ date. from_gaining number date) fs
 
-abbrev fromLast : Digits → List (List ℕ) → PartRead
-fromLast first fs = numberHead first (λ number. fromDate number) fs
+abbrev from_last : Digits → List (List ℕ) → PartRead
+from_last first fs = number_head first (λ number. from_date number) fs
 
-abbrev fromFirst : List (List ℕ) → PartRead
-fromFirst fs = digitsHead (λ first. fromLast first) fs
+abbrev from_first : List (List ℕ) → PartRead
+from_first fs = digits_head (λ first. from_last first) fs
 
 -- no more and no fewer
-kind-count : (number : Number) (date : MaybeDate) (gaining losing : MaybeCode) (fs : List (List ℕ)) → (length fs ≡ 1 → ⊥) → kindLast number date gaining losing fs ≡ Fault
+kind-count : (number : Number) (date : MaybeDate) (gaining losing : MaybeCode) (fs : List (List ℕ)) → (length fs ≡ 1 → ⊥) → kind_last number date gaining losing fs ≡ Fault
 kind-count number date gaining losing [] n = refl
 kind-count number date gaining losing (f ∷ []) n = absurd (n refl)
 kind-count number date gaining losing (f ∷ g ∷ fs) n = refl
 
-losing-count : (number : Number) (date : MaybeDate) (gaining : MaybeCode) (fs : List (List ℕ)) → (length fs ≡ 2 → ⊥) → fromLosing number date gaining fs ≡ Fault
+losing-count : (number : Number) (date : MaybeDate) (gaining : MaybeCode) (fs : List (List ℕ)) → (length fs ≡ 2 → ⊥) → from_losing number date gaining fs ≡ Fault
 unfolding headed
 losing-count number date gaining [] n = refl
-losing-count number date gaining (f ∷ fs) n = code-stops (maybeCodeOf f) _ (λ x. kind-count number date gaining x fs (λ e. n (omega arith)))
+losing-count number date gaining (f ∷ fs) n = code-stops (maybe_code_of f) _ (λ x. kind-count number date gaining x fs (λ e. n (omega arith)))
 
-gaining-count : (number : Number) (date : MaybeDate) (fs : List (List ℕ)) → (length fs ≡ 3 → ⊥) → fromGaining number date fs ≡ Fault
+gaining-count : (number : Number) (date : MaybeDate) (fs : List (List ℕ)) → (length fs ≡ 3 → ⊥) → from_gaining number date fs ≡ Fault
 unfolding headed
 gaining-count number date [] n = refl
-gaining-count number date (f ∷ fs) n = code-stops (maybeCodeOf f) _ (λ x. losing-count number date x fs (λ e. n (omega arith)))
+gaining-count number date (f ∷ fs) n = code-stops (maybe_code_of f) _ (λ x. losing-count number date x fs (λ e. n (omega arith)))
 
-date-count : (number : Number) (fs : List (List ℕ)) → (length fs ≡ 4 → ⊥) → fromDate number fs ≡ Fault
+date-count : (number : Number) (fs : List (List ℕ)) → (length fs ≡ 4 → ⊥) → from_date number fs ≡ Fault
 unfolding headed
 date-count number [] n = refl
-date-count number (f ∷ fs) n = date-stops (maybeDateOf f) _ (λ x. gaining-count number x fs (λ e. n (omega arith)))
+date-count number (f ∷ fs) n = date-stops (maybe_date_of f) _ (λ x. gaining-count number x fs (λ e. n (omega arith)))
 
-last-count : (first : Digits) (fs : List (List ℕ)) → (length fs ≡ 5 → ⊥) → fromLast first fs ≡ Fault
+last-count : (first : Digits) (fs : List (List ℕ)) → (length fs ≡ 5 → ⊥) → from_last first fs ≡ Fault
 unfolding headed
 last-count first [] n = refl
 last-count first (f ∷ fs) n = number-stops (number_of first f) _ (λ x. date-count x fs (λ e. n (omega arith)))
 
-first_count : (fs : List (List ℕ)) → (length fs ≡ 6 → ⊥) → fromFirst fs ≡ Fault
+first_count : (fs : List (List ℕ)) → (length fs ≡ 6 → ⊥) → from_first fs ≡ Fault
 unfolding headed
 first_count [] n = refl
-first_count (f ∷ fs) n = digits-stops (digitsFieldOf f) _ (λ x. last-count x fs (λ e. n (omega arith)))
+first_count (f ∷ fs) n = digits-stops (digits_field_of f) _ (λ x. last-count x fs (λ e. n (omega arith)))
 
-part-pieces : (fs : List (List ℕ)) → cond (eqb (length fs) 6) (sixOf (get_or fs 0 []) (get_or fs 1 []) (get_or fs 2 []) (get_or fs 3 []) (get_or fs 4 []) (get_or fs 5 [])) Fault ≡ fromFirst fs
-unfolding sixOf headed
+part-pieces : (fs : List (List ℕ)) → cond (eqb (length fs) 6) (six_of (get_or fs 0 []) (get_or fs 1 []) (get_or fs 2 []) (get_or fs 3 []) (get_or fs 4 []) (get_or fs 5 [])) Fault ≡ from_first fs
+unfolding six_of headed
 part-pieces [] = sym (first_count [] (λ q. omega arith))
 part-pieces (a ∷ []) = sym (first_count (a ∷ []) (λ q. omega arith))
 part-pieces (a ∷ b ∷ []) = sym (first_count (a ∷ b ∷ []) (λ q. omega arith))
@@ -299,15 +299,15 @@ part-pieces (a ∷ b ∷ c ∷ d ∷ e ∷ f ∷ g ∷ fs) =
 
 -- ---- which way the walk goes
 module _ (s : List ℕ) where
-  from-0 : part_of s ≡ onDigitsAt (digitsAt s 0) (λ first next. fromLast first (split 44 (drop next s)))
+  from-0 : part_of s ≡ on_digits_at (digits_at s 0) (λ first next. from_last first (split 44 (drop next s)))
   unfolding part_of headed
   from-0 = part-pieces (split 44 s) ∙ digits-at _ (λ first. refl) s 0
 
-  pub walk_1 : digitsAt s 0 ≡ DigitsAt.Fault → part_of s ≡ Fault
+  pub walk_1 : digits_at s 0 ≡ DigitsAt.Fault → part_of s ≡ Fault
   walk_1 p₁ = from-0 ∙ rw p₁
 
-  module _ {first : Digits} {a : ℕ} (p₁ : digitsAt s 0 ≡ DigitsAt.Digits first a) where
-    from-1 : part_of s ≡ onNumberAt (number_at first s a) (λ number next. fromDate number (split 44 (drop next s)))
+  module _ {first : Digits} {a : ℕ} (p₁ : digits_at s 0 ≡ DigitsAt.Digits first a) where
+    from-1 : part_of s ≡ on_number_at (number_at first s a) (λ number next. from_date number (split 44 (drop next s)))
     unfolding headed
     from-1 = from-0 ∙ rw p₁ (number-at first _ (λ number. refl) s a)
 
@@ -315,15 +315,15 @@ module _ (s : List ℕ) where
     walk_2 p₂ = from-1 ∙ rw p₂
 
     module _ {number : Number} {b : ℕ} (p₂ : number_at first s a ≡ NumberAt.Number number b) where
-      from-2 : part_of s ≡ onDateAt (dateAt s b) (λ date next. fromGaining number date (split 44 (drop next s)))
+      from-2 : part_of s ≡ on_date_at (date_at s b) (λ date next. from_gaining number date (split 44 (drop next s)))
       unfolding headed
       from-2 = from-1 ∙ rw p₂ (date-at _ (λ date. refl) s b)
 
-      pub walk_3 : dateAt s b ≡ DateAt.Fault → part_of s ≡ Fault
+      pub walk_3 : date_at s b ≡ DateAt.Fault → part_of s ≡ Fault
       walk_3 p₃ = from-2 ∙ rw p₃
 
-      module _ {date : MaybeDate} {c : ℕ} (p₃ : dateAt s b ≡ DateAt.Date date c) where
-        from-3 : part_of s ≡ onCodeAt (code_at s c) (λ gaining next. fromLosing number date gaining (split 44 (drop next s)))
+      module _ {date : MaybeDate} {c : ℕ} (p₃ : date_at s b ≡ DateAt.Date date c) where
+        from-3 : part_of s ≡ on_code_at (code_at s c) (λ gaining next. from_losing number date gaining (split 44 (drop next s)))
         unfolding headed
         from-3 = from-2 ∙ rw p₃ (code-at _ (λ gaining. refl) s c)
 
@@ -331,18 +331,18 @@ module _ (s : List ℕ) where
         walk_4 p₄ = from-3 ∙ rw p₄
 
         module _ {gaining : MaybeCode} {d : ℕ} (p₄ : code_at s c ≡ CodeAt.Code gaining d) where
-          from-4 : part_of s ≡ onCodeAt (code_at s d) (λ losing next. kindLast number date gaining losing (split 44 (drop next s)))
+          from-4 : part_of s ≡ on_code_at (code_at s d) (λ losing next. kind_last number date gaining losing (split 44 (drop next s)))
           from-4 = from-3 ∙ rw p₄ (code-at _ (λ losing. refl) s d)
 
           pub walk_5 : code_at s d ≡ CodeAt.Fault → part_of s ≡ Fault
           walk_5 p₅ = from-4 ∙ rw p₅
 
           module _ {losing : MaybeCode} {e : ℕ} (p₅ : code_at s d ≡ CodeAt.Code losing e) where
-            from-5 : part_of s ≡ onKind (maybeKindOf (drop e s)) Fault λ kind. PartRead.Part (record { number = number; date = date; gaining = gaining; losing = losing; kind = kind })
+            from-5 : part_of s ≡ on_kind (maybe_kind_of (drop e s)) Fault λ kind. PartRead.Part (record { number = number; date = date; gaining = gaining; losing = losing; kind = kind })
             from-5 = from-4 ∙ rw p₅ (kind_at number date gaining losing (drop e s))
 
-            pub walk_6 : maybeKindOf (drop e s) ≡ MaybeKindRead.Fault → part_of s ≡ Fault
+            pub walk_6 : maybe_kind_of (drop e s) ≡ MaybeKindRead.Fault → part_of s ≡ Fault
             walk_6 p₆ = from-5 ∙ rw p₆
 
-            pub walk-7 : {kind : MaybeKind} → maybeKindOf (drop e s) ≡ MaybeKindRead.MaybeKind kind → part_of s ≡ PartRead.Part (record { number = number; date = date; gaining = gaining; losing = losing; kind = kind })
+            pub walk-7 : {kind : MaybeKind} → maybe_kind_of (drop e s) ≡ MaybeKindRead.MaybeKind kind → part_of s ≡ PartRead.Part (record { number = number; date = date; gaining = gaining; losing = losing; kind = kind })
             walk-7 p₆ = from-5 ∙ rw p₆

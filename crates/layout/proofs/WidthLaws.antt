@@ -10,9 +10,9 @@ use lib.Dec.{eqb}
 use lib.ListN.{length, get_or, take, drop, length-drop, take-append-drop, drop_of_length-le}
 use lib.Seq.{drop-cons, drop-drop, get_or-drop, length-take-le, take_all}
 use borrow.Author.Tests.{eq-eqb, ne_eqb, eqb-true, lt-ltb, not-true}
-use Rattle.laws.specs.Digits.{isDigit}
+use Rattle.laws.specs.Digits.{is_digit}
 use Rattle.laws.specs.Lists.{all, first_at}
-use Rattle.laws.specs.Split.{between, end_of, isSep, isNot, lacks}
+use Rattle.laws.specs.Split.{between, end_of, is_sep, is_not, lacks}
 use Rattle.laws.proofs.Firsts.{any-first, first_passes}
 use Rattle.laws.proofs.Loops.{first_on, first-here}
 use Rattle.laws.proofs.Split.{ends_at, length-between, lacks-by}
@@ -28,21 +28,21 @@ use Rattle.fields.specs.declared.date.MaybeDateRead.{MaybeDateRead}
 use Rattle.fields.specs.declared.kind.KindRead.{KindRead}
 use Rattle.fields.specs.declared.kind.MaybeKind.{MaybeKind}
 use Rattle.fields.specs.declared.kind.MaybeKindRead.{MaybeKindRead}
-use Rattle.fields.specs.Bytes.{fieldByte}
-use Rattle.fields.specs.Code.{code_of, maybeCodeFrom, maybeCodeOf, codeText}
-use Rattle.fields.specs.Date.{dateFieldOf, maybeDateFrom, maybeDateOf, maybeDateText}
-use Rattle.fields.specs.Kind.{kind_of, maybeKindFrom, maybeKindOf}
+use Rattle.fields.specs.Bytes.{field_byte}
+use Rattle.fields.specs.Code.{code_of, maybe_code_from, maybe_code_of, code_text}
+use Rattle.fields.specs.Date.{date_field_of, maybe_date_from, maybe_date_of, maybe_date_text}
+use Rattle.fields.specs.Kind.{kind_of, maybe_kind_from, maybe_kind_of}
 use Rattle.fields.proofs.ByteLaws.{bytes-code, bytes-maybe-date}
 use Rattle.fields.proofs.CodeLaws.{code-back}
 use Rattle.fields.proofs.DateLaws.{maybe-date-back}
 use Rattle.layout.specs.declared.walk.DateAt.{DateAt}
 use Rattle.layout.specs.declared.walk.CodeAt.{CodeAt}
-use Rattle.layout.specs.Walk.{dateAt, code_at}
+use Rattle.layout.specs.Walk.{date_at, code_at}
 use Rattle.layout.proofs.WalkLaws.{end-from, date-none, date-then, code-none, code-then}
 
 -- ---- where a field ends
-first-append : (f r : List ℕ) → lacks 44 f ≡ true → first_at (isSep 44) (f ++ 44 ∷ r) ≡ length f
-unfolding all isNot isSep
+first-append : (f r : List ℕ) → lacks 44 f ≡ true → first_at (is_sep 44) (f ++ 44 ∷ r) ≡ length f
+unfolding all is_not is_sep
 first-append [] r h = refl
 first-append (b ∷ f) r h =
     rw (not-true (eqb b 44) (and_left (not (eqb b 44)) (lacks 44 f) h)) (ap suc (first-append f r (and_right (not (eqb b 44)) (lacks 44 f) h)))
@@ -55,23 +55,23 @@ module _ (s : List ℕ) (at : ℕ) where
       let behind : drop (e - at) (drop at s) ≡ 44 ∷ drop (suc e) s = drop-drop (e - at) at s ∙ ap (λ (i : ℕ). drop i s) n ∙ drop-cons s e 0 h ∙ ap (λ (b : ℕ). b ∷ drop (suc e) s) comma in
       let cut : between s at e ++ 44 ∷ drop (suc e) s ≡ drop at s = ap (λ (t : List ℕ). between s at e ++ t) (sym behind) ∙ take-append-drop (e - at) (drop at s) in
       let size : length (between s at e) ≡ e - at = length-take-le (e - at) (drop at s) (simp length-drop (omega arith)) in
-      let first : first_at (isSep 44) (drop at s) ≡ length (between s at e) = ap (first_at (isSep 44)) (sym cut) ∙ first-append (between s at e) (drop (suc e) s) none in
+      let first : first_at (is_sep 44) (drop at s) ≡ length (between s at e) = ap (first_at (is_sep 44)) (sym cut) ∙ first-append (between s at e) (drop (suc e) s) none in
       omega arith
 
   end-comma : end_of 44 s at < length s → get_or s (end_of 44 s at) 0 ≡ 44
-  unfolding end_of isSep
+  unfolding end_of is_sep
   end-comma h =
-      let k : ℕ = first_at (isSep 44) (drop at s) in
-      let some = any-first (isSep 44) (drop at s) ∙ lt-ltb k (length (drop at s)) (omega (arith, length-drop at s)) in
-      sym (get_or-drop at s k 0) ∙ eqb-true _ _ (first_passes (isSep 44) (drop at s) 0 some)
+      let k : ℕ = first_at (is_sep 44) (drop at s) in
+      let some = any-first (is_sep 44) (drop at s) ∙ lt-ltb k (length (drop at s)) (omega (arith, length-drop at s)) in
+      sym (get_or-drop at s k 0) ∙ eqb-true _ _ (first_passes (is_sep 44) (drop at s) 0 some)
 
   end-here : at < length s → get_or s at 0 ≡ 44 → end_of 44 s at ≡ at
-  unfolding end_of isSep
-  end-here h e = first-here (isSep 44) 0 s at h (eq-eqb (get_or s at 0) 44 e)
+  unfolding end_of is_sep
+  end-here h e = first-here (is_sep 44) 0 s at h (eq-eqb (get_or s at 0) 44 e)
 
   end-past : at < length s → (get_or s at 0 ≡ 44 → ⊥) → at < end_of 44 s at
-  unfolding end_of isSep
-  end-past h n = omega (arith, first_on (isSep 44) 0 s at h (ne_eqb (get_or s at 0) 44 n))
+  unfolding end_of is_sep
+  end-past h n = omega (arith, first_on (is_sep 44) 0 s at h (ne_eqb (get_or s at 0) 44 n))
 
 -- ---- a field of k bytes or none, whatever it is: read by `of`, and found at a place of a line as `found`
 pub record Wide {Y Q A : Type 0} (k : ℕ) (of : List ℕ → Q) (bad : Q) (good : Y → Q) (found : List ℕ → ℕ → A) (fault : A) (empty : ℕ → A) (value : Y → ℕ → A) : Type 0 where
@@ -131,41 +131,41 @@ between_none : (s : List ℕ) (at : ℕ) → between s at at ≡ []
 between_none s at = let none : at - at ≡ 0 = omega arith in rw none refl
 
 -- ---- a date
-date-filled : (f : List ℕ) → (length f ≡ 0 → ⊥) → {r : DateRead} → dateFieldOf f ≡ r → maybeDateOf f ≡ maybeDateFrom r
-unfolding maybeDateOf
+date-filled : (f : List ℕ) → (length f ≡ 0 → ⊥) → {r : DateRead} → date_field_of f ≡ r → maybe_date_of f ≡ maybe_date_from r
+unfolding maybe_date_of
 date-filled f z p = rw (ne_eqb (length f) 0 z, p)
 
-date-blank : maybeDateOf [] ≡ MaybeDateRead.MaybeDate MaybeDate.Empty
-unfolding maybeDateOf
+date-blank : maybe_date_of [] ≡ MaybeDateRead.MaybeDate MaybeDate.Empty
+unfolding maybe_date_of
 date-blank = refl
 
-date-width : (f : List ℕ) → (length f ≡ 8 → ⊥) → dateFieldOf f ≡ DateRead.Fault
-unfolding dateFieldOf
+date-width : (f : List ℕ) → (length f ≡ 8 → ⊥) → date_field_of f ≡ DateRead.Fault
+unfolding date_field_of
 date-width f m = rw (ne_eqb (length f) 8 m)
 
-date-clean : (f : List ℕ) → (length f ≡ 0 → ⊥) → (d : CalendarDays) → dateFieldOf f ≡ DateRead.Date d → lacks 44 f ≡ true
-unfolding maybeDateFrom fieldByte isDigit
-date-clean f z d r = rw (maybe-date-back f (MaybeDate.Date d) (date-filled f z r)).0 at (lacks-by fieldByte 44 refl (maybeDateText (MaybeDate.Date d)) (bytes-maybe-date (MaybeDate.Date d)))
+date-clean : (f : List ℕ) → (length f ≡ 0 → ⊥) → (d : CalendarDays) → date_field_of f ≡ DateRead.Date d → lacks 44 f ≡ true
+unfolding maybe_date_from field_byte is_digit
+date-clean f z d r = rw (maybe-date-back f (MaybeDate.Date d) (date-filled f z r)).0 at (lacks-by field_byte 44 refl (maybe_date_text (MaybeDate.Date d)) (bytes-maybe-date (MaybeDate.Date d)))
 
-pub dates : Wide 8 dateFieldOf DateRead.Fault DateRead.Date dateAt DateAt.Fault (λ n. DateAt.Date MaybeDate.Empty n) (λ d n. DateAt.Date (MaybeDate.Date d) n)
-unfolding maybeDateFrom
+pub dates : Wide 8 date_field_of DateRead.Fault DateRead.Date date_at DateAt.Fault (λ n. DateAt.Date MaybeDate.Empty n) (λ d n. DateAt.Date (MaybeDate.Date d) n)
+unfolding maybe_date_from
 dates = record {
   some = omega arith;
   width = date-width;
   clean = date-clean;
   none = date-none;
-  blank = λ s at q h. date-then s at at q h {r = MaybeDateRead.MaybeDate MaybeDate.Empty} (ap maybeDateOf (between_none s at) ∙ date-blank);
+  blank = λ s at q h. date-then s at at q h {r = MaybeDateRead.MaybeDate MaybeDate.Empty} (ap maybe_date_of (between_none s at) ∙ date-blank);
   wrong = λ s at e q h z r. date-then s at e q h {r = MaybeDateRead.Fault} (date-filled (between s at e) z r);
   right = λ s at e q h z d r. date-then s at e q h {r = MaybeDateRead.MaybeDate (MaybeDate.Date d)} (date-filled (between s at e) z r);
 }
 
 -- ---- a code
-code-filled : (f : List ℕ) → (length f ≡ 0 → ⊥) → {r : CodeRead} → code_of f ≡ r → maybeCodeOf f ≡ maybeCodeFrom r
-unfolding maybeCodeOf
+code-filled : (f : List ℕ) → (length f ≡ 0 → ⊥) → {r : CodeRead} → code_of f ≡ r → maybe_code_of f ≡ maybe_code_from r
+unfolding maybe_code_of
 code-filled f z p = rw (ne_eqb (length f) 0 z, p)
 
-code-blank : maybeCodeOf [] ≡ MaybeCodeRead.MaybeCode MaybeCode.Empty
-unfolding maybeCodeOf
+code-blank : maybe_code_of [] ≡ MaybeCodeRead.MaybeCode MaybeCode.Empty
+unfolding maybe_code_of
 code-blank = refl
 
 code-width : (f : List ℕ) → (length f ≡ 4 → ⊥) → code_of f ≡ CodeRead.Fault
@@ -173,29 +173,29 @@ unfolding code_of
 code-width f m = rw (ne_eqb (length f) 4 m)
 
 code-clean : (f : List ℕ) → (length f ≡ 0 → ⊥) → (c : Code) → code_of f ≡ CodeRead.Code c → lacks 44 f ≡ true
-unfolding fieldByte isDigit
-code-clean f z c r = rw (code-back f c r).0 at (lacks-by fieldByte 44 refl (codeText c) (bytes-code c))
+unfolding field_byte is_digit
+code-clean f z c r = rw (code-back f c r).0 at (lacks-by field_byte 44 refl (code_text c) (bytes-code c))
 
 pub codes : Wide 4 code_of CodeRead.Fault CodeRead.Code code_at CodeAt.Fault (λ n. CodeAt.Code MaybeCode.Empty n) (λ c n. CodeAt.Code (MaybeCode.Code c) n)
-unfolding maybeCodeFrom
+unfolding maybe_code_from
 codes = record {
   some = omega arith;
   width = code-width;
   clean = code-clean;
   none = code-none;
-  blank = λ s at q h. code-then s at at q h {r = MaybeCodeRead.MaybeCode MaybeCode.Empty} (ap maybeCodeOf (between_none s at) ∙ code-blank);
+  blank = λ s at q h. code-then s at at q h {r = MaybeCodeRead.MaybeCode MaybeCode.Empty} (ap maybe_code_of (between_none s at) ∙ code-blank);
   wrong = λ s at e q h z r. code-then s at e q h {r = MaybeCodeRead.Fault} (code-filled (between s at e) z r);
   right = λ s at e q h z c r. code-then s at e q h {r = MaybeCodeRead.MaybeCode (MaybeCode.Code c)} (code-filled (between s at e) z r);
 }
 
 -- ---- the kind
 module _ (s : List ℕ) (at : ℕ) where
-  pub kind-empty : length s ≤ at → maybeKindOf (drop at s) ≡ MaybeKindRead.MaybeKind MaybeKind.Empty
-  unfolding maybeKindOf
+  pub kind-empty : length s ≤ at → maybe_kind_of (drop at s) ≡ MaybeKindRead.MaybeKind MaybeKind.Empty
+  unfolding maybe_kind_of
   kind-empty h = rw (drop_of_length-le s h) refl
 
-  pub kind-read : at < length s → {r : KindRead} → kind_of (take (length s - at) (drop at s)) ≡ r → maybeKindOf (drop at s) ≡ maybeKindFrom r
-  unfolding maybeKindOf
+  pub kind-read : at < length s → {r : KindRead} → kind_of (take (length s - at) (drop at s)) ≡ r → maybe_kind_of (drop at s) ≡ maybe_kind_from r
+  unfolding maybe_kind_of
   kind-read h {r} e =
       let whole : take (length s - at) (drop at s) ≡ drop at s = take_all (length s - at) (drop at s) (omega (arith, length-drop at s)) in
       let found : kind_of (drop at s) ≡ r = rw whole at e in

@@ -4,7 +4,7 @@ use Rattle.laws.specs.Split.{split, piece_of, between}
 use Rattle.fields.specs.declared.correction_code.CorrectionCode.{CorrectionCode}
 use Rattle.fields.specs.declared.correction_code.CorrectionCodeRead.{CorrectionCodeRead}
 use Rattle.fields.specs.declared.number.Number.{Number}
-use Rattle.fields.specs.CorrectionCode.{correctionCodeOf, correctionCodeOfWord, correctionCodeFits, isObjection, correctionCodeText}
+use Rattle.fields.specs.CorrectionCode.{correction_code_of, correction_code_of_word, correction_code_fits, is_objection, correction_code_text}
 use Rattle.fields.specs.Number.{is_empty}
 use Rattle.layout.specs.declared.part.Part.{Part}
 use Rattle.layout.specs.declared.part.PartRead.{PartRead}
@@ -12,68 +12,68 @@ use Rattle.layout.specs.declared.report.ReportRead.{ReportRead}
 use Rattle.layout.specs.declared.correction.Correction.{Correction}
 use Rattle.layout.specs.declared.correction.CorrectionRead.{CorrectionRead}
 use Rattle.layout.specs.declared.correction.CorrectionRead.TheVariants.{Fault}
-use Rattle.layout.specs.Part.{part_of, partOfWords, partFits, partText}
+use Rattle.layout.specs.Part.{part_of, part_of_words, part_fits, part_text}
 use Rattle.layout.specs.Report.{whole_of}
 
 -- ---- what is found goes on to what makes the correction of it; a fault is the correction's
 
-abbrev pub onHead : CorrectionCodeRead → (CorrectionCode → CorrectionRead) → CorrectionRead
-onHead (CorrectionCodeRead.CorrectionCode c) k = k c
-onHead CorrectionCodeRead.Fault k = Fault
+abbrev pub on_head : CorrectionCodeRead → (CorrectionCode → CorrectionRead) → CorrectionRead
+on_head (CorrectionCodeRead.CorrectionCode c) k = k c
+on_head CorrectionCodeRead.Fault k = Fault
 
-abbrev pub onPart : PartRead → (Part → CorrectionRead) → CorrectionRead
-onPart (PartRead.Part p) k = k p
-onPart PartRead.Fault k = Fault
+abbrev pub on_part : PartRead → (Part → CorrectionRead) → CorrectionRead
+on_part (PartRead.Part p) k = k p
+on_part PartRead.Fault k = Fault
 
 -- before the first colon: the code, and 'U' (85)
 unfoldable pub head_of : List ℕ → CorrectionCodeRead
-head_of f = cond (eqb (length f) 5 && eqb (get_or f 4 0) 85) (correctionCodeOf (take 4 f)) CorrectionCodeRead.Fault
+head_of f = cond (eqb (length f) 5 && eqb (get_or f 4 0) 85) (correction_code_of (take 4 f)) CorrectionCodeRead.Fault
 
 -- between the colons: a part, a comma (44), and 'K' (75)
-unfoldable pub reportedOf : List ℕ → PartRead
-reportedOf f =
+unfoldable pub reported_of : List ℕ → PartRead
+reported_of f =
     cond (leb 2 (length f) && (eqb (get_or f (length f - 2) 0) 44 && eqb (get_or f (length f - 2 + 1) 0) 75)) (part_of (take (length f - 2) f)) PartRead.Fault
 
-abbrev pub isReport : ReportRead → Bool
-isReport (ReportRead.Report r) = true
-isReport ReportRead.Fault = false
+abbrev pub is_report : ReportRead → Bool
+is_report (ReportRead.Report r) = true
+is_report ReportRead.Fault = false
 
 -- with code 25XX the U part is a whole report; with any other at least one part has a number
-unfoldable pub isSound : CorrectionCode → Part → Part → Bool
-isSound code u k = cond (isObjection code) (isReport (whole_of u)) (not (is_empty u.number.first) || not (is_empty k.number.first))
+unfoldable pub is_sound : CorrectionCode → Part → Part → Bool
+is_sound code u k = cond (is_objection code) (is_report (whole_of u)) (not (is_empty u.number.first) || not (is_empty k.number.first))
 
-unfoldable pub soundOf : CorrectionCode → Part → Part → CorrectionRead
-soundOf code u k = cond (isSound code u k) (CorrectionRead.Correction (record { code = code; u = u; k = k })) Fault
+unfoldable pub sound_of : CorrectionCode → Part → Part → CorrectionRead
+sound_of code u k = cond (is_sound code u k) (CorrectionRead.Correction (record { code = code; u = u; k = k })) Fault
 
-unfoldable pub threeOf : List ℕ → List ℕ → List ℕ → CorrectionRead
-threeOf a b c =
-    onHead (head_of a)
-    λ code. onPart (reportedOf b)
-    λ u. onPart (part_of c)
-    λ k. soundOf code u k
+unfoldable pub three_of : List ℕ → List ℕ → List ℕ → CorrectionRead
+three_of a b c =
+    on_head (head_of a)
+    λ code. on_part (reported_of b)
+    λ u. on_part (part_of c)
+    λ k. sound_of code u k
 
 -- two colons (58)
-unfoldable pub correctionOf : List ℕ → CorrectionRead
-correctionOf s = cond (eqb (length (split 58 s)) 3) (threeOf (piece_of 58 s 0) (piece_of 58 s 1) (piece_of 58 s 2)) Fault
+unfoldable pub correction_of : List ℕ → CorrectionRead
+correction_of s = cond (eqb (length (split 58 s)) 3) (three_of (piece_of 58 s 0) (piece_of 58 s 1) (piece_of 58 s 2)) Fault
 
 -- each field holds its value, and the code's rule is kept
-unfoldable pub correctionFits : Correction → Bool
-correctionFits c = correctionCodeFits c.code && (partFits c.u && (partFits c.k && isSound c.code c.u c.k))
+unfoldable pub correction_fits : Correction → Bool
+correction_fits c = correction_code_fits c.code && (part_fits c.u && (part_fits c.k && is_sound c.code c.u c.k))
 
 -- the code, "U:", the U part, ",K:", the K part
-unfoldable pub correctionText : Correction → List ℕ
-correctionText c = correctionCodeText c.code ++ (85 ∷ 58 ∷ (partText c.u ++ (44 ∷ 75 ∷ 58 ∷ partText c.k)))
+unfoldable pub correction_text : Correction → List ℕ
+correction_text c = correction_code_text c.code ++ (85 ∷ 58 ∷ (part_text c.u ++ (44 ∷ 75 ∷ 58 ∷ part_text c.k)))
 
 -- the number that it names: that of the U part, or of the K part where U has none
-unfoldable pub namedNumber : Correction → Number
-namedNumber c = cond (is_empty c.u.number.first) c.k.number c.u.number
+unfoldable pub named_number : Correction → Number
+named_number c = cond (is_empty c.u.number.first) c.k.number c.u.number
 
 -- from 13 plain words: the code, and six for each part
-unfoldable pub correctionOfWords : List ℕ → CorrectionRead
-correctionOfWords w =
+unfoldable pub correction_of_words : List ℕ → CorrectionRead
+correction_of_words w =
     cond (eqb (length w) 13)
-    (onHead (correctionCodeOfWord (get_or w 0 0))
-    λ code. onPart (partOfWords (between w 1 7))
-    λ u. onPart (partOfWords (between w 7 13))
-    λ k. soundOf code u k)
+    (on_head (correction_code_of_word (get_or w 0 0))
+    λ code. on_part (part_of_words (between w 1 7))
+    λ u. on_part (part_of_words (between w 7 13))
+    λ k. sound_of code u k)
     Fault

@@ -12,76 +12,76 @@ use Rattle.fields.specs.declared.number.Digits.{Digits}
 use Rattle.fields.specs.declared.number.DigitsRead.{DigitsRead}
 use Rattle.fields.specs.declared.number.Number.{Number}
 use Rattle.fields.specs.declared.number.NumberRead.{NumberRead}
-use Rattle.fields.specs.Code.{maybeCodeOf, maybeCodeOfWord, maybeCodeFits, maybeCodeText}
-use Rattle.fields.specs.Date.{maybeDateOf, maybeDateOfWord, maybeDateFits, maybeDateText}
-use Rattle.fields.specs.Kind.{maybeKindOf, maybeKindOfWord, maybeKindText}
-use Rattle.fields.specs.Number.{digitsFieldOf, digitsText, number_of, numberFits}
+use Rattle.fields.specs.Code.{maybe_code_of, maybe_code_of_word, maybe_code_fits, maybe_code_text}
+use Rattle.fields.specs.Date.{maybe_date_of, maybe_date_of_word, maybe_date_fits, maybe_date_text}
+use Rattle.fields.specs.Kind.{maybe_kind_of, maybe_kind_of_word, maybe_kind_text}
+use Rattle.fields.specs.Number.{digits_field_of, digits_text, number_of, number_fits}
 use Rattle.layout.specs.declared.part.Part.{Part}
 use Rattle.layout.specs.declared.part.PartRead.{PartRead}
 use Rattle.layout.specs.declared.part.PartRead.TheVariants.{Fault}
 
 -- ---- a field's value goes on to what makes the record of it; in place of a fault stands `fault`
 module _ {A : Type 0} where
-  abbrev pub onDigits : DigitsRead → A → (Digits → A) → A
-  onDigits (DigitsRead.Digits d) fault k = k d
-  onDigits DigitsRead.Fault fault k = fault
+  abbrev pub on_digits : DigitsRead → A → (Digits → A) → A
+  on_digits (DigitsRead.Digits d) fault k = k d
+  on_digits DigitsRead.Fault fault k = fault
 
-  abbrev pub onNumber : NumberRead → A → (Number → A) → A
-  onNumber (NumberRead.Number n) fault k = k n
-  onNumber NumberRead.Fault fault k = fault
+  abbrev pub on_number : NumberRead → A → (Number → A) → A
+  on_number (NumberRead.Number n) fault k = k n
+  on_number NumberRead.Fault fault k = fault
 
-  abbrev pub onDate : MaybeDateRead → A → (MaybeDate → A) → A
-  onDate (MaybeDateRead.MaybeDate d) fault k = k d
-  onDate MaybeDateRead.Fault fault k = fault
+  abbrev pub on_date : MaybeDateRead → A → (MaybeDate → A) → A
+  on_date (MaybeDateRead.MaybeDate d) fault k = k d
+  on_date MaybeDateRead.Fault fault k = fault
 
-  abbrev pub onCode : MaybeCodeRead → A → (MaybeCode → A) → A
-  onCode (MaybeCodeRead.MaybeCode c) fault k = k c
-  onCode MaybeCodeRead.Fault fault k = fault
+  abbrev pub on_code : MaybeCodeRead → A → (MaybeCode → A) → A
+  on_code (MaybeCodeRead.MaybeCode c) fault k = k c
+  on_code MaybeCodeRead.Fault fault k = fault
 
-  abbrev pub onKind : MaybeKindRead → A → (MaybeKind → A) → A
-  onKind (MaybeKindRead.MaybeKind x) fault k = k x
-  onKind MaybeKindRead.Fault fault k = fault
+  abbrev pub on_kind : MaybeKindRead → A → (MaybeKind → A) → A
+  on_kind (MaybeKindRead.MaybeKind x) fault k = k x
+  on_kind MaybeKindRead.Fault fault k = fault
 
 -- the part of six fields
-unfoldable pub sixOf : List ℕ → List ℕ → List ℕ → List ℕ → List ℕ → List ℕ → PartRead
-sixOf a b c d e f =
-    onDigits (digitsFieldOf a) Fault
-    λ first. onNumber (number_of first b) Fault
-    λ number. onDate (maybeDateOf c) Fault
-    λ date. onCode (maybeCodeOf d) Fault
-    λ gaining. onCode (maybeCodeOf e) Fault
-    λ losing. onKind (maybeKindOf f) Fault
+unfoldable pub six_of : List ℕ → List ℕ → List ℕ → List ℕ → List ℕ → List ℕ → PartRead
+six_of a b c d e f =
+    on_digits (digits_field_of a) Fault
+    λ first. on_number (number_of first b) Fault
+    λ number. on_date (maybe_date_of c) Fault
+    λ date. on_code (maybe_code_of d) Fault
+    λ gaining. on_code (maybe_code_of e) Fault
+    λ losing. on_kind (maybe_kind_of f) Fault
     λ kind. PartRead.Part (record { number = number; date = date; gaining = gaining; losing = losing; kind = kind })
 
 -- six fields between commas (44), no more and no fewer
 unfoldable pub part_of : List ℕ → PartRead
-part_of s = cond (eqb (length (split 44 s)) 6) (sixOf (piece_of 44 s 0) (piece_of 44 s 1) (piece_of 44 s 2) (piece_of 44 s 3) (piece_of 44 s 4) (piece_of 44 s 5)) Fault
+part_of s = cond (eqb (length (split 44 s)) 6) (six_of (piece_of 44 s 0) (piece_of 44 s 1) (piece_of 44 s 2) (piece_of 44 s 3) (piece_of 44 s 4) (piece_of 44 s 5)) Fault
 
 -- each field holds its value
-unfoldable pub partFits : Part → Bool
-partFits p = numberFits p.number && (maybeDateFits p.date && (maybeCodeFits p.gaining && maybeCodeFits p.losing))
+unfoldable pub part_fits : Part → Bool
+part_fits p = number_fits p.number && (maybe_date_fits p.date && (maybe_code_fits p.gaining && maybe_code_fits p.losing))
 
 -- the six fields
 abbrev pub fields_of : Part → List (List ℕ)
 fields_of p =
-    digitsText p.number.first ∷ digitsText p.number.last ∷ maybeDateText p.date ∷ maybeCodeText p.gaining ∷ maybeCodeText p.losing ∷ maybeKindText p.kind ∷ []
+    digits_text p.number.first ∷ digits_text p.number.last ∷ maybe_date_text p.date ∷ maybe_code_text p.gaining ∷ maybe_code_text p.losing ∷ maybe_kind_text p.kind ∷ []
 
 -- with commas between them
-unfoldable pub partText : Part → List ℕ
-partText p = joined 44 (fields_of p)
+unfoldable pub part_text : Part → List ℕ
+part_text p = joined 44 (fields_of p)
 
 -- ---- from six plain words
-unfoldable pub restOfWords : Number → ℕ → ℕ → ℕ → ℕ → PartRead
-restOfWords number c d e f =
-    onDate (maybeDateOfWord c) Fault
-    λ date. onCode (maybeCodeOfWord d) Fault
-    λ gaining. onCode (maybeCodeOfWord e) Fault
-    λ losing. onKind (maybeKindOfWord f) Fault
+unfoldable pub rest_of_words : Number → ℕ → ℕ → ℕ → ℕ → PartRead
+rest_of_words number c d e f =
+    on_date (maybe_date_of_word c) Fault
+    λ date. on_code (maybe_code_of_word d) Fault
+    λ gaining. on_code (maybe_code_of_word e) Fault
+    λ losing. on_kind (maybe_kind_of_word f) Fault
     λ kind. PartRead.Part (record { number = number; date = date; gaining = gaining; losing = losing; kind = kind })
 
-abbrev pub numberOfWords : List ℕ → Number
-numberOfWords w = record { first = record { 0 = get_or w 0 0 }; last = record { 0 = get_or w 1 0 } }
+abbrev pub number_of_words : List ℕ → Number
+number_of_words w = record { first = record { 0 = get_or w 0 0 }; last = record { 0 = get_or w 1 0 } }
 
-unfoldable pub partOfWords : List ℕ → PartRead
-partOfWords w =
-    cond (eqb (length w) 6 && numberFits (numberOfWords w)) (restOfWords (numberOfWords w) (get_or w 2 0) (get_or w 3 0) (get_or w 4 0) (get_or w 5 0)) Fault
+unfoldable pub part_of_words : List ℕ → PartRead
+part_of_words w =
+    cond (eqb (length w) 6 && number_fits (number_of_words w)) (rest_of_words (number_of_words w) (get_or w 2 0) (get_or w 3 0) (get_or w 4 0) (get_or w 5 0)) Fault

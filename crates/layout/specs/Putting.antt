@@ -3,22 +3,22 @@ use Rattle.std.specs.Prelude.{ℕ, List, [], ◌∷◌, ◌++◌}
 use Rattle.fields.specs.declared.code.MaybeCode.{MaybeCode}
 use Rattle.fields.specs.declared.correction_code.CorrectionCode.{CorrectionCode}
 use Rattle.fields.specs.declared.number.Number.{Number}
-use Rattle.fields.specs.Code.{maybeCodeText}
-use Rattle.fields.specs.CorrectionCode.{correctionCodeText}
-use Rattle.fields.specs.Number.{digitsText}
+use Rattle.fields.specs.Code.{maybe_code_text}
+use Rattle.fields.specs.CorrectionCode.{correction_code_text}
+use Rattle.fields.specs.Number.{digits_text}
 
 abbrev pub followed : List ℕ → List ℕ
 followed field = field ++ (44 ∷ [])
 
-abbrev pub numberFollowed : Number → List ℕ
-numberFollowed n = followed (digitsText n.first) ++ followed (digitsText n.last)
+abbrev pub number_followed : Number → List ℕ
+number_followed n = followed (digits_text n.first) ++ followed (digits_text n.last)
 
-abbrev pub networksFollowed : MaybeCode → MaybeCode → List ℕ
-networksFollowed gaining losing = followed (maybeCodeText gaining) ++ followed (maybeCodeText losing)
+abbrev pub networks_followed : MaybeCode → MaybeCode → List ℕ
+networks_followed gaining losing = followed (maybe_code_text gaining) ++ followed (maybe_code_text losing)
 
 -- the code and "U:"; ",K:"
-abbrev pub headText : CorrectionCode → List ℕ
-headText code = correctionCodeText code ++ (85 ∷ 58 ∷ [])
+abbrev pub head_text : CorrectionCode → List ℕ
+head_text code = correction_code_text code ++ (85 ∷ 58 ∷ [])
 
-abbrev pub betweenParts : List ℕ
-betweenParts = 44 ∷ 75 ∷ 58 ∷ []
+abbrev pub between_parts : List ℕ
+between_parts = 44 ∷ 75 ∷ 58 ∷ []

@@ -3,38 +3,38 @@ use Rattle.std.specs.Prelude.{ℕ, Bool, cond, ◌&&◌, List, [], ◌∷◌, eq
 use Rattle.laws.specs.Split.{split, piece_of, joined}
 use Rattle.fields.specs.declared.code.Code.{Code}
 use Rattle.fields.specs.declared.code.CodeRead.{CodeRead}
-use Rattle.fields.specs.Code.{code_of, codeOfWord, codeFits, codeText}
-use Rattle.fields.specs.Date.{maybeDateOf, maybeDateOfWord, maybeDateFits, maybeDateText}
+use Rattle.fields.specs.Code.{code_of, code_of_word, code_fits, code_text}
+use Rattle.fields.specs.Date.{maybe_date_of, maybe_date_of_word, maybe_date_fits, maybe_date_text}
 use Rattle.layout.specs.declared.request.Request.{Request}
 use Rattle.layout.specs.declared.request.RequestRead.{RequestRead}
 use Rattle.layout.specs.declared.request.RequestRead.TheVariants.{Fault}
-use Rattle.layout.specs.Part.{onDate}
+use Rattle.layout.specs.Part.{on_date}
 
-abbrev pub onSender : CodeRead → (Code → RequestRead) → RequestRead
-onSender (CodeRead.Code c) k = k c
-onSender CodeRead.Fault k = Fault
+abbrev pub on_sender : CodeRead → (Code → RequestRead) → RequestRead
+on_sender (CodeRead.Code c) k = k c
+on_sender CodeRead.Fault k = Fault
 
 -- a code, a date or nothing, and nothing behind the last comma
-unfoldable pub threeOf : List ℕ → List ℕ → List ℕ → RequestRead
-threeOf a b c =
-    onSender (code_of a)
-    λ code. onDate (maybeDateOf b) Fault
+unfoldable pub three_of : List ℕ → List ℕ → List ℕ → RequestRead
+three_of a b c =
+    on_sender (code_of a)
+    λ code. on_date (maybe_date_of b) Fault
     λ from. cond (eqb (length c) 0) (RequestRead.Request (record { code = code; from = from })) Fault
 
-unfoldable pub requestOf : List ℕ → RequestRead
-requestOf s = cond (eqb (length (split 44 s)) 3) (threeOf (piece_of 44 s 0) (piece_of 44 s 1) (piece_of 44 s 2)) Fault
+unfoldable pub request_of : List ℕ → RequestRead
+request_of s = cond (eqb (length (split 44 s)) 3) (three_of (piece_of 44 s 0) (piece_of 44 s 1) (piece_of 44 s 2)) Fault
 
-unfoldable pub requestFits : Request → Bool
-requestFits r = codeFits r.code && maybeDateFits r.from
+unfoldable pub request_fits : Request → Bool
+request_fits r = code_fits r.code && maybe_date_fits r.from
 
-unfoldable pub requestText : Request → List ℕ
-requestText r = joined 44 (codeText r.code ∷ maybeDateText r.from ∷ [] ∷ [])
+unfoldable pub request_text : Request → List ℕ
+request_text r = joined 44 (code_text r.code ∷ maybe_date_text r.from ∷ [] ∷ [])
 
 -- from two plain words
-unfoldable pub requestOfWords : List ℕ → RequestRead
-requestOfWords w =
+unfoldable pub request_of_words : List ℕ → RequestRead
+request_of_words w =
     cond (eqb (length w) 2)
-    (onSender (codeOfWord (get_or w 0 0))
-    λ code. onDate (maybeDateOfWord (get_or w 1 0)) Fault
+    (on_sender (code_of_word (get_or w 0 0))
+    λ code. on_date (maybe_date_of_word (get_or w 1 0)) Fault
     λ from. RequestRead.Request (record { code = code; from = from }))
     Fault

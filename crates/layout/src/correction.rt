@@ -2,7 +2,7 @@
 ghost use Rattle.std.specs.Prelude.{◌≡◌, true, ◌+◌, ◌≤◌, length};
 ghost use Rattle.laws.specs.Overlay.{Laid};
 ghost use Rattle.layout.specs.Report.{whole_of};
-ghost use Rattle.layout.specs.Correction.{head_of, reportedOf, isSound, soundOf, correctionOf, correctionOfWords, namedNumber, correctionFits, correctionText};
+ghost use Rattle.layout.specs.Correction.{head_of, reported_of, is_sound, sound_of, correction_of, correction_of_words, named_number, correction_fits, correction_text};
 
 use crate::part::{Part, PartRead};
 use crate::putting;
@@ -38,7 +38,7 @@ fn read_head(f: &[u8]) -> CorrectionCodeRead
 
 // What stands between the colons: a part, a comma, and K.
 fn read_reported(f: &[u8]) -> PartRead
-    ensures { result ≡ reportedOf f.now }
+    ensures { result ≡ reported_of f.now }
 {
     if f.len() < 2 {
         return PartRead::Fault;
@@ -55,7 +55,7 @@ fn read_reported(f: &[u8]) -> PartRead
 
 // With code 25XX the U part is a whole report; with any other at least one part has a number.
 fn is_sound(code: CorrectionCode, u: Part, k: Part) -> bool
-    ensures { result ≡ isSound code u k }
+    ensures { result ≡ is_sound code u k }
 {
     if code.is_objection() {
         let ReportRead::Report(_) = Report::of_part(u) else {
@@ -74,7 +74,7 @@ fn is_sound(code: CorrectionCode, u: Part, k: Part) -> bool
 }
 
 fn sound(code: CorrectionCode, u: Part, k: Part) -> CorrectionRead
-    ensures { result ≡ soundOf code u k }
+    ensures { result ≡ sound_of code u k }
 {
     if !is_sound(code, u, k) {
         return CorrectionRead::Fault;
@@ -84,7 +84,7 @@ fn sound(code: CorrectionCode, u: Part, k: Part) -> CorrectionRead
 
 impl Correction {
     pub fn read(s: &[u8]) -> CorrectionRead
-        ensures { result ≡ correctionOf s.now }
+        ensures { result ≡ correction_of s.now }
     {
         let a = text::field_end(s, 0, 58);
         if s.len() <= a {
@@ -110,7 +110,7 @@ impl Correction {
 
     // From 13 plain words: the code, and six for each part.
     pub fn of_words(w: &[u64]) -> CorrectionRead
-        ensures { result ≡ correctionOfWords w.now }
+        ensures { result ≡ correction_of_words w.now }
     {
         if w.len() != 13 {
             return CorrectionRead::Fault;
@@ -129,7 +129,7 @@ impl Correction {
 
     // The number that it names: that of the U part, or of the K part where U has none.
     pub fn named_number(self) -> Number
-        ensures { result ≡ namedNumber self }
+        ensures { result ≡ named_number self }
     {
         let u = self.u;
         let k = self.k;
@@ -151,7 +151,7 @@ impl Correction {
 
     // How many bytes its text has.
     pub fn len(self) -> usize
-        ensures { result ≡ length (correctionText self) }
+        ensures { result ≡ length (correction_text self) }
     {
         let u = self.u;
         let k = self.k;
@@ -160,8 +160,8 @@ impl Correction {
 
     // Into a record that can hold it.
     pub fn write(self, out: &mut [u8], at: usize) -> usize
-        requires { (at + length (correctionText self) ≤ length out.old) × (correctionFits self ≡ true) }
-        ensures { Laid out.old at (correctionText self) out.new result }
+        requires { (at + length (correction_text self) ≤ length out.old) × (correction_fits self ≡ true) }
+        ensures { Laid out.old at (correction_text self) out.new result }
     {
         let code = self.code;
         let u = self.u;

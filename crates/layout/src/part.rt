@@ -2,7 +2,7 @@
 // nothing missing, and a correction has two.
 ghost use Rattle.std.specs.Prelude.{◌≡◌, true, ◌+◌, ◌≤◌, length};
 ghost use Rattle.laws.specs.Overlay.{Laid};
-ghost use Rattle.layout.specs.Part.{part_of, partOfWords, partFits, partText};
+ghost use Rattle.layout.specs.Part.{part_of, part_of_words, part_fits, part_text};
 
 use crate::putting;
 use crate::walk::{CodeAt, DateAt, DigitsAt, NumberAt};
@@ -60,7 +60,7 @@ impl Part {
     // From six plain words, in the order of the fields: the codes of the number fields, 1 for an empty one; a day's
     // number, 65535 for none; two network codes, 1000 for none; the kind, P 0, L 1, Z 2, 3 for none.
     pub fn of_words(w: &[u64]) -> PartRead
-        ensures { result ≡ partOfWords w.now }
+        ensures { result ≡ part_of_words w.now }
     {
         if w.len() != 6 {
             return PartRead::Fault;
@@ -95,7 +95,7 @@ impl Part {
 
     // How many bytes its text has.
     pub fn len(self) -> usize
-        ensures { result ≡ length (partText self) }
+        ensures { result ≡ length (part_text self) }
     {
         let number = self.number;
         let date = self.date;
@@ -109,8 +109,8 @@ impl Part {
 
     // Into six fields that can hold it.
     pub fn write(self, out: &mut [u8], at: usize) -> usize
-        requires { (at + length (partText self) ≤ length out.old) × (partFits self ≡ true) }
-        ensures { Laid out.old at (partText self) out.new result }
+        requires { (at + length (part_text self) ≤ length out.old) × (part_fits self ≡ true) }
+        ensures { Laid out.old at (part_text self) out.new result }
     {
         let number = self.number;
         let date = self.date;

@@ -1,7 +1,7 @@
 // A report, `num1,num2,ddmmyyyy,GAINING,LOSING,STATUS`: a part with nothing missing, save the gaining network of a Z.
 ghost use Rattle.std.specs.Prelude.{◌≡◌, true, ◌+◌, ◌≤◌, length};
 ghost use Rattle.laws.specs.Overlay.{Laid};
-ghost use Rattle.layout.specs.Report.{isNamed, whole_of, reportPart, reportOf, reportOfWords, reportFits, reportText};
+ghost use Rattle.layout.specs.Report.{is_named, whole_of, report_part, report_of, report_of_words, report_fits, report_text};
 
 use crate::part::{Part, PartRead};
 use calendar::dates::CalendarDays;
@@ -28,7 +28,7 @@ pub enum ReportRead {
 
 // Only a Z may leave the gaining network out.
 fn is_named(gaining: MaybeCode, kind: Kind) -> bool
-    ensures { result ≡ isNamed gaining kind }
+    ensures { result ≡ is_named gaining kind }
 {
     match gaining {
         MaybeCode::Code(_) => true,
@@ -78,7 +78,7 @@ impl Report {
 
     // Its six fields.
     pub fn part(self) -> Part
-        ensures { result ≡ reportPart self }
+        ensures { result ≡ report_part self }
     {
         let number = self.number;
         let date = self.date;
@@ -96,7 +96,7 @@ impl Report {
     }
 
     pub fn read(s: &[u8]) -> ReportRead
-        ensures { result ≡ reportOf s.now }
+        ensures { result ≡ report_of s.now }
     {
         let PartRead::Part(p) = Part::read(s) else {
             return ReportRead::Fault;
@@ -106,7 +106,7 @@ impl Report {
 
     // From six plain words, as a part's, with nothing missing.
     pub fn of_words(w: &[u64]) -> ReportRead
-        ensures { result ≡ reportOfWords w.now }
+        ensures { result ≡ report_of_words w.now }
     {
         let PartRead::Part(six) = Part::of_words(w) else {
             return ReportRead::Fault;
@@ -116,7 +116,7 @@ impl Report {
 
     // How many bytes its text has.
     pub fn len(self) -> usize
-        ensures { result ≡ length (reportText self) }
+        ensures { result ≡ length (report_text self) }
     {
         let p = self.part();
         p.len()
@@ -124,8 +124,8 @@ impl Report {
 
     // Into a record that can hold it.
     pub fn write(self, out: &mut [u8], at: usize) -> usize
-        requires { (at + length (reportText self) ≤ length out.old) × (reportFits self ≡ true) }
-        ensures { Laid out.old at (reportText self) out.new result }
+        requires { (at + length (report_text self) ≤ length out.old) × (report_fits self ≡ true) }
+        ensures { Laid out.old at (report_text self) out.new result }
     {
         let p = self.part();
         p.write(out, at)

@@ -1,7 +1,7 @@
 // A request, `DXXX,`, a date or nothing, `,`: whoever asks, and the day from which on, or all.
 ghost use Rattle.std.specs.Prelude.{◌≡◌, true, ◌+◌, ◌≤◌, length};
 ghost use Rattle.laws.specs.Overlay.{Laid};
-ghost use Rattle.layout.specs.Request.{requestOf, requestOfWords, requestFits, requestText};
+ghost use Rattle.layout.specs.Request.{request_of, request_of_words, request_fits, request_text};
 
 use fields::code::{Code, CodeRead};
 use fields::date::{MaybeDate, MaybeDateRead};
@@ -20,7 +20,7 @@ pub enum RequestRead {
 
 impl Request {
     pub fn read(s: &[u8]) -> RequestRead
-        ensures { result ≡ requestOf s.now }
+        ensures { result ≡ request_of s.now }
     {
         if text::cuts(s, 44) != 2 {
             return RequestRead::Fault;
@@ -40,7 +40,7 @@ impl Request {
 
     // From two plain words: the network code, and a day's number, 65535 for none.
     pub fn of_words(w: &[u64]) -> RequestRead
-        ensures { result ≡ requestOfWords w.now }
+        ensures { result ≡ request_of_words w.now }
     {
         if w.len() != 2 {
             return RequestRead::Fault;
@@ -56,7 +56,7 @@ impl Request {
 
     // How many bytes its text has.
     pub fn len(self) -> usize
-        ensures { result ≡ length (requestText self) }
+        ensures { result ≡ length (request_text self) }
     {
         let from = self.from;
         from.len() + 6
@@ -64,8 +64,8 @@ impl Request {
 
     // Into a record that can hold it.
     pub fn write(self, out: &mut [u8], at: usize) -> usize
-        requires { (at + length (requestText self) ≤ length out.old) × (requestFits self ≡ true) }
-        ensures { Laid out.old at (requestText self) out.new result }
+        requires { (at + length (request_text self) ≤ length out.old) × (request_fits self ≡ true) }
+        ensures { Laid out.old at (request_text self) out.new result }
     {
         let code = self.code;
         let from = self.from;

@@ -1,7 +1,7 @@
 // The fields of a line read one after the other, each from behind the comma that ends the one before it.
 ghost use Rattle.std.specs.Prelude.{◌≡◌, drop};
-ghost use Rattle.fields.specs.Kind.{maybeKindOf};
-ghost use Rattle.layout.specs.Walk.{reachOf, digitsAt, number_at, dateAt, code_at};
+ghost use Rattle.fields.specs.Kind.{maybe_kind_of};
+ghost use Rattle.layout.specs.Walk.{reach_of, digits_at, number_at, date_at, code_at};
 
 use fields::code::{Code, CodeRead, MaybeCode};
 use fields::date::{DateRead, MaybeDate};
@@ -41,7 +41,7 @@ fn wide(b: u8) -> u64
 
 // How far a field of digits and its comma reach at most: 12 bytes, and not beyond the line.
 fn reach(s: &[u8], at: usize) -> usize
-    ensures { result ≡ reachOf s.now at }
+    ensures { result ≡ reach_of s.now at }
 {
     if s.len() <= at {
         return s.len();
@@ -54,7 +54,7 @@ fn reach(s: &[u8], at: usize) -> usize
 
 // What the digits are worth is known as they are passed.
 pub(crate) fn digits_at(s: &[u8], at: usize) -> DigitsAt
-    ensures { result ≡ digitsAt s.now at }
+    ensures { result ≡ digits_at s.now at }
 {
     let stop = reach(s, at);
     let mut n: u64 = 1;
@@ -106,7 +106,7 @@ pub(crate) fn number_at(first: Digits, s: &[u8], at: usize) -> NumberAt
 
 // A date has eight bytes, or none.
 pub(crate) fn date_at(s: &[u8], at: usize) -> DateAt
-    ensures { result ≡ dateAt s.now at }
+    ensures { result ≡ date_at s.now at }
 {
     if s.len() <= at {
         return DateAt::Fault;
@@ -156,7 +156,7 @@ pub(crate) fn code_at(s: &[u8], at: usize) -> CodeAt
 
 // All that is left is the kind, which no comma follows.
 pub(crate) fn kind_at(s: &[u8], at: usize) -> MaybeKindRead
-    ensures { result ≡ maybeKindOf (drop at s.now) }
+    ensures { result ≡ maybe_kind_of (drop at s.now) }
 {
     if s.len() <= at {
         return MaybeKindRead::MaybeKind(MaybeKind::Empty);

@@ -9,9 +9,9 @@ use Prim.Native.Nat.{ℕ, ◌+◌}
 use lib.ListN.{length}
 use Rattle.laws.specs.Lists.{keep, any, distinct, total}
 use Rattle.model.specs.Rules.{Event, Rules, Lawful}
-use Rattle.model.specs.Model.{Filed, events, journal, number_of, about, named, notLater, history, count_of, numbersOf}
+use Rattle.model.specs.Model.{Filed, events, journal, number_of, about, named, not_later, history, count_of, numbers_of}
 use Rattle.laws.proofs.Lists.{keep-none, keep_same, length-either}
-use Rattle.laws.proofs.Order.{length-inOrder}
+use Rattle.laws.proofs.Order.{length-in_order}
 
 -- none is there twice
 abbrev pub Apart : {A : Type 0} → (A → A → Bool) → List A → Type 0
@@ -50,7 +50,7 @@ module _ (R : Rules) (L : Lawful R) where
   unfolding count_of history
   count-listed files f ns h e =
       ap length (keep_same _ _ (journal files) (λ d m. e (number_of R d))) ∙ count-each (journal files) ns h
-      ∙ (λ k. total (λ (n : R.Number). sym (length-inOrder (notLater R) (keep (about R n) (journal files))) k) ns)
+      ∙ (λ k. total (λ (n : R.Number). sym (length-in_order (not_later R) (keep (about R n) (journal files))) k) ns)
 
   any-distinct : (n : R.Number) (ns : List R.Number) → any (R.same n) (distinct R.same ns) ≡ any (R.same n) ns
   unfolding any distinct
@@ -72,8 +72,8 @@ module _ (R : Rules) (L : Lawful R) where
       go true e ih = ih
       go false e ih = (any-distinct n ns ∙ e, ih)
 
-  pub count-histories : (files : List Filed) (f : Filed) → count_of R files f ≡ total (λ (n : R.Number). length (history R files n)) (numbersOf R f)
-  unfolding numbersOf named
+  pub count-histories : (files : List Filed) (f : Filed) → count_of R files f ≡ total (λ (n : R.Number). length (history R files n)) (numbers_of R f)
+  unfolding numbers_of named
   count-histories files f =
       count-listed files f (distinct R.same (map (number_of R) (events f))) (apart_distinct (map (number_of R) (events f)))
       (λ n. any-named n (events f) ∙ sym (any-distinct n (map (number_of R) (events f))))

@@ -7,9 +7,9 @@ use borrow.Author.Tests.{eqb-true, eq-eqb}
 use lib.Dec.{eqb}
 use lib.ListN.{get_or}
 use Rattle.laws.specs.Lists.{table, keep, any}
-use Rattle.laws.specs.Order.{inOrder, put, notAfter}
+use Rattle.laws.specs.Order.{in_order, put, not_after}
 use Rattle.model.specs.Rules.{Rules, Line, Lawful}
-use Rattle.model.specs.Model.{Filed, Store, Reached, start, file, started, filed, eventAt, events, journal, alike, about, named, history, entryOver, count_of, line_of, before, verdictOver, judged, verdictOf, entriesBefore}
+use Rattle.model.specs.Model.{Filed, Store, Reached, start, file, started, filed, event_at, events, journal, alike, about, named, history, entry_over, count_of, line_of, before, verdict_over, judged, verdict_of, entries_before}
 use Rattle.model.proofs.Stores.{Agree, any_order}
 
 -- a record names its first byte and puts its second behind the entry's digits; its verdict is the entry that it finds
@@ -30,7 +30,7 @@ lawful : Lawful toy
 lawful = record { same_true = eqb-true; same_refl = λ n. eq-eqb n n refl; class-kind = λ k l r s e. e }
 
 abbrev line : Line toy
-line = record { number = 5; owner = 1; setUp = 0 }
+line = record { number = 5; owner = 1; set_up = 0 }
 
 abbrev monday : Filed
 monday = record { kind = 1; publisher = 7; day = 100; records = (5 ∷ 2 ∷ []) ∷ (6 ∷ 9 ∷ []) ∷ (5 ∷ 3 ∷ []) ∷ [] }
@@ -49,7 +49,7 @@ there = filed toy (filed toy (filed toy (started toy (line ∷ [])) monday) late
 
 -- what it takes to compute, named once: to unfold `shown` is to unfold all of these
 shown : {A : Type 0} → A → A
-unfolding started filed zip_with named entryOver history journal flat_map events table any about keep inOrder put notAfter count_of verdictOf judged line_of verdictOver before entriesBefore
+unfolding started filed zip_with named entry_over history journal flat_map events table any about keep in_order put not_after count_of verdict_of judged line_of verdict_over before entries_before
 shown x = x
 
 -- the late file's record comes first, and the record that names another number is passed over
@@ -58,17 +58,17 @@ unfolding shown
 worked-late = refl
 
 -- before it came
-before-late : shown (entriesBefore toy here 2) ≡ 1234 ∷ []
+before-late : shown (entries_before toy here 2) ≡ 1234 ∷ []
 unfolding shown
 before-late = refl
 
 -- a verdict at its own point of the history, not on the newest entry
-verdict-between : shown (verdictOf toy here (eventAt monday 2)) ≡ 182
+verdict-between : shown (verdict_of toy here (event_at monday 2)) ≡ 182
 unfolding shown
 verdict-between = refl
 
 -- a number that is not in the table
-verdict-unknown : shown (verdictOf toy here (eventAt monday 1)) ≡ 12
+verdict-unknown : shown (verdict_of toy here (event_at monday 1)) ≡ 12
 unfolding shown
 verdict-unknown = refl
 

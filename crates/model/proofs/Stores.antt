@@ -18,32 +18,32 @@ use native.Mathlib.Omega.{arith}
 use lib.ListN.{length, length-append, length-map}
 use lib.Seq.{take_at}
 use Rattle.laws.specs.Lists.{keep, any}
-use Rattle.laws.specs.Order.{inOrder}
+use Rattle.laws.specs.Order.{in_order}
 use Rattle.model.specs.Rules.{Line, Event, Rules, Lawful}
-use Rattle.model.specs.Model.{Filed, Store, Reached, start, file, alike, noFileTwice, journal, about, named, history, entryOver, started, renewed, filed, number_of, entry_of, line_of, judged, verdictOf, entriesBefore, Later, now, then}
+use Rattle.model.specs.Model.{Filed, Store, Reached, start, file, alike, no_file_twice, journal, about, named, history, entry_over, started, renewed, filed, number_of, entry_of, line_of, judged, verdict_of, entries_before, Later, now, then}
 use Rattle.laws.proofs.Tests.{le-or-lt, and_left, and_right, not_yes}
 use Rattle.laws.proofs.Lists.{zip-map, none-in-front}
 use Rattle.model.proofs.Files.{Once, once_more, twice-more, renewed-worked, entry-of, entry-depends, history-any-order, entry-any-order, verdict-any-order}
 
 module _ (R : Rules) where
   -- without a file, the first entry
-  entry-none : (line : Line R) → R.first line ≡ entryOver R [] line
-  unfolding entryOver history journal flat_map keep inOrder
+  entry-none : (line : Line R) → R.first line ≡ entry_over R [] line
+  unfolding entry_over history journal flat_map keep in_order
   entry-none line = refl
 
   -- each entry is worked out over its history
-  pub entries-worked : {s : Store R} → Reached R s → s.entries ≡ map (entryOver R s.files) s.lines
+  pub entries-worked : {s : Store R} → Reached R s → s.entries ≡ map (entry_over R s.files) s.lines
   unfolding started filed
   entries-worked (start lines) = λ k. map (λ (line : Line R). entry-none line k) lines
   entries-worked (file {s = s} r f once) =
-      rw (entries-worked r) (zip-map (renewed R s.files f) (entryOver R s.files) (entryOver R (s.files ++ (f ∷ []))) (renewed-worked R s.files f) s.lines)
+      rw (entries-worked r) (zip-map (renewed R s.files f) (entry_over R s.files) (entry_over R (s.files ++ (f ∷ []))) (renewed-worked R s.files f) s.lines)
 
   pub entries-length : {s : Store R} → Reached R s → length s.entries ≡ length s.lines
-  entries-length {s} r = ap length (entries-worked r) ∙ length-map s.lines (entryOver R s.files)
+  entries-length {s} r = ap length (entries-worked r) ∙ length-map s.lines (entry_over R s.files)
 
   -- the same of a number: its entry is that of its line
-  pub entry-worked : {s : Store R} → Reached R s → (n : R.Number) → entry_of R s.lines s.entries n ≡ Option.map (entryOver R s.files) (line_of R s.lines n)
-  entry-worked {s} r n = rw (entries-worked r) (entry-of R (entryOver R s.files) s.lines n)
+  pub entry-worked : {s : Store R} → Reached R s → (n : R.Number) → entry_of R s.lines s.entries n ≡ Option.map (entry_over R s.files) (line_of R s.lines n)
+  entry-worked {s} r n = rw (entries-worked r) (entry-of R (entry_over R s.files) s.lines n)
 
 -- ---- filing leaves the entries of all other numbers as they are
 module _ (R : Rules) (L : Lawful R) where
@@ -73,8 +73,8 @@ module _ (R : Rules) where
   later-files {s} (then l f) = let r = later-files l in (r.0 ++ (f ∷ []), ap (λ (fs : List Filed). fs ++ (f ∷ [])) r.1 ∙ append_assoc s.files r.0 (f ∷ []))
 
   -- the first files, as many as the store had then, lead to the entries that it had
-  pub entries-before : {s t : Store R} → Reached R s → Later R s t → entriesBefore R t (length s.files) ≡ s.entries
-  unfolding entriesBefore
+  pub entries-before : {s t : Store R} → Reached R s → Later R s t → entries_before R t (length s.files) ≡ s.entries
+  unfolding entries_before
   entries-before {s} {t} r l =
       let rest = later-files l in
       rw (later-lines l, rest.1, take_at s.files rest.0 (length s.files) refl) (sym (entries-worked R r))
@@ -94,30 +94,30 @@ module _ (R : Rules) where
   reached-once (file {s = s} r h new) = once_more s.files h (reached-once r) new
 
 -- ---- a store without a file twice whose entries are the ones worked out is reached, however its entries came to be
-once-in-front : (a b : List Filed) → noFileTwice (a ++ b) ≡ true → noFileTwice a ≡ true
-unfolding noFileTwice
+once-in-front : (a b : List Filed) → no_file_twice (a ++ b) ≡ true → no_file_twice a ≡ true
+unfolding no_file_twice
 once-in-front [] b h = refl
 once-in-front (f ∷ a) b h =
-    rw (none-in-front (alike f) a b (not_yes (any (alike f) (a ++ b)) (and_left (not (any (alike f) (a ++ b))) (noFileTwice (a ++ b)) h)))
-    (once-in-front a b (and_right (not (any (alike f) (a ++ b))) (noFileTwice (a ++ b)) h))
+    rw (none-in-front (alike f) a b (not_yes (any (alike f) (a ++ b)) (and_left (not (any (alike f) (a ++ b))) (no_file_twice (a ++ b)) h)))
+    (once-in-front a b (and_right (not (any (alike f) (a ++ b))) (no_file_twice (a ++ b)) h))
 
 module _ (R : Rules) where
   -- filing these files, one after the other
-  reach-on : {s : Store R} → Reached R s → (fs : List Filed) → noFileTwice (s.files ++ fs) ≡ true → (t : Store R) × Reached R t × (t.lines ≡ s.lines) × (t.files ≡ s.files ++ fs)
+  reach-on : {s : Store R} → Reached R s → (fs : List Filed) → no_file_twice (s.files ++ fs) ≡ true → (t : Store R) × Reached R t × (t.lines ≡ s.lines) × (t.files ≡ s.files ++ fs)
   unfolding filed
   reach-on {s} r [] h = (s, r, refl, sym (append-nil s.files))
   reach-on {s} r (f ∷ fs) h =
       let e : (s.files ++ (f ∷ [])) ++ fs ≡ s.files ++ (f ∷ fs) = append_assoc s.files (f ∷ []) fs in
-      let once : noFileTwice ((s.files ++ (f ∷ [])) ++ fs) ≡ true = ap noFileTwice e ∙ h in
-      let new : any (alike f) s.files ≡ false = not_yes _ (and_right (noFileTwice s.files) _ (sym (twice-more s.files f) ∙ once-in-front (s.files ++ (f ∷ [])) fs once)) in
+      let once : no_file_twice ((s.files ++ (f ∷ [])) ++ fs) ≡ true = ap no_file_twice e ∙ h in
+      let new : any (alike f) s.files ≡ false = not_yes _ (and_right (no_file_twice s.files) _ (sym (twice-more s.files f) ∙ once-in-front (s.files ++ (f ∷ [])) fs once)) in
       let w = reach-on (file r f new) fs once in
       (w.0, w.1, w.2, w.3 ∙ e)
 
-  pub reached-worked : (lines : List (Line R)) (files : List Filed) → noFileTwice files ≡ true → Reached R (record { lines = lines; files = files; entries = map (entryOver R files) lines })
+  pub reached-worked : (lines : List (Line R)) (files : List Filed) → no_file_twice files ≡ true → Reached R (record { lines = lines; files = files; entries = map (entry_over R files) lines })
   unfolding started
   reached-worked lines files once =
       let w = reach-on (start lines) files once in
-      let worked : w.0.entries ≡ map (entryOver R files) lines = entries-worked R w.1 ∙ (λ k. map (entryOver R (w.3 k)) (w.2 k)) in
+      let worked : w.0.entries ≡ map (entry_over R files) lines = entries-worked R w.1 ∙ (λ k. map (entry_over R (w.3 k)) (w.2 k)) in
       subst (Reached R) (λ k. record { lines = w.2 k; files = w.3 k; entries = worked k }) w.1
 
 -- ---- what the entry of a number depends on: its line and the records that name it, in two stores that may differ in all else
@@ -135,7 +135,7 @@ module _ (R : Rules) (L : Lawful R) where
   pub number-depends : {s t : Store R} → Reached R s → Reached R t → (n : R.Number) → line_of R s.lines n ≡ line_of R t.lines n → Perm (keep (about R n) (journal s.files)) (keep (about R n) (journal t.files)) → entry_of R s.lines s.entries n ≡ entry_of R t.lines t.entries n
   number-depends {s} {t} r q n lines p = entry-worked R r n ∙ rw lines (go (line_of R t.lines n) refl) ∙ sym (entry-worked R q n)
     where
-      go : (l : Option (Line R)) → line_of R t.lines n ≡ l → Option.map (entryOver R s.files) l ≡ Option.map (entryOver R t.files) l
+      go : (l : Option (Line R)) → line_of R t.lines n ≡ l → Option.map (entry_over R s.files) l ≡ Option.map (entry_over R t.files) l
       go none e = refl
       go (some line) e =
           let own : n ≡ line.number = sym (line-number t.lines n line e) in
@@ -145,10 +145,10 @@ module _ (R : Rules) (L : Lawful R) where
 pub record Agree {R : Rules} (s t : Store R) : Type 0 where
   pub entries : s.entries ≡ t.entries
   pub histories : (n : R.Number) → history R s.files n ≡ history R t.files n
-  pub verdicts : (e : Event) → verdictOf R s e ≡ verdictOf R t e
+  pub verdicts : (e : Event) → verdict_of R s e ≡ verdict_of R t e
 
 pub any_order : (R : Rules) → Lawful R → {s t : Store R} → Reached R s → Reached R t → s.lines ≡ t.lines → Perm s.files t.files → Agree s t
-unfolding verdictOf judged
+unfolding verdict_of judged
 any_order R L {s} {t} r q table p = record {
   entries = entries-worked R r ∙ (λ k. map (λ (line : Line R). entry-any-order R L s.files once t.files p line k) (table k)) ∙ sym (entries-worked R q);
   histories = history-any-order R L s.files once t.files p;

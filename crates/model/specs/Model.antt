@@ -4,7 +4,7 @@ use Rattle.std.specs.Prelude.{ℕ, ◌≡◌, Bool, true, false, cond, not, ◌&
 use mathlib.Core.List.{List, [], ◌∷◌, ◌++◌, map, flat_map, zip_with, foldl}
 use Rattle.std.proofs.Math.Option.{Option, some, none}
 use Rattle.laws.specs.Lists.{table, keep, any, distinct}
-use Rattle.laws.specs.Order.{inOrder, notAfter}
+use Rattle.laws.specs.Order.{in_order, not_after}
 use Rattle.model.specs.Rules.{Line, Event, Rules}
 
 -- ---- files and journals
@@ -17,29 +17,29 @@ pub record Filed : Type 0 where
   pub records : List (List ℕ)
 
 -- the record at a place of a file, counted from 0
-abbrev pub eventAt : Filed → ℕ → Event
-eventAt f i = record { kind = f.kind; publisher = f.publisher; day = f.day; place = i; bytes = get_or f.records i [] }
+abbrev pub event_at : Filed → ℕ → Event
+event_at f i = record { kind = f.kind; publisher = f.publisher; day = f.day; place = i; bytes = get_or f.records i [] }
 
 -- the records of a file, place by place
 unfoldable pub events : Filed → List Event
-events f = table (length f.records) (eventAt f)
+events f = table (length f.records) (event_at f)
 
 -- the records of all files, file by file
 unfoldable pub journal : List Filed → List Event
 journal files = flat_map events files
 
 -- those of the files of one kind: the regular journal is that of the default files, the correction journal that of the correction files
-unfoldable pub journalOf : ℕ → List Filed → List Event
-journalOf kind files = journal (keep (λ (f : Filed). eqb f.kind kind) files)
+unfoldable pub journal_of : ℕ → List Filed → List Event
+journal_of kind files = journal (keep (λ (f : Filed). eqb f.kind kind) files)
 
 -- the same publisher, day and kind
 unfoldable pub alike : Filed → Filed → Bool
 alike f g = eqb f.publisher g.publisher && (eqb f.day g.day && eqb f.kind g.kind)
 
 -- no file is alike one behind it
-unfoldable pub noFileTwice : List Filed → Bool
-noFileTwice [] = true
-noFileTwice (f ∷ fs) = not (any (alike f) fs) && noFileTwice fs
+unfoldable pub no_file_twice : List Filed → Bool
+no_file_twice [] = true
+no_file_twice (f ∷ fs) = not (any (alike f) fs) && no_file_twice fs
 
 -- ---- the history of a number, the entry that it leads to, the verdicts on the way
 
@@ -61,39 +61,39 @@ module _ (R : Rules) where
   key e = e.day ∷ R.class e.kind e.bytes ∷ e.publisher ∷ e.place ∷ []
 
   -- e is processed before d, or has the same place in the processing order
-  abbrev pub notLater : Event → Event → Bool
-  notLater e d = notAfter (key e) (key d)
+  abbrev pub not_later : Event → Event → Bool
+  not_later e d = not_after (key e) (key d)
 
   -- the records that name the number, in processing order
   unfoldable pub history : List Filed → R.Number → List Event
-  history files n = inOrder notLater (keep (about n) (journal files))
+  history files n = in_order not_later (keep (about n) (journal files))
 
   -- the entry that records lead to, processed one after the other: from some entry on, and from the first one on
-  abbrev pub workedFrom : Line R → R.Entry → List Event → R.Entry
-  workedFrom line = foldl (R.step line)
+  abbrev pub worked_from : Line R → R.Entry → List Event → R.Entry
+  worked_from line = foldl (R.step line)
 
   abbrev pub worked : Line R → List Event → R.Entry
-  worked line = workedFrom line (R.first line)
+  worked line = worked_from line (R.first line)
 
   -- the entry of a line, worked out afresh from these files
-  unfoldable pub entryOver : List Filed → Line R → R.Entry
-  entryOver files line = worked line (history files line.number)
+  unfoldable pub entry_over : List Filed → Line R → R.Entry
+  entry_over files line = worked line (history files line.number)
 
   -- of these records, those that are processed before e
   unfoldable pub before : Event → List Event → List Event
-  before e = keep (λ (d : Event). not (notLater e d))
+  before e = keep (λ (d : Event). not (not_later e d))
 
   -- the verdict on a record that names the line's number: on the entry at its point of the history, not on the newest one
-  unfoldable pub verdictOver : List Filed → Line R → Event → ℕ
-  verdictOver files line e = R.verdict line (worked line (before e (history files line.number))) e
+  unfoldable pub verdict_over : List Filed → Line R → Event → ℕ
+  verdict_over files line e = R.verdict line (worked line (before e (history files line.number))) e
 
   -- the count of answer 0: the records of these files, the new one among them, whose number is named by some record of the new file
   unfoldable pub count_of : List Filed → Filed → ℕ
   count_of files f = length (keep (λ (e : Event). named f (number_of e)) (journal files))
 
   -- the numbers that a file names, each once
-  unfoldable pub numbersOf : Filed → List R.Number
-  numbersOf f = distinct R.same (map number_of (events f))
+  unfoldable pub numbers_of : Filed → List R.Number
+  numbers_of f = distinct R.same (map number_of (events f))
 
 -- ---- the store: the number table, the files in order of arrival, and beside each line of the table its entry
 
@@ -109,7 +109,7 @@ module _ (R : Rules) where
 
   -- a line's entry after one more file: worked out afresh if the file names its number, else as it was
   abbrev pub renewed : List Filed → Filed → Line R → R.Entry → R.Entry
-  renewed files f line entry = cond (named R f line.number) (entryOver R (files ++ (f ∷ [])) line) entry
+  renewed files f line entry = cond (named R f line.number) (entry_over R (files ++ (f ∷ [])) line) entry
 
   -- filing: the file comes behind the others, and each entry is renewed
   unfoldable pub filed : Store R → Filed → Store R
@@ -144,11 +144,11 @@ module _ (R : Rules) where
   -- the verdict on a record, given the line of its number or that there is none
   unfoldable pub judged : List Filed → Event → Option (Line R) → ℕ
   judged files e none = R.unknown e
-  judged files e (some line) = verdictOver R files line e
+  judged files e (some line) = verdict_over R files line e
 
-  unfoldable pub verdictOf : Store R → Event → ℕ
-  verdictOf s e = judged s.files e (line_of s.lines (number_of R e))
+  unfoldable pub verdict_of : Store R → Event → ℕ
+  verdict_of s e = judged s.files e (line_of s.lines (number_of R e))
 
   -- the entries before the file at n arrived: those that the first n files lead to
-  unfoldable pub entriesBefore : Store R → ℕ → List R.Entry
-  entriesBefore s n = map (entryOver R (take n s.files)) s.lines
+  unfoldable pub entries_before : Store R → ℕ → List R.Entry
+  entries_before s n = map (entry_over R (take n s.files)) s.lines

@@ -5,7 +5,7 @@ use Rattle.records.specs.declared.names.kind.FileKind.{FileKind}
 use Rattle.records.specs.declared.names.name.NameRead.{NameRead}
 use Rattle.store.specs.Reads.{Buffers}
 use Rattle.filing.specs.declared.entering.kind.Filable.{Filable}
-use Rattle.commands.specs.Given.{nameIn}
+use Rattle.commands.specs.Given.{name_in}
 use Rattle.offers.specs.declared.kept.Told.{Told}
 use Rattle.offers.specs.declared.offer.Heading.{Heading}
 use Rattle.offers.specs.declared.offer.Offered.{Offered}
@@ -16,18 +16,18 @@ abbrev pub heading : Filable → CalendarDays → Heading
 heading kind day = record { kind = kind; day = day; right = true }
 
 -- of any other name the day is outside the calendar
-abbrev pub noHeading : Heading
-noHeading = record { kind = Filable.Default; day = record { 0 = 65535 }; right = false }
+abbrev pub no_heading : Heading
+no_heading = record { kind = Filable.Default; day = record { 0 = 65535 }; right = false }
 
-abbrev pub headingBy : FileKind → CalendarDays → Heading
-headingBy FileKind.Default day = heading Filable.Default day
-headingBy FileKind.Correction day = heading Filable.Correction day
-headingBy FileKind.Request day = noHeading
-headingBy FileKind.Response day = noHeading
+abbrev pub heading_by : FileKind → CalendarDays → Heading
+heading_by FileKind.Default day = heading Filable.Default day
+heading_by FileKind.Correction day = heading Filable.Correction day
+heading_by FileKind.Request day = no_heading
+heading_by FileKind.Response day = no_heading
 
-abbrev pub headingOf : NameRead → Heading
-headingOf (NameRead.Name name) = headingBy name.kind name.day
-headingOf NameRead.Fault = noHeading
+abbrev pub heading_of : NameRead → Heading
+heading_of (NameRead.Name name) = heading_by name.kind name.day
+heading_of NameRead.Fault = no_heading
 
 -- what is told is what filing answers to the bytes that were read
 abbrev pub FilesFrom : Buffers → Heading → List ℕ → List ℕ → Told → Buffers → Type 0
@@ -35,5 +35,5 @@ FilesFrom b h publisher text told after = (n : ℕ) × FilesTold b h.kind publis
 
 -- of a path, with the kind and the day that its name tells; where the file can't be read, nothing changes
 abbrev pub Offers : Buffers → List ℕ → List ℕ → List ℕ → Offered → Buffers → Type 0
-Offers b publisher path text (Offered.Answer told) after = FilesFrom b (headingOf (nameIn path)) publisher text told after
+Offers b publisher path text (Offered.Answer told) after = FilesFrom b (heading_of (name_in path)) publisher text told after
 Offers b publisher path text Offered.Unreadable after = after ≡ b

@@ -2,7 +2,7 @@
 ghost use Rattle.std.specs.Prelude.{◌≡◌};
 ghost use Rattle.store.specs.Reads.{lent};
 ghost use Rattle.filing.specs.declared.checking.answer.Answer.TheVariants.{Fault};
-ghost use Rattle.offers.specs.Filed.{plainly, toldOf, FilesTold};
+ghost use Rattle.offers.specs.Filed.{plainly, told_of, FilesTold};
 
 use crate::kept::Told;
 use calendar::dates::CalendarDays;
@@ -24,7 +24,7 @@ fn plain(a: Answer, value: usize) -> Told
 }
 
 fn fault(path: &[u8], kind: Filable, text: &[u8], at: FaultPlace, cause: Cause) -> Told
-    ensures { result ≡ toldOf (Fault at cause) }
+    ensures { result ≡ told_of (Fault at cause) }
 {
     words::fault::refused(path, kind.file_kind(), text, at, cause);
     Told {
@@ -36,7 +36,7 @@ fn fault(path: &[u8], kind: Filable, text: &[u8], at: FaultPlace, cause: Cause) 
 }
 
 fn as_told(path: &[u8], kind: Filable, text: &[u8], a: Answer) -> Told
-    ensures { result ≡ toldOf a }
+    ensures { result ≡ told_of a }
 {
     match a {
         Answer::Filed(count) => plain(a, count),

@@ -1,7 +1,7 @@
 // The answers, kept until what was filed is on the disk. (There is no slice of structs.)
 
 ghost use Rattle.std.specs.Prelude.{◌≡◌, min};
-ghost use Rattle.offers.specs.Kept.{keptWith, kept_at};
+ghost use Rattle.offers.specs.Kept.{kept_with, kept_at};
 
 // As many words as the answers of one command take, four each.
 pub const KEPT: usize = 65536;
@@ -32,7 +32,7 @@ fn narrow(n: usize) -> u8
 
 // Keeps the answer to the offer `k`.
 pub fn keep(kept: &mut [usize; KEPT], k: usize, told: Told)
-    ensures { kept.new ≡ keptWith kept.old k told }
+    ensures { kept.new ≡ kept_with kept.old k told }
 {
     if crate::MOST <= k {
         return;

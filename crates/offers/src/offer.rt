@@ -1,8 +1,8 @@
 // One file offered: read where publisher and name are right, and filed.
 ghost use Rattle.std.specs.Prelude.{◌≡◌};
 ghost use Rattle.store.specs.Reads.{lent};
-ghost use Rattle.commands.specs.Given.{nameIn};
-ghost use Rattle.offers.specs.Offer.{noHeading, headingBy, headingOf, FilesFrom, Offers};
+ghost use Rattle.commands.specs.Given.{name_in};
+ghost use Rattle.offers.specs.Offer.{no_heading, heading_by, heading_of, FilesFrom, Offers};
 
 use crate::filed;
 use crate::kept::Told;
@@ -32,7 +32,7 @@ struct Heading {
 }
 
 fn no_heading() -> Heading
-    ensures { result ≡ noHeading }
+    ensures { result ≡ no_heading }
 {
     Heading {
         kind: Filable::Default,
@@ -42,7 +42,7 @@ fn no_heading() -> Heading
 }
 
 fn heading_by(kind: FileKind, day: CalendarDays) -> Heading
-    ensures { result ≡ headingBy kind day }
+    ensures { result ≡ heading_by kind day }
 {
     match kind {
         FileKind::Default => Heading {
@@ -61,7 +61,7 @@ fn heading_by(kind: FileKind, day: CalendarDays) -> Heading
 }
 
 fn heading_of(path: &[u8]) -> Heading
-    ensures { result ≡ headingOf (nameIn path.now) }
+    ensures { result ≡ heading_of (name_in path.now) }
 {
     let read = given::name_of(path);
     match read {

@@ -6,8 +6,8 @@ use Rattle.filing.specs.declared.checking.check.Checked.{Checked}
 use Rattle.filing.specs.declared.checking.check.Checked.TheVariants.{Refused, Passed}
 
 -- 0 default, any other correction
-unfoldable pub filableBy : ℕ → Filable
-filableBy kind = cond (eqb kind 0) Default Correction
+unfoldable pub filable_by : ℕ → Filable
+filable_by kind = cond (eqb kind 0) Default Correction
 
 -- how many records a file has that passed; 0 where it did not
 abbrev pub passed : Checked → ℕ

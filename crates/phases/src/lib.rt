@@ -2,17 +2,17 @@
 // whoever files a file calls `dagskimra_file` of crate `capi`.
 ghost use Rattle.std.specs.Prelude.{◌≡◌, true, map, ◌≤◌, ◌<◌, length};
 ghost use Rattle.fields.specs.Code.{code_of};
-ghost use Rattle.files.specs.Judged.{judgedFile};
+ghost use Rattle.files.specs.Judged.{judged_file};
 ghost use Rattle.model.specs.Model.{count_of};
-ghost use Rattle.store.specs.journals.Files.{fileCount};
-ghost use Rattle.store.specs.journals.Reads.{readFiles};
+ghost use Rattle.store.specs.journals.Files.{file_count};
+ghost use Rattle.store.specs.journals.Reads.{read_files};
 ghost use Rattle.store.specs.numbers.Lines.{lines_of};
-ghost use Rattle.store.specs.Reads.{lent, isReadable, goodFiles, tableLine};
+ghost use Rattle.store.specs.Reads.{lent, is_readable, good_files, table_line};
 ghost use Rattle.rules.specs.Rules.{rules};
-ghost use Rattle.filing.specs.entering.Entering.{fileKind, filedAs, Ready, Joined};
-ghost use Rattle.filing.specs.fitting.Renewing.{lastFiled, renewedEntries};
+ghost use Rattle.filing.specs.entering.Entering.{file_kind, filed_as, Ready, Joined};
+ghost use Rattle.filing.specs.fitting.Renewing.{last_filed, renewed_entries};
 ghost use Rattle.filing.specs.checking.Checks.{checked};
-ghost use Rattle.phases.specs.Phases.{filableBy, passed};
+ghost use Rattle.phases.specs.Phases.{filable_by, passed};
 
 use calendar::dates::CalendarDays;
 use fields::code::Code;
@@ -24,7 +24,7 @@ use filing::renewing::renew;
 
 // The kind that is filed: 0 default, any other number correction.
 fn filable_by(kind: u8) -> Filable
-    ensures { result ≡ filableBy kind }
+    ensures { result ≡ filable_by kind }
 {
     if kind == 0 {
         return Filable::Default;
@@ -51,8 +51,8 @@ pub extern "C" fn dagskimra_phase_check(
     day: u16,
     text: &[u8],
 ) -> u64
-    requires { (8194 ≤ length files.now) × (goodFiles files.now ≡ true) }
-    ensures { result ≡ passed (checked files.now (filableBy kind) (code_of publisher.now) day (judgedFile (fileKind (filableBy kind)) text.now)) }
+    requires { (8194 ≤ length files.now) × (good_files files.now ≡ true) }
+    ensures { result ≡ passed (checked files.now (filable_by kind) (code_of publisher.now) day (judged_file (file_kind (filable_by kind)) text.now)) }
 {
     let which = filable_by(kind);
     let c = check::check(files, which, publisher, CalendarDays(day), text);
@@ -71,8 +71,8 @@ pub extern "C" fn dagskimra_phase_enter(
     text: &[u8],
     m: usize,
 )
-    requires { Ready files.old regular.old corrections.old (filableBy kind) text.now m }
-    ensures { Joined (filedAs (filableBy kind) publisher day text.now) files.old regular.old corrections.old files.new regular.new corrections.new }
+    requires { Ready files.old regular.old corrections.old (filable_by kind) text.now m }
+    ensures { Joined (filed_as (filable_by kind) publisher day text.now) files.old regular.old corrections.old files.new regular.new corrections.new }
 {
     let which = filable_by(kind);
     enter::enter(
@@ -96,10 +96,10 @@ pub extern "C" fn dagskimra_phase_renew<'a>(
     corrections: &'a [u8],
     entries: &mut [u8],
 ) -> usize
-    requires entries_value { isReadable (lent table.now files.now regular.now corrections.now entries.old) ≡ true }
-    requires files_nonzero { 0 < fileCount files.now }
-    ensures value { result ≡ count_of rules (readFiles files.now regular.now corrections.now) (lastFiled (readFiles files.now regular.now corrections.now)) }
-    ensures entries_after { entries.new ≡ renewedEntries (readFiles files.now regular.now corrections.now) (lastFiled (readFiles files.now regular.now corrections.now)) (map tableLine (lines_of table.now)) entries.old }
+    requires entries_value { is_readable (lent table.now files.now regular.now corrections.now entries.old) ≡ true }
+    requires files_nonzero { 0 < file_count files.now }
+    ensures value { result ≡ count_of rules (read_files files.now regular.now corrections.now) (last_filed (read_files files.now regular.now corrections.now)) }
+    ensures entries_after { entries.new ≡ renewed_entries (read_files files.now regular.now corrections.now) (last_filed (read_files files.now regular.now corrections.now)) (map table_line (lines_of table.now)) entries.old }
 {
     renew::renew(table, files, regular, corrections, entries)
 }

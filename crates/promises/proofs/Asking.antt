@@ -15,37 +15,37 @@ use Rattle.entries.specs.declared.entry.Place.{Place}
 use Rattle.entries.specs.declared.entry.Entry.{Entry}
 use Rattle.verdict.specs.declared.step.Why.{Why}
 use Rattle.model.specs.Rules.{TableLine, Event}
-use Rattle.model.specs.Model.{Reached, journal, journalOf, about, entryOver, entry_of, line_of, verdictOf}
+use Rattle.model.specs.Model.{Reached, journal, journal_of, about, entry_over, entry_of, line_of, verdict_of}
 use Rattle.rules.specs.Rules.{rules, standings}
 use Rattle.rules.proofs.Promises.{entry-worked-afresh, what-one-number-depends-on}
 use Rattle.store.specs.declared.journals.records.Journal.{Journal}
 use Rattle.store.specs.declared.journals.records.Journal.TheVariants.{Regular}
-use Rattle.store.specs.journals.Records.{shownIn}
-use Rattle.store.specs.numbers.Lines.{lineCount}
-use Rattle.store.specs.entry_slots.Entries.{entryAt}
-use Rattle.store.specs.Reads.{Buffers, Held, held, isReadable, reads}
+use Rattle.store.specs.journals.Records.{shown_in}
+use Rattle.store.specs.numbers.Lines.{line_count}
+use Rattle.store.specs.entry_slots.Entries.{entry_at}
+use Rattle.store.specs.Reads.{Buffers, Held, held, is_readable, reads}
 use Rattle.store.proofs.Checks.{reads-some}
 use Rattle.filing.specs.Effect.{store_of}
 use Rattle.asking.specs.declared.pairs.WhyAnswer.{WhyAnswer}
 use Rattle.asking.specs.declared.answering.figure.FigureAnswer.{FigureAnswer}
 use Rattle.asking.specs.Items.{item_at}
-use Rattle.asking.specs.Standing.{heldAs, entryIn, entryBefore}
-use Rattle.asking.specs.Why.{storedAs, pair_of, whyOn, whyIn, firstPlace, secondPlace, part_at}
-use Rattle.asking.specs.Record.{kind_of, askedIn}
-use Rattle.asking.specs.answering.Figure.{howMany, figureAsked}
-use Rattle.asking.specs.answering.Whole.{entryAsked, beforeAsked, whyAsked, recordAsked}
+use Rattle.asking.specs.Standing.{held_as, entry_in, entry_before}
+use Rattle.asking.specs.Why.{stored_as, pair_of, why_on, why_in, first_place, second_place, part_at}
+use Rattle.asking.specs.Record.{kind_of, asked_in}
+use Rattle.asking.specs.answering.Figure.{how_many, figure_asked}
+use Rattle.asking.specs.answering.Whole.{entry_asked, before_asked, why_asked, record_asked}
 use Rattle.asking.proofs.answering.Figures.{unlike, zip-table, figure-nothing}
 use Rattle.asking.proofs.answering.Parts.{part_bytes}
 use Rattle.asking.proofs.answering.Promises.{NoneShown, PairShown, why-promise, none-exactly, verdict-promise, figure-promise}
 use Rattle.asking.proofs.answering.Readables.{showing}
-use Rattle.reworking.specs.Listed.{readsOtherwise}
-use Rattle.promises.specs.Numbers.{whySaid, recordNumber}
-use Rattle.promises.specs.InUse.{withEntries, InUse}
-use Rattle.promises.specs.Asked.{NoneConfirmed, whyOf, entryShown, SaysNone, ShowsPair, ShowsRecord}
+use Rattle.reworking.specs.Listed.{reads_otherwise}
+use Rattle.promises.specs.Numbers.{why_said, record_number}
+use Rattle.promises.specs.InUse.{with_entries, InUse}
+use Rattle.promises.specs.Asked.{NoneConfirmed, why_of, entry_shown, SaysNone, ShowsPair, ShowsRecord}
 use Rattle.promises.proofs.Stores.{in-use-reached}
 
 module _ {b : Buffers} (u : InUse b) where
-  whole : isReadable b ≡ true
+  whole : is_readable b ≡ true
   whole = (in-use-reached u).0
 
   reached : Reached rules (store_of (held b))
@@ -55,18 +55,18 @@ module _ {b : Buffers} (u : InUse b) where
   in-use-reads = reads-some b whole
 
   -- ---- what is asked of the store is asked of what the buffers hold
-  why-is : (x : Number) → whyOf b x ≡ whyIn (held b).lines (held b).files x
-  why-is x = ap (λ (h : Option Held). whyAsked h (NumberRead.Number x)) in-use-reads
+  why-is : (x : Number) → why_of b x ≡ why_in (held b).lines (held b).files x
+  why-is x = ap (λ (h : Option Held). why_asked h (NumberRead.Number x)) in-use-reads
 
-  entry-is : (x : Number) → entryAsked (reads b) (NumberRead.Number x) ≡ heldAs (entry_of rules (held b).lines (held b).entries x)
-  unfolding entryIn
-  entry-is x = ap (λ (h : Option Held). entryAsked h (NumberRead.Number x)) in-use-reads
+  entry-is : (x : Number) → entry_asked (reads b) (NumberRead.Number x) ≡ held_as (entry_of rules (held b).lines (held b).entries x)
+  unfolding entry_in
+  entry-is x = ap (λ (h : Option Held). entry_asked h (NumberRead.Number x)) in-use-reads
 
-  entry_found : (x : Number) (e : Entry) → entry_of rules (held b).lines (held b).entries x ≡ some e → entryShown b x e
-  entry_found x e q = entry-is x ∙ ap heldAs q
+  entry_found : (x : Number) (e : Entry) → entry_of rules (held b).lines (held b).entries x ≡ some e → entry_shown b x e
+  entry_found x e q = entry-is x ∙ ap held_as q
 
   -- the part at a place of a journal is the record there
-  part-is : (which : Journal) (place : ℕ) (e : Event) → item_at (journalOf (kind_of which) (held b).files) place ≡ some e → shownIn which b.regular b.corrections 8192 place ≡ e.bytes
+  part-is : (which : Journal) (place : ℕ) (e : Event) → item_at (journal_of (kind_of which) (held b).files) place ≡ some e → shown_in which b.regular b.corrections 8192 place ≡ e.bytes
   unfolding held
   part-is which place e q = part_bytes b.table b.files b.regular b.corrections (showing b.table b.files b.regular b.corrections b.entries whole) which place e q
 
@@ -84,7 +84,7 @@ module _ {b : Buffers} (u : InUse b) where
 
     pair-said : PairShown (store_of (held b)) x line → ShowsPair b x line
     pair-said w =
-        let shown : whyOf b x ≡ WhyAnswer.Pair (storedAs (held b).files w.first) (storedAs (held b).files w.second) = why-is x ∙ w.shown in record {
+        let shown : why_of b x ≡ WhyAnswer.Pair (stored_as (held b).files w.first) (stored_as (held b).files w.second) = why-is x ∙ w.shown in record {
           first = w.first;
           second = w.second;
           shown = shown;
@@ -94,8 +94,8 @@ module _ {b : Buffers} (u : InUse b) where
           first-record = w.first-record;
           second-record = w.second-record;
           in_order = w.in_order;
-          first_part = ap (λ (a : WhyAnswer). part_at b.regular (firstPlace a)) shown ∙ part-is Regular (storedAs (held b).files w.first).place w.first-record.event w.first-stored;
-          second-part = ap (λ (a : WhyAnswer). part_at b.regular (secondPlace a)) shown ∙ part-is Regular (storedAs (held b).files w.second).place w.second-record.event w.second-stored;
+          first_part = ap (λ (a : WhyAnswer). part_at b.regular (first_place a)) shown ∙ part-is Regular (stored_as (held b).files w.first).place w.first-record.event w.first-stored;
+          second-part = ap (λ (a : WhyAnswer). part_at b.regular (second_place a)) shown ∙ part-is Regular (stored_as (held b).files w.second).place w.second-record.event w.second-stored;
           first-publisher = sym (ap (λ (c : Code). c.0) w.first-record.publisher);
           second-publisher = sym (ap (λ (c : Code). c.0) w.second-record.publisher);
           first-day = ap (λ (p : Place). p.day.0) w.first-record.placed;
@@ -109,68 +109,68 @@ module _ {b : Buffers} (u : InUse b) where
     pub why-says : SaysNone b x line ⊎ ShowsPair b x line
     why-says = ⊎_elim (λ w. inl (none_said w)) (λ w. inr (pair-said w)) (why-promise reached x line listed)
 
-    pub none-said-exactly : (whyOf b x ≡ WhyAnswer.Nothing → NoneConfirmed b line) × (NoneConfirmed b line → whyOf b x ≡ WhyAnswer.Nothing)
+    pub none-said-exactly : (why_of b x ≡ WhyAnswer.Nothing → NoneConfirmed b line) × (NoneConfirmed b line → why_of b x ≡ WhyAnswer.Nothing)
     none-said-exactly = let w = none-exactly reached x line listed in (λ e. w.0 (sym (why-is x) ∙ e), λ h. why-is x ∙ w.1 h)
 
-  pub unknown-said-exactly : (x : Number) → (whySaid (whyOf b x) ≡ 12 → line_of rules (held b).lines x ≡ none) × (line_of rules (held b).lines x ≡ none → whySaid (whyOf b x) ≡ 12)
-  unfolding whyIn
+  pub unknown-said-exactly : (x : Number) → (why_said (why_of b x) ≡ 12 → line_of rules (held b).lines x ≡ none) × (line_of rules (held b).lines x ≡ none → why_said (why_of b x) ≡ 12)
+  unfolding why_in
   unknown-said-exactly x = go (line_of rules (held b).lines x) refl
     where
-      never : (w : Why) → whySaid (pair_of (held b).files w) ≡ 12 → ⊥
+      never : (w : Why) → why_said (pair_of (held b).files w) ≡ 12 → ⊥
       never Why.Nothing e = omega (arith, e)
       never (Why.Pair p q) e = omega (arith, e)
 
-      go : (l : Option (TableLine Number)) → line_of rules (held b).lines x ≡ l → (whySaid (whyOf b x) ≡ 12 → l ≡ none) × (l ≡ none → whySaid (whyOf b x) ≡ 12)
-      go none q = (λ e. refl, λ e. ap whySaid (why-is x ∙ ap (whyOn (held b).files) q))
+      go : (l : Option (TableLine Number)) → line_of rules (held b).lines x ≡ l → (why_said (why_of b x) ≡ 12 → l ≡ none) × (l ≡ none → why_said (why_of b x) ≡ 12)
+      go none q = (λ e. refl, λ e. ap why_said (why-is x ∙ ap (why_on (held b).files) q))
       go (some line) q = (
-        λ e. absurd (never (entryOver standings (held b).files line).why (sym (ap whySaid (why-is x ∙ ap (whyOn (held b).files) q)) ∙ e)),
+        λ e. absurd (never (entry_over standings (held b).files line).why (sym (ap why_said (why-is x ∙ ap (why_on (held b).files) q)) ∙ e)),
         λ e. absurd (let z : ◌≡◌ {A = ℕ} 0 1 = cc in omega arith),
       )
 
   -- ---- a record
   module _ (which : Journal) (place : ℕ) where
-    pub record-said : (e : Event) → item_at (journalOf (kind_of which) (held b).files) place ≡ some e → ShowsRecord b which place e
-    unfolding askedIn
+    pub record-said : (e : Event) → item_at (journal_of (kind_of which) (held b).files) place ≡ some e → ShowsRecord b which place e
+    unfolding asked_in
     record-said e q = record {
       answers = rw (in-use-reads, q);
       publisher = rw (in-use-reads, q);
       day = rw (in-use-reads, q);
       in-file = rw (in-use-reads, q);
       bytes = rw (in-use-reads, q) (part-is which place e q);
-      verdict = rw (in-use-reads, q) (unfold verdictOf in verdict-promise (store_of (held b)) e);
+      verdict = rw (in-use-reads, q) (unfold verdict_of in verdict-promise (store_of (held b)) e);
     }
 
-    pub beyond-said-exactly : (recordNumber (recordAsked (reads b) which place) ≡ 7 → item_at (journalOf (kind_of which) (held b).files) place ≡ none)
-        × (item_at (journalOf (kind_of which) (held b).files) place ≡ none → recordNumber (recordAsked (reads b) which place) ≡ 7)
-    unfolding askedIn
-    beyond-said-exactly = (λ e. go (item_at (journalOf (kind_of which) (held b).files) place) refl e, λ q. rw (in-use-reads, q))
+    pub beyond-said-exactly : (record_number (record_asked (reads b) which place) ≡ 7 → item_at (journal_of (kind_of which) (held b).files) place ≡ none)
+        × (item_at (journal_of (kind_of which) (held b).files) place ≡ none → record_number (record_asked (reads b) which place) ≡ 7)
+    unfolding asked_in
+    beyond-said-exactly = (λ e. go (item_at (journal_of (kind_of which) (held b).files) place) refl e, λ q. rw (in-use-reads, q))
       where
-        go : (o : Option Event) → item_at (journalOf (kind_of which) (held b).files) place ≡ o → recordNumber (recordAsked (reads b) which place) ≡ 7 → o ≡ none
+        go : (o : Option Event) → item_at (journal_of (kind_of which) (held b).files) place ≡ o → record_number (record_asked (reads b) which place) ≡ 7 → o ≡ none
         go none q e = refl
         go (some d) q e = absurd (omega (arith, sym (record-said d q).answers ∙ e))
 
   -- ---- as it stood before a file arrived
-  pub before-said : {c : Buffers} → InUse c → (n : ℕ) → (held c).lines ≡ (held b).lines → (held c).files ≡ take n (held b).files → (x : NumberRead) → beforeAsked (reads b) n x ≡ entryAsked (reads c) x
+  pub before-said : {c : Buffers} → InUse c → (n : ℕ) → (held c).lines ≡ (held b).lines → (held c).files ≡ take n (held b).files → (x : NumberRead) → before_asked (reads b) n x ≡ entry_asked (reads c) x
   before-said {c} v n lines files x = rw (in-use-reads, reads-some c (in-use-reached v).0) (go x)
     where
-      go : (x : NumberRead) → beforeAsked (some (held b)) n x ≡ entryAsked (some (held c)) x
+      go : (x : NumberRead) → before_asked (some (held b)) n x ≡ entry_asked (some (held c)) x
       go NumberRead.Fault = refl
-      go (NumberRead.Number x) = unfold entryBefore entryIn in
-          ap heldAs ((λ i. map (entryOver rules (sym files i)) (line_of rules (sym lines i) x)) ∙ sym (entry-worked-afresh (in-use-reached v).1 x))
+      go (NumberRead.Number x) = unfold entry_before entry_in in
+          ap held_as ((λ i. map (entry_over rules (sym files i)) (line_of rules (sym lines i) x)) ∙ sym (entry-worked-afresh (in-use-reached v).1 x))
 
   -- ---- the figure
-  pub figure-nought : figureAsked (reads b) ≡ FigureAnswer.Differ 0
-  figure-nought = ap figureAsked in-use-reads ∙ ap FigureAnswer.Differ (figure-nothing reached)
+  pub figure-nought : figure_asked (reads b) ≡ FigureAnswer.Differ 0
+  figure-nought = ap figure_asked in-use-reads ∙ ap FigureAnswer.Differ (figure-nothing reached)
 
-  pub figure-counts : (entries : List ℕ) → isReadable (withEntries b entries) ≡ true
-      → figureAsked (reads (withEntries b entries)) ≡ FigureAnswer.Differ (howMany (table (lineCount b.table) (readsOtherwise entries b.entries)))
+  pub figure-counts : (entries : List ℕ) → is_readable (with_entries b entries) ≡ true
+      → figure_asked (reads (with_entries b entries)) ≡ FigureAnswer.Differ (how_many (table (line_count b.table) (reads_otherwise entries b.entries)))
   unfolding held
   figure-counts entries other =
-      ap figureAsked (reads-some (withEntries b entries) other)
-      ∙ figure-promise (held (withEntries b entries)) reached refl refl
-      ∙ ap (λ (l : List _). FigureAnswer.Differ (howMany l)) (zip-table unlike (lineCount b.table) (entryAt b.entries) (entryAt entries))
+      ap figure_asked (reads-some (with_entries b entries) other)
+      ∙ figure-promise (held (with_entries b entries)) reached refl refl
+      ∙ ap (λ (l : List _). FigureAnswer.Differ (how_many l)) (zip-table unlike (line_count b.table) (entry_at b.entries) (entry_at entries))
 
 -- ---- what one number depends on
 pub depends : {b c : Buffers} → InUse b → InUse c → (x : Number) → line_of rules (held b).lines x ≡ line_of rules (held c).lines x
-    → Perm (keep (about rules x) (journal (held b).files)) (keep (about rules x) (journal (held c).files)) → entryAsked (reads b) (NumberRead.Number x) ≡ entryAsked (reads c) (NumberRead.Number x)
-depends u v x lines records = entry-is u x ∙ ap heldAs (what-one-number-depends-on (in-use-reached u).1 (in-use-reached v).1 x lines records) ∙ sym (entry-is v x)
+    → Perm (keep (about rules x) (journal (held b).files)) (keep (about rules x) (journal (held c).files)) → entry_asked (reads b) (NumberRead.Number x) ≡ entry_asked (reads c) (NumberRead.Number x)
+depends u v x lines records = entry-is u x ∙ ap held_as (what-one-number-depends-on (in-use-reached u).1 (in-use-reached v).1 x lines records) ∙ sym (entry-is v x)

@@ -37,7 +37,7 @@ use mathlib.Core.List.{List, [], map, Perm}
 use mathlib.Core.Option.{none, some}
 use Prim.Native.Nat.{ℕ, ◌≤◌, ◌<◌}
 use lib.ListN.{length, get_or, take}
-use Rattle.laws.specs.Lists.{table, keep, firstLine}
+use Rattle.laws.specs.Lists.{table, keep, first_line}
 use Rattle.laws.specs.Slots.{slot_at}
 use Rattle.fields.specs.declared.number.Number.{Number}
 use Rattle.fields.specs.declared.number.NumberRead.{NumberRead}
@@ -45,33 +45,33 @@ use Rattle.layout.specs.declared.report.Report.{Report}
 use Rattle.layout.specs.declared.report.ReportRead.{ReportRead}
 use Rattle.layout.specs.declared.correction.Correction.{Correction}
 use Rattle.layout.specs.declared.correction.CorrectionRead.{CorrectionRead}
-use Rattle.layout.specs.Report.{reportOfWords}
-use Rattle.layout.specs.Correction.{correctionOfWords}
+use Rattle.layout.specs.Report.{report_of_words}
+use Rattle.layout.specs.Correction.{correction_of_words}
 use Rattle.records.specs.declared.names.kind.FileKind.{FileKind}
 use Rattle.records.specs.declared.names.written.Written.{Written}
 use Rattle.records.specs.names.Written.{Wrote}
 use Rattle.records.specs.Record.{text_of}
 use Rattle.files.specs.declared.judge.Judged.TheVariants.{Records}
-use Rattle.files.specs.Judged.{judgedFile, recordsOf}
-use Rattle.files.specs.Writing.{valuesIn, fileText, fileOf, fileAnswer}
+use Rattle.files.specs.Judged.{judged_file, records_of}
+use Rattle.files.specs.Writing.{values_in, file_text, file_of, file_answer}
 use Rattle.files.specs.declared.values.ReportAt.{ReportAt}
 use Rattle.files.specs.declared.values.CorrectionAt.{CorrectionAt}
-use Rattle.files.specs.Values.{reportAt, correctionAt}
+use Rattle.files.specs.Values.{report_at, correction_at}
 use Rattle.files.proofs.FileTrip.{file-written}
 use Rattle.model.specs.Rules.{TableLine, Event}
-use Rattle.model.specs.Model.{journal, journalOf, about, entryOver, line_of}
+use Rattle.model.specs.Model.{journal, journal_of, about, entry_over, line_of}
 use Rattle.rules.specs.Rules.{rules}
 use Rattle.rules.specs.Paper.{WorkedThrough}
 use Rattle.rules.proofs.Paper.{worked_through}
 use Rattle.store.specs.declared.journals.records.Journal.{Journal}
-use Rattle.store.specs.numbers.Lines.{lineCount, line_at}
+use Rattle.store.specs.numbers.Lines.{line_count, line_at}
 use Rattle.store.specs.declared.numbers.lines.Line.{Line}
-use Rattle.store.specs.entry_slots.Entries.{entryAt}
-use Rattle.store.specs.Reads.{Buffers, tableLine, held, isReadable, reads}
+use Rattle.store.specs.entry_slots.Entries.{entry_at}
+use Rattle.store.specs.Reads.{Buffers, table_line, held, is_readable, reads}
 use Rattle.starting.specs.declared.start.Started.{Started}
 use Rattle.starting.specs.declared.start.Started.TheVariants.{Done}
 use Rattle.starting.specs.tables.Given.{table_of}
-use Rattle.starting.specs.Start.{Starts, startedWith}
+use Rattle.starting.specs.Start.{Starts, started_with}
 use Rattle.starting.proofs.Readable.{started-reads}
 use Rattle.filing.specs.declared.entering.kind.Filable.{Filable}
 use Rattle.filing.specs.declared.checking.answer.Answer.{Answer}
@@ -80,23 +80,23 @@ use Rattle.asking.specs.declared.pairs.WhyAnswer.{WhyAnswer}
 use Rattle.asking.specs.declared.answering.figure.FigureAnswer.{FigureAnswer}
 use Rattle.asking.specs.Items.{item_at}
 use Rattle.asking.specs.Record.{kind_of}
-use Rattle.asking.specs.answering.Figure.{howMany, figureAsked}
-use Rattle.asking.specs.answering.Whole.{entryAsked, beforeAsked, recordAsked}
+use Rattle.asking.specs.answering.Figure.{how_many, figure_asked}
+use Rattle.asking.specs.answering.Whole.{entry_asked, before_asked, record_asked}
 use Rattle.reworking.specs.declared.rework.Reworked.TheVariants.{Changed}
 use Rattle.reworking.specs.Reworking.{Reworks}
-use Rattle.reworking.specs.Listed.{readsOtherwise, Listed}
+use Rattle.reworking.specs.Listed.{reads_otherwise, Listed}
 use Rattle.reworking.specs.resuming.Resumed.{Resumed}
 use Rattle.reworking.proofs.Listing.{listed-once}
-use Rattle.capi.specs.Kinds.{kindBy}
+use Rattle.capi.specs.Kinds.{kind_by}
 use Rattle.capi.specs.Starting.{StartsAs}
-use Rattle.capi.specs.Offer.{filableBy, dayFor, FilesAs}
+use Rattle.capi.specs.Offer.{filable_by, day_for, FilesAs}
 use Rattle.capi.specs.Again.{ReworksAs}
 use Rattle.capi.specs.Writing.{Writes}
-use Rattle.promises.specs.Numbers.{startedNumber, filedNumber, whySaid, recordNumber}
-use Rattle.promises.specs.InUse.{withEntries, InUse}
+use Rattle.promises.specs.Numbers.{started_number, filed_number, why_said, record_number}
+use Rattle.promises.specs.InUse.{with_entries, InUse}
 use Rattle.promises.specs.Calls.{Call}
-use Rattle.promises.specs.Filed.{filingTable, startingTable, named_in, JoinedAndRenewed}
-use Rattle.promises.specs.Asked.{NoneConfirmed, whyOf, SaysNone, ShowsPair, ShowsRecord}
+use Rattle.promises.specs.Filed.{filing_table, starting_table, named_in, JoinedAndRenewed}
+use Rattle.promises.specs.Asked.{NoneConfirmed, why_of, SaysNone, ShowsPair, ShowsRecord}
 use Rattle.promises.proofs.Refused.{files-c, refused, start-by-table}
 use Rattle.promises.proofs.Stores.{came-or-resumed, came-in-use, resumed-in-use, done-c, changed-c}
 use Rattle.promises.proofs.Filing.{answers-by-table, joined-and-renewed, joined-and-renewed-c}
@@ -117,24 +117,24 @@ refused-leaves-every-byte = refused
 
 -- "checks in this order": the number that filing answers is that of the first line of the paper's table that applies, and 0 where none does
 pub filing-answers-by-the-table : {b after : Buffers} {kind : Filable} {publisher : List ℕ} {day : ℕ} {text : List ℕ} {answer : Answer} → Files b kind publisher day text answer after
-    → filedNumber answer ≡ firstLine (filingTable b kind publisher day text) 0
+    → filed_number answer ≡ first_line (filing_table b kind publisher day text) 0
 filing-answers-by-the-table s = answers-by-table s
 
 pub filing-answers-by-the-table-c : {b after : Buffers} {kind : ℕ} {publisher : List ℕ} {day : ℕ} {text : List ℕ} {answer more field cause : ℕ} → FilesAs b kind publisher day text answer more field cause after
-    → answer ≡ firstLine (filingTable b (filableBy kind) publisher (dayFor kind day) text) 0
+    → answer ≡ first_line (filing_table b (filable_by kind) publisher (day_for kind day) text) 0
 filing-answers-by-the-table-c s = s.answers ∙ answers-by-table (files-c s)
 
 -- starting likewise: "44 for a short buffer alone", then 6
-pub starting-answers-by-the-table : {text : List ℕ} {before after : Buffers} {answer : Started} → Starts text before answer after → startedNumber answer ≡ firstLine (startingTable text before) 0
+pub starting-answers-by-the-table : {text : List ℕ} {before after : Buffers} {answer : Started} → Starts text before answer after → started_number answer ≡ first_line (starting_table text before) 0
 starting-answers-by-the-table s = start-by-table s
 
 -- "the store then reads as exactly the given table, empty journals and one first entry per line"
 pub started-as-given : {text : List ℕ} {before after : Buffers} {n : ℕ} → Starts text before (Done n) after
-    → (lines : List Line) × (table_of text ≡ some lines) × (n ≡ length lines) × (reads after ≡ some (startedWith lines))
+    → (lines : List Line) × (table_of text ≡ some lines) × (n ≡ length lines) × (reads after ≡ some (started_with lines))
 started-as-given {text} {before} {after} {n} s = started-reads text before after n s
 
 pub started-as-given-c : {text : List ℕ} {before after : Buffers} {more : ℕ} → StartsAs text before 0 more after
-    → (lines : List Line) × (table_of text ≡ some lines) × (more ≡ length lines) × (reads after ≡ some (startedWith lines))
+    → (lines : List Line) × (table_of text ≡ some lines) × (more ≡ length lines) × (reads after ≡ some (started_with lines))
 started-as-given-c s = started-as-given (done-c s)
 
 -- "exactly this file's records join their journal behind the stored ones, which keep their bytes; the entries of the numbers named are worked out afresh,
@@ -144,30 +144,30 @@ pub filed-joins-and-renews : {b after : Buffers} {kind : Filable} {publisher : L
 filed-joins-and-renews s = joined-and-renewed s
 
 pub filed-joins-and-renews-c : {b after : Buffers} {kind : ℕ} {publisher : List ℕ} {day : ℕ} {text : List ℕ} {more field cause : ℕ} → FilesAs b kind publisher day text 0 more field cause after
-    → (kind ≤ 1) × JoinedAndRenewed b (filableBy kind) publisher day text more after
+    → (kind ≤ 1) × JoinedAndRenewed b (filable_by kind) publisher day text more after
 filed-joins-and-renews-c s = joined-and-renewed-c s
 
 -- ---- demand 2
 -- what is written reads back: a file of as many records, each with the bytes of the values that were given
-pub written-reads-back : (kind : FileKind) (words : List ℕ) {before after : List ℕ} {n : ℕ} → Wrote (fileAnswer kind words (length before)) (fileOf kind words) before after (Written.Length n)
-    → (judgedFile kind (take n after) ≡ Records (length (valuesIn kind words))) × (recordsOf kind (take n after) ≡ map (text_of kind) (valuesIn kind words))
+pub written-reads-back : (kind : FileKind) (words : List ℕ) {before after : List ℕ} {n : ℕ} → Wrote (file_answer kind words (length before)) (file_of kind words) before after (Written.Length n)
+    → (judged_file kind (take n after) ≡ Records (length (values_in kind words))) × (records_of kind (take n after) ≡ map (text_of kind) (values_in kind words))
 written-reads-back kind words s = reads-back kind words s
 
-pub written-reads-back-c : (kind : ℕ) (words : List ℕ) {before after : List ℕ} {more : ℕ} → Writes (fileAnswer (kindBy kind) words (length before)) (fileOf (kindBy kind) words) before after 0 more
-    → (judgedFile (kindBy kind) (take more after) ≡ Records (length (valuesIn (kindBy kind) words))) × (recordsOf (kindBy kind) (take more after) ≡ map (text_of (kindBy kind)) (valuesIn (kindBy kind) words))
-written-reads-back-c kind words s = reads-back (kindBy kind) words (wrote-c s)
+pub written-reads-back-c : (kind : ℕ) (words : List ℕ) {before after : List ℕ} {more : ℕ} → Writes (file_answer (kind_by kind) words (length before)) (file_of (kind_by kind) words) before after 0 more
+    → (judged_file (kind_by kind) (take more after) ≡ Records (length (values_in (kind_by kind) words))) × (records_of (kind_by kind) (take more after) ≡ map (text_of (kind_by kind)) (values_in (kind_by kind) words))
+written-reads-back-c kind words s = reads-back (kind_by kind) words (wrote-c s)
 
 -- record by record: the report that was given at a place is the one that is read there, and a correction likewise
-pub written-report-reads-back : (words : List ℕ) {before after : List ℕ} {n : ℕ} (k : ℕ) → Wrote (fileAnswer FileKind.Default words (length before)) (fileOf FileKind.Default words) before after (Written.Length n)
-    → k < length (valuesIn FileKind.Default words) → (x : Report) → reportOfWords (get_or (valuesIn FileKind.Default words) k []) ≡ ReportRead.Report x → reportAt (take n after) k ≡ ReportAt.Report x
+pub written-report-reads-back : (words : List ℕ) {before after : List ℕ} {n : ℕ} (k : ℕ) → Wrote (file_answer FileKind.Default words (length before)) (file_of FileKind.Default words) before after (Written.Length n)
+    → k < length (values_in FileKind.Default words) → (x : Report) → report_of_words (get_or (values_in FileKind.Default words) k []) ≡ ReportRead.Report x → report_at (take n after) k ≡ ReportAt.Report x
 written-report-reads-back words k s = report-back words k s
 
-pub written-correction-reads-back : (words : List ℕ) {before after : List ℕ} {n : ℕ} (k : ℕ) → Wrote (fileAnswer FileKind.Correction words (length before)) (fileOf FileKind.Correction words) before after (Written.Length n)
-    → k < length (valuesIn FileKind.Correction words) → (x : Correction) → correctionOfWords (get_or (valuesIn FileKind.Correction words) k []) ≡ CorrectionRead.Correction x → correctionAt (take n after) k ≡ CorrectionAt.Correction x
+pub written-correction-reads-back : (words : List ℕ) {before after : List ℕ} {n : ℕ} (k : ℕ) → Wrote (file_answer FileKind.Correction words (length before)) (file_of FileKind.Correction words) before after (Written.Length n)
+    → k < length (values_in FileKind.Correction words) → (x : Correction) → correction_of_words (get_or (values_in FileKind.Correction words) k []) ≡ CorrectionRead.Correction x → correction_at (take n after) k ≡ CorrectionAt.Correction x
 written-correction-reads-back words k s = correction-back words k s
 
 -- and a file that reads is exactly its records, each with its CR, and the closing record where its kind has one
-pub read-is-written-again : (kind : FileKind) (file : List ℕ) (n : ℕ) → judgedFile kind file ≡ Records n → (file ≡ fileText kind (recordsOf kind file)) × (length (recordsOf kind file) ≡ n)
+pub read-is-written-again : (kind : FileKind) (file : List ℕ) (n : ℕ) → judged_file kind file ≡ Records n → (file ≡ file_text kind (records_of kind file)) × (length (records_of kind file) ≡ n)
 read-is-written-again kind file n e = let w = file-written kind file n e in (w.0.whole, w.1)
 
 -- "cases marked (p) are shown about the definitions as a single table under a single claim"
@@ -177,13 +177,13 @@ worked-cases = worked_through
 -- ---- demand 3
 -- every number's entry equals the one worked out afresh from the journals: all of them, and line by line over the bytes
 pub entries-are-worked-afresh : {b : Buffers} → InUse b
-    → (reads b ≡ some (held b)) × ((held b).entries ≡ map (entryOver rules (held b).files) (held b).lines)
-    × ((k : ℕ) → k < lineCount b.table → entryAt b.entries k ≡ entryOver rules (held b).files (tableLine (line_at b.table k)))
+    → (reads b ≡ some (held b)) × ((held b).entries ≡ map (entry_over rules (held b).files) (held b).lines)
+    × ((k : ℕ) → k < line_count b.table → entry_at b.entries k ≡ entry_over rules (held b).files (table_line (line_at b.table k)))
 entries-are-worked-afresh u = (in-use-reads u, entries-afresh u, entry-afresh u)
 
 -- filing leaves the bytes of the entry of each number that no record of the file names
 pub other-entries-untouched : {b after : Buffers} {kind : Filable} {publisher : List ℕ} {day : ℕ} {text : List ℕ} {count : ℕ} → Files b kind publisher day text (Answer.Filed count) after
-    → (k : ℕ) → k < lineCount b.table → named_in kind text (line_at b.table k).number ≡ false → slot_at 0 100 after.entries k ≡ slot_at 0 100 b.entries k
+    → (k : ℕ) → k < line_count b.table → named_in kind text (line_at b.table k).number ≡ false → slot_at 0 100 after.entries k ≡ slot_at 0 100 b.entries k
 other-entries-untouched s = (joined-and-renewed s).untouched
 
 -- "asking why answers 0 and shows the pair, the report processed first coming first, or says there is none", for a number with a line
@@ -191,22 +191,22 @@ pub why-is-the-last-confirmed-pair : {b : Buffers} → InUse b → (x : Number) 
 why-is-the-last-confirmed-pair u = why-says u
 
 pub none-exactly-if-none-confirmed : {b : Buffers} → InUse b → (x : Number) (line : TableLine Number) → line_of rules (held b).lines x ≡ some line
-    → (whyOf b x ≡ WhyAnswer.Nothing → NoneConfirmed b line) × (NoneConfirmed b line → whyOf b x ≡ WhyAnswer.Nothing)
+    → (why_of b x ≡ WhyAnswer.Nothing → NoneConfirmed b line) × (NoneConfirmed b line → why_of b x ≡ WhyAnswer.Nothing)
 none-exactly-if-none-confirmed u = none-said-exactly u
 
 -- "a number not in the table answers 12"
 pub unknown-exactly-without-a-line : {b : Buffers} → InUse b → (x : Number)
-    → (whySaid (whyOf b x) ≡ 12 → line_of rules (held b).lines x ≡ none) × (line_of rules (held b).lines x ≡ none → whySaid (whyOf b x) ≡ 12)
+    → (why_said (why_of b x) ≡ 12 → line_of rules (held b).lines x ≡ none) × (line_of rules (held b).lines x ≡ none → why_said (why_of b x) ≡ 12)
 unknown-exactly-without-a-line u = unknown-said-exactly u
 
 -- "any filed record can be asked for: its verdict, and its stored bytes, shown as a part of the regular or the correction journal"
-pub record-has-its-verdict : {b : Buffers} → InUse b → (which : Journal) (place : ℕ) (e : Event) → item_at (journalOf (kind_of which) (held b).files) place ≡ some e → ShowsRecord b which place e
+pub record-has-its-verdict : {b : Buffers} → InUse b → (which : Journal) (place : ℕ) (e : Event) → item_at (journal_of (kind_of which) (held b).files) place ≡ some e → ShowsRecord b which place e
 record-has-its-verdict u = record-said u
 
 -- "a place beyond answers 7"
 pub beyond-exactly : {b : Buffers} → InUse b → (which : Journal) (place : ℕ)
-    → (recordNumber (recordAsked (reads b) which place) ≡ 7 → item_at (journalOf (kind_of which) (held b).files) place ≡ none)
-    × (item_at (journalOf (kind_of which) (held b).files) place ≡ none → recordNumber (recordAsked (reads b) which place) ≡ 7)
+    → (record_number (record_asked (reads b) which place) ≡ 7 → item_at (journal_of (kind_of which) (held b).files) place ≡ none)
+    × (item_at (journal_of (kind_of which) (held b).files) place ≡ none → record_number (record_asked (reads b) which place) ≡ 7)
 beyond-exactly u = beyond-said-exactly u
 
 -- ---- what follows from them
@@ -214,12 +214,12 @@ beyond-exactly u = beyond-said-exactly u
 -- have the same line for a number, and in both journals together the same records that name it, in whatever order, show the same entry
 pub depends-on-line-and-records : {b c : Buffers} → InUse b → InUse c → (x : Number) → line_of rules (held b).lines x ≡ line_of rules (held c).lines x
     → Perm (keep (about rules x) (journal (held b).files)) (keep (about rules x) (journal (held c).files))
-    → entryAsked (reads b) (NumberRead.Number x) ≡ entryAsked (reads c) (NumberRead.Number x)
+    → entry_asked (reads b) (NumberRead.Number x) ≡ entry_asked (reads c) (NumberRead.Number x)
 depends-on-line-and-records = depends
 
 -- what a store shows as it stood before the file at n arrived is what a store in use with the same lines and the first n files shows
 pub table-before-a-late-file : {b c : Buffers} → InUse b → InUse c → (n : ℕ) → (held c).lines ≡ (held b).lines → (held c).files ≡ take n (held b).files
-    → (x : NumberRead) → beforeAsked (reads b) n x ≡ entryAsked (reads c) x
+    → (x : NumberRead) → before_asked (reads b) n x ≡ entry_asked (reads c) x
 table-before-a-late-file u v = before-said u v
 
 -- and for each n there was such a store, where starting and filing led to this one
@@ -227,17 +227,17 @@ pub there-was-such-a-store : {b : Buffers} → Came b → (n : ℕ) → (c : Buf
 there-was-such-a-store c n = had-first c n
 
 -- the figure: how many stored entries differ from those worked out from the journals
-pub figure-is-0 : {b : Buffers} → InUse b → figureAsked (reads b) ≡ FigureAnswer.Differ 0
+pub figure-is-0 : {b : Buffers} → InUse b → figure_asked (reads b) ≡ FigureAnswer.Differ 0
 figure-is-0 = figure-nought
 
 -- and if the entries were overwritten by any bytes that still read, how many lines have an entry that reads otherwise
-pub figure-counts-what-differs : {b : Buffers} → InUse b → (entries : List ℕ) → isReadable (withEntries b entries) ≡ true
-    → figureAsked (reads (withEntries b entries)) ≡ FigureAnswer.Differ (howMany (table (lineCount b.table) (readsOtherwise entries b.entries)))
+pub figure-counts-what-differs : {b : Buffers} → InUse b → (entries : List ℕ) → is_readable (with_entries b entries) ≡ true
+    → figure_asked (reads (with_entries b entries)) ≡ FigureAnswer.Differ (how_many (table (line_count b.table) (reads_otherwise entries b.entries)))
 figure-counts-what-differs = figure-counts
 
 -- what answer 0 of reworking leaves reads as the same lines and files, and every entry is the one that the first n files lead to
 pub reworked-as-worked-out : {b : Buffers} {n count : ℕ} {list entries listed : List ℕ} → Reworks b n list (Changed count) entries listed
-    → reads (withEntries b entries) ≡ some (record { lines = (held b).lines; files = (held b).files; entries = map (entryOver rules (take n (held b).files)) (held b).lines })
+    → reads (with_entries b entries) ≡ some (record { lines = (held b).lines; files = (held b).files; entries = map (entry_over rules (take n (held b).files)) (held b).lines })
 reworked-as-worked-out s = reworked-entries s
 
 -- "the numbers whose entry changes are listed once"

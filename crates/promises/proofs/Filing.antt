@@ -8,43 +8,43 @@ use native.Mathlib.Omega.{arith}
 use borrow.Author.Tests.{leb-true}
 use lib.Dec.{leb}
 use lib.ListN.{length, get_or, length-map}
-use Rattle.laws.specs.Lists.{table, any, firstLine}
+use Rattle.laws.specs.Lists.{table, any, first_line}
 use Rattle.laws.specs.Slots.{slot_at}
 use Rattle.laws.proofs.Lists.{zip-at}
-use Rattle.laws.proofs.Tables.{any-more, length-table, getD-table, table-self, map-table}
-use Rattle.calendar.specs.Dates.{inCalendar}
+use Rattle.laws.proofs.Tables.{any-more, length-table, get_or-table, table-self, map-table}
+use Rattle.calendar.specs.Dates.{in_calendar}
 use Rattle.fields.specs.Code.{code_of}
-use Rattle.fields.specs.Number.{sameNumber}
+use Rattle.fields.specs.Number.{same_number}
 use Rattle.fields.specs.declared.code.Code.{Code}
 use Rattle.fields.specs.declared.code.CodeRead.{CodeRead}
 use Rattle.fields.specs.declared.number.Number.{Number}
-use Rattle.files.specs.Judged.{judgedFile, recordsOf as textsOf}
+use Rattle.files.specs.Judged.{judged_file, records_of as texts_of}
 use Rattle.files.specs.declared.judge.Judged.{Judged}
 use Rattle.entries.specs.declared.entry.Entry.{Entry}
 use Rattle.model.specs.Rules.{TableLine}
-use Rattle.model.specs.Model.{Filed, Store, alike, eventAt, events, journalOf, about, named, entryOver, count_of, renewed, filed}
+use Rattle.model.specs.Model.{Filed, Store, alike, event_at, events, journal_of, about, named, entry_over, count_of, renewed, filed}
 use Rattle.model.proofs.Files.{journal-own, journal-other}
 use Rattle.rules.specs.Records.{number_in}
 use Rattle.rules.specs.Rules.{rules}
-use Rattle.store.specs.journals.Reads.{recordsAt}
-use Rattle.store.specs.numbers.Lines.{lineCount, line_at, lines_of}
-use Rattle.store.specs.entry_slots.Entries.{entryAt}
-use Rattle.store.specs.Reads.{Buffers, tableLine, held, isReadable, reads}
+use Rattle.store.specs.journals.Reads.{records_at}
+use Rattle.store.specs.numbers.Lines.{line_count, line_at, lines_of}
+use Rattle.store.specs.entry_slots.Entries.{entry_at}
+use Rattle.store.specs.Reads.{Buffers, table_line, held, is_readable, reads}
 use Rattle.store.proofs.Checks.{reads-some}
 use Rattle.filing.specs.declared.entering.kind.Filable.{Filable}
 use Rattle.filing.specs.declared.checking.answer.Answer.{Answer}
 use Rattle.filing.specs.declared.checking.check.Checked.{Checked}
 use Rattle.filing.specs.declared.checking.check.Checked.TheVariants.{Refused, Passed}
-use Rattle.filing.specs.entering.Entering.{kindNumber, fileKind, filedAs, entered, Enterable}
+use Rattle.filing.specs.entering.Entering.{kind_number, file_kind, filed_as, entered, Enterable}
 use Rattle.filing.specs.checking.Checks.{checked}
-use Rattle.filing.specs.checking.Filing.{Decision, Refuse, Accept, withinLimits, judgedTo, newTo, publishedTo, decide, decisionOf}
-use Rattle.filing.specs.Effect.{renewedIn, filedInto, answerTo, buffersAfter, Files, store_of}
+use Rattle.filing.specs.checking.Filing.{Decision, Refuse, Accept, within_limits, judged_to, new_to, published_to, decide, decision_of}
+use Rattle.filing.specs.Effect.{renewed_in, filed_into, answer_to, buffers_after, Files, store_of}
 use Rattle.filing.proofs.checking.Deciding.{decided, decided-unreadable, passed-enterable, refused-not-filed}
 use Rattle.filing.proofs.entering.Entered.{entered-stays}
 use Rattle.filing.proofs.Promises.{filed-reads, untouched-bytes}
-use Rattle.capi.specs.Offer.{filableBy, dayFor, answered, FilesAs}
-use Rattle.promises.specs.Numbers.{filedNumber, filedCount}
-use Rattle.promises.specs.Filed.{isNoCode, isFault, offeredAs, filingTable, named_in, JoinedAndRenewed}
+use Rattle.capi.specs.Offer.{filable_by, day_for, answered, FilesAs}
+use Rattle.promises.specs.Numbers.{filed_number, filed_count}
+use Rattle.promises.specs.Filed.{is_no_code, is_fault, offered_as, filing_table, named_in, JoinedAndRenewed}
 
 never : {A : Type 0} (a : Answer) (f : Filed) → Refuse a ≡ Accept f → A
 never a f q = absurd (let z : ◌≡◌ {A = ℕ} 0 1 = cc in omega arith)
@@ -55,74 +55,74 @@ module _ (files : List Filed) (kind : Filable) (day : ℕ) (text : List ℕ) (f 
   room-accepts g true q = cc
   room-accepts g false q = never Answer.Full f q
 
-  text-accepts : (g : Filed) (j : Judged) → judgedTo files g j ≡ Accept f → g ≡ f
+  text-accepts : (g : Filed) (j : Judged) → judged_to files g j ≡ Accept f → g ≡ f
   text-accepts g (Judged.Fault place cause) q = never (Answer.Fault place cause) f q
-  text-accepts g (Judged.Records m) q = room-accepts g (withinLimits (files ++ (g ∷ []))) q
+  text-accepts g (Judged.Records m) q = room-accepts g (within_limits (files ++ (g ∷ []))) q
 
-  new-accepts : (g : Filed) (j : Judged) (t : Bool) → cond t (Refuse Answer.FiledAlready) (judgedTo files g j) ≡ Accept f → g ≡ f
+  new-accepts : (g : Filed) (j : Judged) (t : Bool) → cond t (Refuse Answer.FiledAlready) (judged_to files g j) ≡ Accept f → g ≡ f
   new-accepts g j true q = never Answer.FiledAlready f q
   new-accepts g j false q = text-accepts g j q
 
-  day-accepts : (g : Filed) (j : Judged) (t : Bool) → cond t (newTo files g j) (Refuse Answer.NoDay) ≡ Accept f → g ≡ f
-  unfolding newTo
+  day-accepts : (g : Filed) (j : Judged) (t : Bool) → cond t (new_to files g j) (Refuse Answer.NoDay) ≡ Accept f → g ≡ f
+  unfolding new_to
   day-accepts g j true q = new-accepts g j (any (alike g) files) q
   day-accepts g j false q = never Answer.NoDay f q
 
-  code-accepts : (r : CodeRead) → publishedTo files kind r day text ≡ Accept f → (c : Code) × (r ≡ CodeRead.Code c) × (f ≡ filedAs kind c.0 day text)
+  code-accepts : (r : CodeRead) → published_to files kind r day text ≡ Accept f → (c : Code) × (r ≡ CodeRead.Code c) × (f ≡ filed_as kind c.0 day text)
   code-accepts CodeRead.Fault q = never Answer.NoCode f q
-  code-accepts (CodeRead.Code c) q = (c, refl, sym (day-accepts (filedAs kind c.0 day text) (judgedFile (fileKind kind) text) (inCalendar day) q))
+  code-accepts (CodeRead.Code c) q = (c, refl, sym (day-accepts (filed_as kind c.0 day text) (judged_file (file_kind kind) text) (in_calendar day) q))
 
-offered-by : (b : Buffers) (kind : Filable) (publisher : List ℕ) (day : ℕ) (text : List ℕ) (f : Filed) → isReadable b ≡ true → decide b kind publisher day text ≡ Accept f
-    → (c : Code) × (code_of publisher ≡ CodeRead.Code c) × (f ≡ filedAs kind c.0 day text)
+offered-by : (b : Buffers) (kind : Filable) (publisher : List ℕ) (day : ℕ) (text : List ℕ) (f : Filed) → is_readable b ≡ true → decide b kind publisher day text ≡ Accept f
+    → (c : Code) × (code_of publisher ≡ CodeRead.Code c) × (f ≡ filed_as kind c.0 day text)
 unfolding decide
 offered-by b kind publisher day text f whole q = code-accepts (held b).files kind day text f (code_of publisher) (rw whole at q)
 
 -- ---- the answers are those of the paper's table
-abbrev numberTo : Decision → ℕ
-numberTo (Refuse a) = filedNumber a
-numberTo (Accept f) = 0
+abbrev number_to : Decision → ℕ
+number_to (Refuse a) = filed_number a
+number_to (Accept f) = 0
 
 module _ (files : List Filed) (kind : Filable) (day : ℕ) (text : List ℕ) where
   -- the lines from 5, 3 and 2 on
-  room-line : (f : Filed) (t : Bool) → numberTo (cond t (Accept f) (Refuse Answer.Full)) ≡ firstLine ((not t, 5) ∷ []) 0
+  room-line : (f : Filed) (t : Bool) → number_to (cond t (Accept f) (Refuse Answer.Full)) ≡ first_line ((not t, 5) ∷ []) 0
   room-line f true = refl
   room-line f false = refl
 
-  text-line : (f : Filed) (j : Judged) → numberTo (judgedTo files f j) ≡ firstLine ((isFault j, 4) ∷ (not (withinLimits (files ++ (f ∷ []))), 5) ∷ []) 0
+  text-line : (f : Filed) (j : Judged) → number_to (judged_to files f j) ≡ first_line ((is_fault j, 4) ∷ (not (within_limits (files ++ (f ∷ []))), 5) ∷ []) 0
   text-line f (Judged.Fault place cause) = refl
-  text-line f (Judged.Records m) = room-line f (withinLimits (files ++ (f ∷ [])))
+  text-line f (Judged.Records m) = room-line f (within_limits (files ++ (f ∷ [])))
 
   new_line : (f : Filed) (j : Judged) (t : Bool)
-      → numberTo (cond t (Refuse Answer.FiledAlready) (judgedTo files f j)) ≡ firstLine ((t, 3) ∷ (isFault j, 4) ∷ (not (withinLimits (files ++ (f ∷ []))), 5) ∷ []) 0
+      → number_to (cond t (Refuse Answer.FiledAlready) (judged_to files f j)) ≡ first_line ((t, 3) ∷ (is_fault j, 4) ∷ (not (within_limits (files ++ (f ∷ []))), 5) ∷ []) 0
   new_line f j true = refl
   new_line f j false = text-line f j
 
   day-line : (f : Filed) (j : Judged) (t : Bool)
-      → numberTo (cond t (newTo files f j) (Refuse Answer.NoDay)) ≡ firstLine ((not t, 2) ∷ (any (alike f) files, 3) ∷ (isFault j, 4) ∷ (not (withinLimits (files ++ (f ∷ []))), 5) ∷ []) 0
-  unfolding newTo
+      → number_to (cond t (new_to files f j) (Refuse Answer.NoDay)) ≡ first_line ((not t, 2) ∷ (any (alike f) files, 3) ∷ (is_fault j, 4) ∷ (not (within_limits (files ++ (f ∷ []))), 5) ∷ []) 0
+  unfolding new_to
   day-line f j true = new_line f j (any (alike f) files)
   day-line f j false = refl
 
-by-table : (b : Buffers) (kind : Filable) (publisher : List ℕ) (day : ℕ) (text : List ℕ) → numberTo (decide b kind publisher day text) ≡ firstLine (filingTable b kind publisher day text) 0
+by-table : (b : Buffers) (kind : Filable) (publisher : List ℕ) (day : ℕ) (text : List ℕ) → number_to (decide b kind publisher day text) ≡ first_line (filing_table b kind publisher day text) 0
 unfolding decide
-by-table b kind publisher day text = go (isReadable b) (code_of publisher)
+by-table b kind publisher day text = go (is_readable b) (code_of publisher)
   where
     f : CodeRead → Filed
-    f r = offeredAs kind r day text
+    f r = offered_as kind r day text
 
-    go : (t : Bool) (r : CodeRead) → numberTo (cond t (publishedTo (held b).files kind r day text) (Refuse Answer.Unreadable))
-        ≡ firstLine ((not t, 44) ∷ (isNoCode r, 1) ∷ (not (inCalendar day), 2) ∷ (any (alike (f r)) (held b).files, 3) ∷ (isFault (judgedFile (fileKind kind) text), 4) ∷ (not (withinLimits ((held b).files ++ (f r ∷ []))), 5) ∷ []) 0
+    go : (t : Bool) (r : CodeRead) → number_to (cond t (published_to (held b).files kind r day text) (Refuse Answer.Unreadable))
+        ≡ first_line ((not t, 44) ∷ (is_no_code r, 1) ∷ (not (in_calendar day), 2) ∷ (any (alike (f r)) (held b).files, 3) ∷ (is_fault (judged_file (file_kind kind) text), 4) ∷ (not (within_limits ((held b).files ++ (f r ∷ []))), 5) ∷ []) 0
     go false r = refl
     go true CodeRead.Fault = refl
-    go true (CodeRead.Code c) = day-line (held b).files kind day text (filedAs kind c.0 day text) (judgedFile (fileKind kind) text) (inCalendar day)
+    go true (CodeRead.Code c) = day-line (held b).files kind day text (filed_as kind c.0 day text) (judged_file (file_kind kind) text) (in_calendar day)
 
-number-answered : (files : List Filed) (d : Decision) → filedNumber (answerTo files d) ≡ numberTo d
+number-answered : (files : List Filed) (d : Decision) → filed_number (answer_to files d) ≡ number_to d
 number-answered files (Refuse a) = refl
 number-answered files (Accept f) = refl
 
 pub answers-by-table : {b after : Buffers} {kind : Filable} {publisher : List ℕ} {day : ℕ} {text : List ℕ} {answer : Answer} → Files b kind publisher day text answer after
-    → filedNumber answer ≡ firstLine (filingTable b kind publisher day text) 0
-answers-by-table {b} {after} {kind} {publisher} {day} {text} s = ap filedNumber s.answers ∙ number-answered (held b).files (decide b kind publisher day text) ∙ by-table b kind publisher day text
+    → filed_number answer ≡ first_line (filing_table b kind publisher day text) 0
+answers-by-table {b} {after} {kind} {publisher} {day} {text} s = ap filed_number s.answers ∙ number-answered (held b).files (decide b kind publisher day text) ∙ by-table b kind publisher day text
 
 -- ---- the numbers that the file names
 any-tables : {A B : Type 0} (p : A → Bool) (q : B → Bool) (f : ℕ → A) (g : ℕ → B) → ((i : ℕ) → p (f i) ≡ q (g i)) → (n : ℕ) → any p (table n f) ≡ any q (table n g)
@@ -130,43 +130,43 @@ unfolding table any
 any-tables p q f g same zero = refl
 any-tables p q f g same (suc n) = any-more p (table n f) (f n) ∙ (λ i. any-tables p q f g same n i || same n i) ∙ sym (any-more q (table n g) (g n))
 
-named-so : (kind : Filable) (c day : ℕ) (text : List ℕ) (x : Number) → named rules (filedAs kind c day text) x ≡ named_in kind text x
-unfolding named about events filedAs
+named-so : (kind : Filable) (c day : ℕ) (text : List ℕ) (x : Number) → named rules (filed_as kind c day text) x ≡ named_in kind text x
+unfolding named about events filed_as
 named-so kind c day text x =
-    let l : List (List ℕ) = textsOf (fileKind kind) text in
-    let names : List ℕ → Bool = λ (r : List ℕ). sameNumber (number_in (kindNumber kind) r) x in
-    any-tables (about rules x) names (eventAt (filedAs kind c day text)) (λ (i : ℕ). get_or l i []) (λ i. refl) (length l)
+    let l : List (List ℕ) = texts_of (file_kind kind) text in
+    let names : List ℕ → Bool = λ (r : List ℕ). same_number (number_in (kind_number kind) r) x in
+    any-tables (about rules x) names (event_at (filed_as kind c day text)) (λ (i : ℕ). get_or l i []) (λ i. refl) (length l)
     ∙ ap (any names) (table-self l [] (length l) refl)
 
 -- ---- what answer 0 says was found
 module _ {b after : Buffers} {kind : Filable} {publisher : List ℕ} {day : ℕ} {text : List ℕ} {n : ℕ} (s : Files b kind publisher day text (Answer.Filed n) after) where
   not-refused : (a : Answer) → decide b kind publisher day text ≡ Refuse a → Answer.Filed n ≡ a
-  not-refused a d = s.answers ∙ ap (answerTo (held b).files) d
+  not-refused a d = s.answers ∙ ap (answer_to (held b).files) d
 
-  found : (c : Code) × (m : ℕ) × Enterable b kind c.0 day text m × (decide b kind publisher day text ≡ Accept (filedAs kind c.0 day text))
-  found = go (isReadable b) refl
+  found : (c : Code) × (m : ℕ) × Enterable b kind c.0 day text m × (decide b kind publisher day text ≡ Accept (filed_as kind c.0 day text))
+  found = go (is_readable b) refl
     where
       judged : Judged
-      judged = judgedFile (fileKind kind) text
+      judged = judged_file (file_kind kind) text
 
-      passing : (h : isReadable b ≡ true) (k : Checked) → checked b.files kind (code_of publisher) day judged ≡ k
-          → (c : Code) × (m : ℕ) × Enterable b kind c.0 day text m × (decide b kind publisher day text ≡ Accept (filedAs kind c.0 day text))
-      passing h (Refused a) q = absurd (refused-not-filed b.files kind day (code_of publisher) judged a q n (sym (not-refused a (decided b h kind day text publisher ∙ ap (decisionOf kind day text) q))))
-      passing h (Passed c m) q = (c, m, passed-enterable b h kind day text c m publisher q, decided b h kind day text publisher ∙ ap (decisionOf kind day text) q)
+      passing : (h : is_readable b ≡ true) (k : Checked) → checked b.files kind (code_of publisher) day judged ≡ k
+          → (c : Code) × (m : ℕ) × Enterable b kind c.0 day text m × (decide b kind publisher day text ≡ Accept (filed_as kind c.0 day text))
+      passing h (Refused a) q = absurd (refused-not-filed b.files kind day (code_of publisher) judged a q n (sym (not-refused a (decided b h kind day text publisher ∙ ap (decision_of kind day text) q))))
+      passing h (Passed c m) q = (c, m, passed-enterable b h kind day text c m publisher q, decided b h kind day text publisher ∙ ap (decision_of kind day text) q)
 
-      go : (t : Bool) → isReadable b ≡ t → (c : Code) × (m : ℕ) × Enterable b kind c.0 day text m × (decide b kind publisher day text ≡ Accept (filedAs kind c.0 day text))
+      go : (t : Bool) → is_readable b ≡ t → (c : Code) × (m : ℕ) × Enterable b kind c.0 day text m × (decide b kind publisher day text ≡ Accept (filed_as kind c.0 day text))
       go true h = passing h (checked b.files kind (code_of publisher) day judged) refl
-      go false h = absurd (let z = ap filedNumber (not-refused Answer.Unreadable (decided-unreadable b kind publisher day text h)) in omega (arith, z))
+      go false h = absurd (let z = ap filed_number (not-refused Answer.Unreadable (decided-unreadable b kind publisher day text h)) in omega (arith, z))
 
   -- the file
   abbrev f : Filed
-  f = filedAs kind found.0.0 day text
+  f = filed_as kind found.0.0 day text
 
   can : Enterable b kind found.0.0 day text found.1
   can = found.2
 
-  left : after ≡ filedInto f b
-  left = s.leaves ∙ ap (buffersAfter b) found.3
+  left : after ≡ filed_into f b
+  left = s.leaves ∙ ap (buffers_after b) found.3
 
   now : (reads after ≡ some (held after)) × (store_of (held after) ≡ filed rules (store_of (held b)) f)
   now = filed-reads s found.3
@@ -176,50 +176,50 @@ module _ {b after : Buffers} {kind : Filable} {publisher : List ℕ} {day : ℕ}
   one_more = ap (λ (t : Store rules). t.files) now.1
 
   same-table : after.table ≡ b.table
-  unfolding filedInto renewedIn entered
+  unfolding filed_into renewed_in entered
   same-table = ap (λ (x : Buffers). x.table) left
 
-  kind-is : f.kind ≡ kindNumber kind
-  unfolding filedAs
+  kind-is : f.kind ≡ kind_number kind
+  unfolding filed_as
   kind-is = refl
 
   counts : n ≡ count_of rules (held after).files f
   counts =
-      let e : Answer.Filed n ≡ Answer.Filed (count_of rules ((held b).files ++ (f ∷ [])) f) = s.answers ∙ ap (answerTo (held b).files) found.3 in
+      let e : Answer.Filed n ≡ Answer.Filed (count_of rules ((held b).files ++ (f ∷ [])) f) = s.answers ∙ ap (answer_to (held b).files) found.3 in
       let same : n ≡ count_of rules ((held b).files ++ (f ∷ [])) f = cc in
       same ∙ ap (λ (l : List Filed). count_of rules l f) (sym one_more)
 
   -- the entry of the line k
-  line-count : length (held b).lines ≡ lineCount b.table
+  line-count : length (held b).lines ≡ line_count b.table
   unfolding held lines_of
-  line-count = length-map (lines_of b.table) tableLine ∙ length-table (lineCount b.table) (line_at b.table)
+  line-count = length-map (lines_of b.table) table_line ∙ length-table (line_count b.table) (line_at b.table)
 
-  entry-count : length (held b).entries ≡ lineCount b.table
+  entry-count : length (held b).entries ≡ line_count b.table
   unfolding held
-  entry-count = length-table (lineCount b.table) (entryAt b.entries)
+  entry-count = length-table (line_count b.table) (entry_at b.entries)
 
-  entry-now : (k : ℕ) → k < lineCount b.table → entryAt after.entries k ≡ renewed rules (held b).files f (tableLine (line_at b.table k)) (entryAt b.entries k)
+  entry-now : (k : ℕ) → k < line_count b.table → entry_at after.entries k ≡ renewed rules (held b).files f (table_line (line_at b.table k)) (entry_at b.entries k)
   unfolding filed held lines_of
   entry-now k h =
-      let m : ℕ = lineCount b.table in
-      let d : Entry = entryAt after.entries k in
-      let line : TableLine Number = tableLine (line_at b.table k) in
-      let count : lineCount after.table ≡ m = ap lineCount same-table in
-      let lines : get_or (map tableLine (table m (line_at b.table))) k line ≡ line = ap (λ (l : List (TableLine Number)). get_or l k line) (map-table tableLine m (line_at b.table)) ∙ getD-table m k (λ (j : ℕ). tableLine (line_at b.table j)) line h in
-      let entries : get_or (table m (entryAt b.entries)) k d ≡ entryAt b.entries k = getD-table m k (entryAt b.entries) d h in
-      sym (getD-table (lineCount after.table) k (entryAt after.entries) d (omega (arith, count)))
+      let m : ℕ = line_count b.table in
+      let d : Entry = entry_at after.entries k in
+      let line : TableLine Number = table_line (line_at b.table k) in
+      let count : line_count after.table ≡ m = ap line_count same-table in
+      let lines : get_or (map table_line (table m (line_at b.table))) k line ≡ line = ap (λ (l : List (TableLine Number)). get_or l k line) (map-table table_line m (line_at b.table)) ∙ get_or-table m k (λ (j : ℕ). table_line (line_at b.table j)) line h in
+      let entries : get_or (table m (entry_at b.entries)) k d ≡ entry_at b.entries k = get_or-table m k (entry_at b.entries) d h in
+      sym (get_or-table (line_count after.table) k (entry_at after.entries) d (omega (arith, count)))
       ∙ ap (λ (t : Store rules). get_or t.entries k d) now.1
       ∙ zip-at (renewed rules (held b).files f) (held b).lines (held b).entries k line d d (omega (arith, line-count)) (omega (arith, entry-count))
       ∙ (λ i. renewed rules (held b).files f (lines i) (entries i))
 
-  worked-afresh : (k : ℕ) → k < lineCount b.table → named rules f (line_at b.table k).number ≡ true → entryAt after.entries k ≡ entryOver rules (held after).files (tableLine (line_at b.table k))
+  worked-afresh : (k : ℕ) → k < line_count b.table → named rules f (line_at b.table k).number ≡ true → entry_at after.entries k ≡ entry_over rules (held after).files (table_line (line_at b.table k))
   worked-afresh k h e =
       entry-now k h
-      ∙ ap (λ (t : Bool). cond t (entryOver rules ((held b).files ++ (f ∷ [])) (tableLine (line_at b.table k))) (entryAt b.entries k)) e
-      ∙ ap (λ (l : List Filed). entryOver rules l (tableLine (line_at b.table k))) (sym one_more)
+      ∙ ap (λ (t : Bool). cond t (entry_over rules ((held b).files ++ (f ∷ [])) (table_line (line_at b.table k))) (entry_at b.entries k)) e
+      ∙ ap (λ (l : List Filed). entry_over rules l (table_line (line_at b.table k))) (sym one_more)
 
   pub joined-and-renewed : JoinedAndRenewed b kind publisher day text n after
-  unfolding filedInto renewedIn
+  unfolding filed_into renewed_in
   joined-and-renewed =
       let w = offered-by b kind publisher day text f can.readable found.3 in record {
         code = w.0;
@@ -231,9 +231,9 @@ module _ {b after : Buffers} {kind : Filable} {publisher : List ℕ} {day : ℕ}
         read-after = now.0;
         same-table = same-table;
         one_more = one_more;
-        joined = ap (journalOf (kindNumber kind)) one_more ∙ journal-own (held b).files f (kindNumber kind) kind-is;
-        other = λ k apart. ap (journalOf k) one_more ∙ journal-other (held b).files f k (λ e. apart (sym kind-is ∙ e));
-        kept = λ k i h. ap (λ (x : Buffers). recordsAt x.regular x.corrections k i) left ∙ entered-stays can k i h;
+        joined = ap (journal_of (kind_number kind)) one_more ∙ journal-own (held b).files f (kind_number kind) kind-is;
+        other = λ k apart. ap (journal_of k) one_more ∙ journal-other (held b).files f k (λ e. apart (sym kind-is ∙ e));
+        kept = λ k i h. ap (λ (x : Buffers). records_at x.regular x.corrections k i) left ∙ entered-stays can k i h;
         counted = counts;
         renewed = λ k h e. worked-afresh k h (named-so kind found.0.0 day text (line_at b.table k).number ∙ e);
         untouched = λ k h e. ap (λ (x : Buffers). slot_at 0 100 x.entries k) left ∙ untouched-bytes can k h (named-so kind found.0.0 day text (line_at b.table k).number ∙ e);
@@ -241,30 +241,30 @@ module _ {b after : Buffers} {kind : Filable} {publisher : List ℕ} {day : ℕ}
 
 -- ---- for other languages
 pub filed-c : {b after : Buffers} {kind : ℕ} {publisher : List ℕ} {day : ℕ} {text : List ℕ} {more field cause : ℕ} → FilesAs b kind publisher day text 0 more field cause after
-    → Files b (filableBy kind) publisher (dayFor kind day) text (Answer.Filed more) after
+    → Files b (filable_by kind) publisher (day_for kind day) text (Answer.Filed more) after
 filed-c {b} {after} {kind} {publisher} {day} {text} {more} s = go (answered b kind publisher day text) refl
   where
-    go : (a : Answer) → answered b kind publisher day text ≡ a → Files b (filableBy kind) publisher (dayFor kind day) text (Answer.Filed more) after
-    go (Answer.Filed n) e = record { answers = ap Answer.Filed (s.tells ∙ ap filedCount e) ∙ sym e; leaves = s.leaves }
-    go Answer.Unreadable e = absurd (let z = s.answers ∙ ap filedNumber e in omega (arith, z))
-    go Answer.NoCode e = absurd (let z = s.answers ∙ ap filedNumber e in omega (arith, z))
-    go Answer.NoDay e = absurd (let z = s.answers ∙ ap filedNumber e in omega (arith, z))
-    go Answer.FiledAlready e = absurd (let z = s.answers ∙ ap filedNumber e in omega (arith, z))
-    go (Answer.Fault place cause) e = absurd (let z = s.answers ∙ ap filedNumber e in omega (arith, z))
-    go Answer.Full e = absurd (let z = s.answers ∙ ap filedNumber e in omega (arith, z))
+    go : (a : Answer) → answered b kind publisher day text ≡ a → Files b (filable_by kind) publisher (day_for kind day) text (Answer.Filed more) after
+    go (Answer.Filed n) e = record { answers = ap Answer.Filed (s.tells ∙ ap filed_count e) ∙ sym e; leaves = s.leaves }
+    go Answer.Unreadable e = absurd (let z = s.answers ∙ ap filed_number e in omega (arith, z))
+    go Answer.NoCode e = absurd (let z = s.answers ∙ ap filed_number e in omega (arith, z))
+    go Answer.NoDay e = absurd (let z = s.answers ∙ ap filed_number e in omega (arith, z))
+    go Answer.FiledAlready e = absurd (let z = s.answers ∙ ap filed_number e in omega (arith, z))
+    go (Answer.Fault place cause) e = absurd (let z = s.answers ∙ ap filed_number e in omega (arith, z))
+    go Answer.Full e = absurd (let z = s.answers ∙ ap filed_number e in omega (arith, z))
 
 -- any other number than 0 and 1 is no kind that is filed
-kind-told : (kind day : ℕ) → inCalendar (dayFor kind day) ≡ true → (kind ≤ 1) × (dayFor kind day ≡ day)
-unfolding dayFor
+kind-told : (kind day : ℕ) → in_calendar (day_for kind day) ≡ true → (kind ≤ 1) × (day_for kind day ≡ day)
+unfolding day_for
 kind-told kind day e = go (leb kind 1) refl e
   where
-    go : (t : Bool) → leb kind 1 ≡ t → inCalendar (cond t day 65535) ≡ true → (kind ≤ 1) × (cond t day 65535 ≡ day)
+    go : (t : Bool) → leb kind 1 ≡ t → in_calendar (cond t day 65535) ≡ true → (kind ≤ 1) × (cond t day 65535 ≡ day)
     go true q e = (leb-true kind 1 q, refl)
     go false q e = absurd (false≢true e)
 
 pub joined-and-renewed-c : {b after : Buffers} {kind : ℕ} {publisher : List ℕ} {day : ℕ} {text : List ℕ} {more field cause : ℕ} → FilesAs b kind publisher day text 0 more field cause after
-    → (kind ≤ 1) × JoinedAndRenewed b (filableBy kind) publisher day text more after
+    → (kind ≤ 1) × JoinedAndRenewed b (filable_by kind) publisher day text more after
 joined-and-renewed-c {b} {after} {kind} {publisher} {day} {text} {more} s =
     let w = joined-and-renewed (filed-c s) in
     let k = kind-told kind day w.dated in
-    (k.0, subst (λ (d : ℕ). JoinedAndRenewed b (filableBy kind) publisher d text more after) k.1 w)
+    (k.0, subst (λ (d : ℕ). JoinedAndRenewed b (filable_by kind) publisher d text more after) k.1 w)

@@ -10,12 +10,12 @@ use Rattle.laws.proofs.Tests.{le-or-lt}
 use Rattle.model.specs.Model.{Filed, Store, filed}
 use Rattle.rules.specs.Rules.{rules}
 use Rattle.store.specs.Reads.{Buffers, Held, held}
-use Rattle.starting.specs.Start.{startedWith}
+use Rattle.starting.specs.Start.{started_with}
 use Rattle.starting.proofs.Readable.{started-reads}
 use Rattle.filing.specs.declared.entering.kind.Filable.{Filable}
 use Rattle.filing.specs.declared.checking.answer.Answer.{Answer}
 use Rattle.filing.specs.checking.Filing.{Decision, Refuse, Accept, decide}
-use Rattle.filing.specs.Effect.{buffersAfter, Files, Came}
+use Rattle.filing.specs.Effect.{buffers_after, Files, Came}
 use Rattle.filing.proofs.Promises.{read-so, filed-reads}
 use Rattle.promises.specs.InUse.{InUse}
 use Rattle.promises.proofs.Stores.{came-in-use}
@@ -48,15 +48,15 @@ module _ {b after : Buffers} {kind : Filable} {publisher : List ℕ} {day : ℕ}
       (le-or-lt n (length (held b).files))
 
   offered : (d : Decision) → decide b kind publisher day text ≡ d → HadFirst after n
-  offered (Refuse a) d = let same : after ≡ b = s.leaves ∙ ap (buffersAfter b) d in rw same had
+  offered (Refuse a) d = let same : after ≡ b = s.leaves ∙ ap (buffers_after b) d in rw same had
   offered (Accept f) d = grown f d
 
 pub had-first : {b : Buffers} → Came b → (n : ℕ) → HadFirst b n
 had-first (Came.start {text} {before} {after} {n} s) m =
     let w = started-reads text before after n s in
-    let files : (held after).files ≡ [] = ap (λ (h : Held). h.files) (read-so after (startedWith w.0) w.3).1 ∙ none_yet w.0 in
+    let files : (held after).files ≡ [] = ap (λ (h : Held). h.files) (read-so after (started_with w.0) w.3).1 ∙ none_yet w.0 in
     itself (Came.start s) m (omega (arith, ap length files))
   where
-    none_yet : (ls : List _) → (startedWith ls).files ≡ []
-    none_yet ls = unfold startedWith in refl
+    none_yet : (ls : List _) → (started_with ls).files ≡ []
+    none_yet ls = unfold started_with in refl
 had-first (Came.file {b} c {kind} {publisher} {day} {text} s) n = offered c s n (had-first c n) (decide b kind publisher day text) refl

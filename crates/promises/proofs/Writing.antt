@@ -13,26 +13,26 @@ use Rattle.layout.specs.declared.report.Report.{Report}
 use Rattle.layout.specs.declared.report.ReportRead.{ReportRead}
 use Rattle.layout.specs.declared.correction.Correction.{Correction}
 use Rattle.layout.specs.declared.correction.CorrectionRead.{CorrectionRead}
-use Rattle.layout.specs.Report.{reportOfWords}
-use Rattle.layout.specs.Correction.{correctionOfWords}
+use Rattle.layout.specs.Report.{report_of_words}
+use Rattle.layout.specs.Correction.{correction_of_words}
 use Rattle.records.specs.declared.names.kind.FileKind.{FileKind}
 use Rattle.records.specs.declared.names.written.Written.{Written}
-use Rattle.records.specs.names.Written.{afterWriting, Wrote}
+use Rattle.records.specs.names.Written.{after_writing, Wrote}
 use Rattle.records.specs.Record.{text_of}
 use Rattle.files.specs.declared.judge.Judged.TheVariants.{Records}
-use Rattle.files.specs.Judged.{judgedFile, recordsOf}
-use Rattle.files.specs.Writing.{Holding, held, valuesIn, fileOf, answerTo, fileAnswer}
+use Rattle.files.specs.Judged.{judged_file, records_of}
+use Rattle.files.specs.Writing.{Holding, held, values_in, file_of, answer_to, file_answer}
 use Rattle.files.specs.declared.read.Found.{Found}
 use Rattle.files.specs.declared.values.ReportAt.{ReportAt}
 use Rattle.files.specs.declared.values.CorrectionAt.{CorrectionAt}
-use Rattle.files.specs.Values.{reportFound, reportAt, correctionFound, correctionAt}
+use Rattle.files.specs.Values.{report_found, report_at, correction_found, correction_at}
 use Rattle.files.proofs.FileTrip.{words-read}
 use Rattle.files.proofs.ValueTrip.{report-kept, correction-kept}
 use Rattle.capi.specs.Writing.{Writes}
-use Rattle.promises.specs.Numbers.{wroteNumber, wroteCount}
+use Rattle.promises.specs.Numbers.{wrote_number, wrote_count}
 
 -- a file of so many records that the layouts hold, shorter than the room
-whole-file : (h : Holding) (text : List ℕ) (room n : ℕ) → Written.Length n ≡ answerTo h text room → (m : ℕ) × (h ≡ Holding.Records m) × (length text ≤ room) × (n ≡ length text)
+whole-file : (h : Holding) (text : List ℕ) (room n : ℕ) → Written.Length n ≡ answer_to h text room → (m : ℕ) × (h ≡ Holding.Records m) × (length text ≤ room) × (n ≡ length text)
 whole-file (Holding.Fault i) text room n q = absurd (let z : ◌≡◌ {A = ℕ} 0 1 = cc in omega arith)
 whole-file (Holding.Records m) text room n q = go (leb (length text) room) refl q
   where
@@ -41,47 +41,47 @@ whole-file (Holding.Records m) text room n q = go (leb (length text) room) refl 
     go true e q = (m, refl, leb-true (length text) room e, cc)
     go false e q = absurd (let z : ◌≡◌ {A = ℕ} 0 1 = cc in omega arith)
 
-module _ (kind : FileKind) (words : List ℕ) {before after : List ℕ} {n : ℕ} (s : Wrote (fileAnswer kind words (length before)) (fileOf kind words) before after (Written.Length n)) where
-  found : (m : ℕ) × (held kind (valuesIn kind words) ≡ Holding.Records m) × (length (fileOf kind words) ≤ length before) × (n ≡ length (fileOf kind words))
-  unfolding fileAnswer
-  found = whole-file (held kind (valuesIn kind words)) (fileOf kind words) (length before) n s.answer
+module _ (kind : FileKind) (words : List ℕ) {before after : List ℕ} {n : ℕ} (s : Wrote (file_answer kind words (length before)) (file_of kind words) before after (Written.Length n)) where
+  found : (m : ℕ) × (held kind (values_in kind words) ≡ Holding.Records m) × (length (file_of kind words) ≤ length before) × (n ≡ length (file_of kind words))
+  unfolding file_answer
+  found = whole-file (held kind (values_in kind words)) (file_of kind words) (length before) n s.answer
 
-  front : take n after ≡ fileOf kind words
+  front : take n after ≡ file_of kind words
   front = laid-front found.2 (record {
-    bytes = s.bytes ∙ ap (λ (r : Written). afterWriting r (fileOf kind words) before) (sym s.answer);
-    ends = found.3 ∙ sym (zero-add (length (fileOf kind words)));
+    bytes = s.bytes ∙ ap (λ (r : Written). after_writing r (file_of kind words) before) (sym s.answer);
+    ends = found.3 ∙ sym (zero-add (length (file_of kind words)));
   })
 
-  pub reads-back : (judgedFile kind (take n after) ≡ Records (length (valuesIn kind words))) × (recordsOf kind (take n after) ≡ map (text_of kind) (valuesIn kind words))
+  pub reads-back : (judged_file kind (take n after) ≡ Records (length (values_in kind words))) × (records_of kind (take n after) ≡ map (text_of kind) (values_in kind words))
   reads-back =
       let w = (words-read kind words found.0 found.1).0 in
-      rw front (w.count ∙ ap Records (length-map (valuesIn kind words) (text_of kind)), w.texts)
+      rw front (w.count ∙ ap Records (length-map (values_in kind words) (text_of kind)), w.texts)
 
   -- as many records as there are values
-  inside : (k : ℕ) → k < length (valuesIn kind words) → k < found.0
+  inside : (k : ℕ) → k < length (values_in kind words) → k < found.0
   inside k h = omega (arith, h, (words-read kind words found.0 found.1).1)
 
 -- ---- value by value
 module _ (words : List ℕ) {before after : List ℕ} {n : ℕ} (k : ℕ) where
-  pub report-back : Wrote (fileAnswer FileKind.Default words (length before)) (fileOf FileKind.Default words) before after (Written.Length n) → k < length (valuesIn FileKind.Default words)
-      → (x : Report) → reportOfWords (get_or (valuesIn FileKind.Default words) k []) ≡ ReportRead.Report x → reportAt (take n after) k ≡ ReportAt.Report x
+  pub report-back : Wrote (file_answer FileKind.Default words (length before)) (file_of FileKind.Default words) before after (Written.Length n) → k < length (values_in FileKind.Default words)
+      → (x : Report) → report_of_words (get_or (values_in FileKind.Default words) k []) ≡ ReportRead.Report x → report_at (take n after) k ≡ ReportAt.Report x
   report-back s h x e =
-      ap (λ (file : List ℕ). reportAt file k) (front FileKind.Default words s)
+      ap (λ (file : List ℕ). report_at file k) (front FileKind.Default words s)
       ∙ report-kept words (found FileKind.Default words s).0 k (found FileKind.Default words s).1 (inside FileKind.Default words s k h)
-      ∙ ap (reportFound Found.Record) e
+      ∙ ap (report_found Found.Record) e
 
-  pub correction-back : Wrote (fileAnswer FileKind.Correction words (length before)) (fileOf FileKind.Correction words) before after (Written.Length n) → k < length (valuesIn FileKind.Correction words)
-      → (x : Correction) → correctionOfWords (get_or (valuesIn FileKind.Correction words) k []) ≡ CorrectionRead.Correction x → correctionAt (take n after) k ≡ CorrectionAt.Correction x
+  pub correction-back : Wrote (file_answer FileKind.Correction words (length before)) (file_of FileKind.Correction words) before after (Written.Length n) → k < length (values_in FileKind.Correction words)
+      → (x : Correction) → correction_of_words (get_or (values_in FileKind.Correction words) k []) ≡ CorrectionRead.Correction x → correction_at (take n after) k ≡ CorrectionAt.Correction x
   correction-back s h x e =
-      ap (λ (file : List ℕ). correctionAt file k) (front FileKind.Correction words s)
+      ap (λ (file : List ℕ). correction_at file k) (front FileKind.Correction words s)
       ∙ correction-kept words (found FileKind.Correction words s).0 k (found FileKind.Correction words s).1 (inside FileKind.Correction words s k h)
-      ∙ ap (correctionFound Found.Record) e
+      ∙ ap (correction_found Found.Record) e
 
 -- ---- for other languages
 pub wrote-c : {right : Written} {text before after : List ℕ} {more : ℕ} → Writes right text before after 0 more → Wrote right text before after (Written.Length more)
 wrote-c {right} {text} {before} {after} {more} s = go right refl
   where
     go : (r : Written) → right ≡ r → Wrote right text before after (Written.Length more)
-    go (Written.Length n) e = record { answer = ap Written.Length (s.tells ∙ ap wroteCount e) ∙ sym e; bytes = s.bytes }
-    go (Written.Fault i) e = absurd (let z = s.answers ∙ ap wroteNumber e in omega (arith, z))
-    go Written.Long e = absurd (let z = s.answers ∙ ap wroteNumber e in omega (arith, z))
+    go (Written.Length n) e = record { answer = ap Written.Length (s.tells ∙ ap wrote_count e) ∙ sym e; bytes = s.bytes }
+    go (Written.Fault i) e = absurd (let z = s.answers ∙ ap wrote_number e in omega (arith, z))
+    go Written.Long e = absurd (let z = s.answers ∙ ap wrote_number e in omega (arith, z))

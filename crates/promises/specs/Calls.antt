@@ -17,7 +17,7 @@ use Rattle.capi.specs.Offer.{FilesAs}
 use Rattle.capi.specs.Again.{ReworksAs}
 use Rattle.capi.specs.Writing.{Writes}
 use Rattle.capi.specs.Show.{ShowsEntry}
-use Rattle.promises.specs.Numbers.{startedNumber, filedNumber, reworkedNumber, wroteNumber}
+use Rattle.promises.specs.Numbers.{started_number, filed_number, reworked_number, wrote_number}
 
 -- all bytes of a store
 abbrev pub bytes_of : Buffers → List (List ℕ)
@@ -25,18 +25,18 @@ bytes_of b = b.table ∷ b.files ∷ b.regular ∷ b.corrections ∷ b.entries �
 
 -- the number, and each lent run of bytes or numbers: a call that ends in `-c` is what other languages call
 pub data Call : ℕ → List (List ℕ) → List (List ℕ) → Type 0 where
-  start : {text : List ℕ} {before after : Buffers} {answer : Started} → Starts text before answer after → Call (startedNumber answer) (bytes_of before) (bytes_of after)
+  start : {text : List ℕ} {before after : Buffers} {answer : Started} → Starts text before answer after → Call (started_number answer) (bytes_of before) (bytes_of after)
   start-c : {text : List ℕ} {before after : Buffers} {answer more : ℕ} → StartsAs text before answer more after → Call answer (bytes_of before) (bytes_of after)
   file : {b after : Buffers} {kind : Filable} {publisher : List ℕ} {day : ℕ} {text : List ℕ} {answer : Answer}
-      → Files b kind publisher day text answer after → Call (filedNumber answer) (bytes_of b) (bytes_of after)
+      → Files b kind publisher day text answer after → Call (filed_number answer) (bytes_of b) (bytes_of after)
   file-c : {b after : Buffers} {kind : ℕ} {publisher : List ℕ} {day : ℕ} {text : List ℕ} {answer more field cause : ℕ}
       → FilesAs b kind publisher day text answer more field cause after → Call answer (bytes_of b) (bytes_of after)
   -- reworking is lent the entries and the list
   rework : {b : Buffers} {n : ℕ} {list : List ℕ} {answer : Reworked} {entries listed : List ℕ}
-      → Reworks b n list answer entries listed → Call (reworkedNumber answer) (b.entries ∷ list ∷ []) (entries ∷ listed ∷ [])
+      → Reworks b n list answer entries listed → Call (reworked_number answer) (b.entries ∷ list ∷ []) (entries ∷ listed ∷ [])
   rework-c : {b : Buffers} {list : List ℕ} {answer more : ℕ} {entries listed : List ℕ}
       → ReworksAs b list answer more entries listed → Call answer (b.entries ∷ list ∷ []) (entries ∷ listed ∷ [])
   -- a file or the name of one is written, and an entry shown, into a lent buffer
-  write : {right answer : Written} {text before after : List ℕ} → Wrote right text before after answer → Call (wroteNumber answer) (before ∷ []) (after ∷ [])
+  write : {right answer : Written} {text before after : List ℕ} → Wrote right text before after answer → Call (wrote_number answer) (before ∷ []) (after ∷ [])
   write-c : {right : Written} {text before after : List ℕ} {answer more : ℕ} → Writes right text before after answer more → Call answer (before ∷ []) (after ∷ [])
   show-c : {a : EntryAnswer} {before after : List ℕ} {answer : ℕ} → ShowsEntry a before answer after → Call answer (before ∷ []) (after ∷ [])

@@ -2,61 +2,61 @@
 use Rattle.std.specs.Prelude.{ℕ}
 use Rattle.laws.specs.Told.{value_at}
 use Rattle.records.specs.declared.names.written.Written.{Written}
-use Rattle.records.specs.names.Written.{writtenTold}
+use Rattle.records.specs.names.Written.{written_told}
 use Rattle.starting.specs.declared.start.Started.{Started}
-use Rattle.starting.specs.Start.{startedTold}
+use Rattle.starting.specs.Start.{started_told}
 use Rattle.filing.specs.declared.checking.answer.Answer.{Answer}
-use Rattle.filing.specs.checking.Answers.{answerTold}
+use Rattle.filing.specs.checking.Answers.{answer_told}
 use Rattle.asking.specs.declared.pairs.WhyAnswer.{WhyAnswer}
 use Rattle.asking.specs.declared.record.Asked.{Asked}
-use Rattle.asking.specs.Numbers.{whyTold, askedTold}
+use Rattle.asking.specs.Numbers.{why_told, asked_told}
 use Rattle.reworking.specs.declared.rework.Reworked.{Reworked}
-use Rattle.reworking.specs.Reworking.{reworkedTold}
+use Rattle.reworking.specs.Reworking.{reworked_told}
 
 -- starting: 0 with how many lines the table has
-abbrev pub startedNumber : Started → ℕ
-startedNumber a = (startedTold a).number
+abbrev pub started_number : Started → ℕ
+started_number a = (started_told a).number
 
-abbrev pub startedCount : Started → ℕ
-startedCount a = value_at 0 (startedTold a)
+abbrev pub started_count : Started → ℕ
+started_count a = value_at 0 (started_told a)
 
 -- filing: 0 with the count of the journal records whose number the file names
-abbrev pub filedNumber : Answer → ℕ
-filedNumber a = (answerTold a).number
+abbrev pub filed_number : Answer → ℕ
+filed_number a = (answer_told a).number
 
-abbrev pub filedCount : Answer → ℕ
-filedCount a = value_at 0 (answerTold a)
+abbrev pub filed_count : Answer → ℕ
+filed_count a = value_at 0 (answer_told a)
 
 -- reworking: 0 with how many entries changed
-abbrev pub reworkedNumber : Reworked → ℕ
-reworkedNumber a = (reworkedTold a).number
+abbrev pub reworked_number : Reworked → ℕ
+reworked_number a = (reworked_told a).number
 
-abbrev pub reworkedCount : Reworked → ℕ
-reworkedCount a = value_at 0 (reworkedTold a)
+abbrev pub reworked_count : Reworked → ℕ
+reworked_count a = value_at 0 (reworked_told a)
 
 -- writing: 0 with the length of what was written
-abbrev pub wroteNumber : Written → ℕ
-wroteNumber a = (writtenTold a).number
+abbrev pub wrote_number : Written → ℕ
+wrote_number a = (written_told a).number
 
-abbrev pub wroteCount : Written → ℕ
-wroteCount a = value_at 0 (writtenTold a)
+abbrev pub wrote_count : Written → ℕ
+wrote_count a = value_at 0 (written_told a)
 
 -- why
-abbrev pub whySaid : WhyAnswer → ℕ
-whySaid a = (whyTold a).number
+abbrev pub why_said : WhyAnswer → ℕ
+why_said a = (why_told a).number
 
 -- a record: 0 with its publisher, its publication day, its place in its file, and the number of its verdict
-abbrev pub recordNumber : Asked → ℕ
-recordNumber a = (askedTold a).number
+abbrev pub record_number : Asked → ℕ
+record_number a = (asked_told a).number
 
-abbrev pub recordPublisher : Asked → ℕ
-recordPublisher a = value_at 0 (askedTold a)
+abbrev pub record_publisher : Asked → ℕ
+record_publisher a = value_at 0 (asked_told a)
 
-abbrev pub recordDay : Asked → ℕ
-recordDay a = value_at 1 (askedTold a)
+abbrev pub record_day : Asked → ℕ
+record_day a = value_at 1 (asked_told a)
 
-abbrev pub recordPlace : Asked → ℕ
-recordPlace a = value_at 2 (askedTold a)
+abbrev pub record_place : Asked → ℕ
+record_place a = value_at 2 (asked_told a)
 
-abbrev pub recordVerdict : Asked → ℕ
-recordVerdict a = value_at 3 (askedTold a)
+abbrev pub record_verdict : Asked → ℕ
+record_verdict a = value_at 3 (asked_told a)

@@ -1,8 +1,8 @@
 // What is asked of the libraries. The store has been judged when it was opened, so that a look at it is its answer.
 ghost use Rattle.std.specs.Prelude.{◌≡◌};
 ghost use Rattle.store.specs.Reads.{lent};
-ghost use Rattle.asking.specs.Looks.{standingLooked};
-ghost use Rattle.reworking.specs.Reworking.{allFiles, Reworks};
+ghost use Rattle.asking.specs.Looks.{standing_looked};
+ghost use Rattle.reworking.specs.Reworking.{all_files, Reworks};
 
 use asking::stand;
 use entries::entry::Entry;
@@ -18,7 +18,7 @@ pub fn before<'a>(
     corrections: &'a [u8],
     i: usize,
 ) -> Entry
-    ensures { result ≡ (standingLooked lines.now files.now regular.now corrections.now n i).standing.entry }
+    ensures { result ≡ (standing_looked lines.now files.now regular.now corrections.now n i).standing.entry }
 {
     let s = stand::look(lines, files, n, regular, corrections, i);
     let t = s.standing;
@@ -34,7 +34,7 @@ pub fn reworked<'a>(
     entries: &mut [u8],
     list: &mut [u16],
 ) -> Reworked
-    ensures { Reworks (lent lines.now files.now regular.now corrections.now entries.old) allFiles list.old result entries.new list.new }
+    ensures { Reworks (lent lines.now files.now regular.now corrections.now entries.old) all_files list.old result entries.new list.new }
 {
     rework::rework(lines, files, regular, corrections, entries, ALL_FILES, list)
 }

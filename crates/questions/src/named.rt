@@ -1,6 +1,6 @@
 // The line of the number table that a number has.
 ghost use Rattle.std.specs.Prelude.{◌≡◌};
-ghost use Rattle.questions.specs.Shown.{lineNamed};
+ghost use Rattle.questions.specs.Shown.{line_named};
 
 use fields::number::NumberRead;
 use store::numbers::find;
@@ -8,7 +8,7 @@ use store::numbers::find::FoundLine;
 
 // None for what is no number.
 pub fn line_of(lines: &[u8], number: NumberRead) -> FoundLine
-    ensures { result ≡ lineNamed lines.now number }
+    ensures { result ≡ line_named lines.now number }
 {
     match number {
         NumberRead::Number(x) => find::find_line(lines, x),

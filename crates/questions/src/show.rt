@@ -1,6 +1,6 @@
 // show STORE [--before N] [NUMBER...]: entries as they are stored, or as they stood before a file arrived.
 ghost use Rattle.std.specs.Prelude.{◌≡◌};
-ghost use Rattle.questions.specs.Shown.{entryWanted, fileNumber};
+ghost use Rattle.questions.specs.Shown.{entry_wanted, file_number};
 
 use crate::{asked, named, table};
 use commands::{arrivals, end, opened};
@@ -32,7 +32,7 @@ fn entry_of<'a>(
     entries: &[u8],
     i: usize,
 ) -> Entry
-    ensures { result ≡ entryWanted a.stored a.files lines.now files.now regular.now corrections.now entries.now i }
+    ensures { result ≡ entry_wanted a.stored a.files lines.now files.now regular.now corrections.now entries.now i }
 {
     if a.stored {
         return table::entry_at(entries, i);
@@ -237,7 +237,7 @@ fn usage(wrong: &[u8]) -> u8 {
 
 // The number of a file, from 1; 0 where the word is none. Nine digits are enough for any.
 fn file_number(word: &[u8]) -> u64
-    ensures { result ≡ fileNumber word.now }
+    ensures { result ≡ file_number word.now }
 {
     if word.len() == 0 {
         return 0;

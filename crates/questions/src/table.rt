@@ -1,7 +1,7 @@
 // Lines of the number table and their entries, for any place of any bytes.
 ghost use Rattle.std.specs.Prelude.{◌≡◌};
-ghost use Rattle.asking.specs.Standing.{noEntry};
-ghost use Rattle.questions.specs.Shown.{linesShown, numberShown, entryShown};
+ghost use Rattle.asking.specs.Standing.{no_entry};
+ghost use Rattle.questions.specs.Shown.{lines_shown, number_shown, entry_shown};
 
 use entries::entry::{Entry, Listed};
 use fields::number::{Digits, Number};
@@ -9,7 +9,7 @@ use store::numbers::lines;
 
 // How many lines there are, and at most as many as the table takes.
 pub fn count(table: &[u8]) -> usize
-    ensures { result ≡ linesShown table.now }
+    ensures { result ≡ lines_shown table.now }
 {
     if table.len() < 2 {
         return 0;
@@ -23,7 +23,7 @@ pub fn count(table: &[u8]) -> usize
 
 // The number of a line; one of no digits where there is none.
 pub fn number_at(table: &[u8], i: usize) -> Number
-    ensures { result ≡ numberShown table.now i }
+    ensures { result ≡ number_shown table.now i }
 {
     let none = Number {
         first: Digits::EMPTY,
@@ -41,7 +41,7 @@ pub fn number_at(table: &[u8], i: usize) -> Number
 
 // The entry of no line.
 fn no_entry() -> Entry
-    ensures { result ≡ noEntry }
+    ensures { result ≡ no_entry }
 {
     let none = entries::entry::line_in(Listed::Missing);
     entries::entry::first(none)
@@ -49,7 +49,7 @@ fn no_entry() -> Entry
 
 // The stored entry of a line.
 pub fn entry_at(entries: &[u8], i: usize) -> Entry
-    ensures { result ≡ entryShown entries.now i }
+    ensures { result ≡ entry_shown entries.now i }
 {
     if lines::NUMBERS <= i {
         return no_entry();

@@ -1,7 +1,7 @@
 // What is asked of the library. The store has been judged when it was opened, so that a look at it is its answer.
 ghost use Rattle.std.specs.Prelude.{◌≡◌};
 ghost use Rattle.asking.specs.Why.{part_at};
-ghost use Rattle.reasons.specs.Named.{whyNamed};
+ghost use Rattle.reasons.specs.Named.{why_named};
 
 use asking::looks::LookedWhy;
 use asking::pairs::Stored;
@@ -16,7 +16,7 @@ pub fn why<'a>(
     corrections: &'a [u8],
     number: NumberRead,
 ) -> LookedWhy
-    ensures { result ≡ whyNamed lines.now files.now regular.now corrections.now number }
+    ensures { result ≡ why_named lines.now files.now regular.now corrections.now number }
 {
     match number {
         NumberRead::Number(x) => asking::why::look(lines, files, regular, corrections, x),

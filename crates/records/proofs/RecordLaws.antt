@@ -12,34 +12,34 @@ use Rattle.layout.specs.declared.part.PartRead.{PartRead}
 use Rattle.layout.specs.declared.report.ReportRead.{ReportRead}
 use Rattle.layout.specs.declared.correction.CorrectionRead.{CorrectionRead}
 use Rattle.layout.specs.declared.request.RequestRead.{RequestRead}
-use Rattle.layout.specs.Report.{reportFrom, reportOfWords, reportPart}
-use Rattle.layout.specs.Correction.{correctionOfWords, isReport}
-use Rattle.layout.specs.Request.{requestOfWords}
+use Rattle.layout.specs.Report.{report_from, report_of_words, report_part}
+use Rattle.layout.specs.Correction.{correction_of_words, is_report}
+use Rattle.layout.specs.Request.{request_of_words}
 use Rattle.layout.proofs.PartLaws.{words_count, part-short, date-short}
 use Rattle.layout.proofs.CorrectionLaws as correction
 use Rattle.layout.proofs.RequestLaws as request
 use Rattle.records.specs.declared.names.kind.FileKind.{FileKind}
 use Rattle.records.specs.declared.names.kind.FileKind.TheVariants.{Default, Correction, Request, Response}
-use Rattle.records.specs.Record.{isCorrection, isRequest, reportSpelt, correctionSpelt, requestSpelt, width_of, fits, text_of}
+use Rattle.records.specs.Record.{is_correction, is_request, report_spelt, correction_spelt, request_spelt, width_of, fits, text_of}
 
 -- ---- how many words
-report-width : (w : List ℕ) → isReport (reportOfWords w) ≡ true → length w ≡ 6
-unfolding reportOfWords reportFrom
+report-width : (w : List ℕ) → is_report (report_of_words w) ≡ true → length w ≡ 6
+unfolding report_of_words report_from
 report-width w e = elim (ℕ_discrete (length w) 6) [
   | yes h ↦ h
-  | no h ↦ never (sym (ap (λ (p : PartRead). isReport (reportFrom p)) (words_count w h)) ∙ e)
+  | no h ↦ never (sym (ap (λ (p : PartRead). is_report (report_from p)) (words_count w h)) ∙ e)
 ]
 
-correction-width : (w : List ℕ) → isCorrection (correctionOfWords w) ≡ true → length w ≡ 13
+correction-width : (w : List ℕ) → is_correction (correction_of_words w) ≡ true → length w ≡ 13
 correction-width w e = elim (ℕ_discrete (length w) 13) [
   | yes h ↦ h
-  | no h ↦ never (sym (ap isCorrection (correction.words-1 w h)) ∙ e)
+  | no h ↦ never (sym (ap is_correction (correction.words-1 w h)) ∙ e)
 ]
 
-request-width : (w : List ℕ) → isRequest (requestOfWords w) ≡ true → length w ≡ 2
+request-width : (w : List ℕ) → is_request (request_of_words w) ≡ true → length w ≡ 2
 request-width w e = elim (ℕ_discrete (length w) 2) [
   | yes h ↦ h
-  | no h ↦ never (sym (ap isRequest (request.words-1 w h)) ∙ e)
+  | no h ↦ never (sym (ap is_request (request.words-1 w h)) ∙ e)
 ]
 
 pub fits_width : (k : FileKind) (w : List ℕ) → fits k w ≡ true → length w ≡ width_of k
@@ -50,21 +50,21 @@ fits_width Request w e = request-width w e
 fits_width Response w e = report-width w e
 
 -- ---- how many bytes
-report-short : (r : ReportRead) → length (reportSpelt r) ≤ 46
-report-short (ReportRead.Report x) = part-short (reportPart x)
+report-short : (r : ReportRead) → length (report_spelt r) ≤ 46
+report-short (ReportRead.Report x) = part-short (report_part x)
 report-short ReportRead.Fault = omega arith
 
-correction-short : (r : CorrectionRead) → length (correctionSpelt r) ≤ 101
+correction-short : (r : CorrectionRead) → length (correction_spelt r) ≤ 101
 correction-short (CorrectionRead.Correction x) = omega (arith, correction.length-correction x, part-short x.u, part-short x.k)
 correction-short CorrectionRead.Fault = omega arith
 
-request-short : (r : RequestRead) → length (requestSpelt r) ≤ 14
+request-short : (r : RequestRead) → length (request_spelt r) ≤ 14
 request-short (RequestRead.Request x) = omega (arith, request.length-request x, date-short x.from)
 request-short RequestRead.Fault = omega arith
 
 pub fits-short : (k : FileKind) (w : List ℕ) → fits k w ≡ true → length (text_of k w) + 1 ≤ 8 * length w
 unfolding fits text_of
-fits-short Default w e = omega (arith, report-width w e, report-short (reportOfWords w))
-fits-short Correction w e = omega (arith, correction-width w e, correction-short (correctionOfWords w))
-fits-short Request w e = omega (arith, request-width w e, request-short (requestOfWords w))
-fits-short Response w e = omega (arith, report-width w e, report-short (reportOfWords w))
+fits-short Default w e = omega (arith, report-width w e, report-short (report_of_words w))
+fits-short Correction w e = omega (arith, correction-width w e, correction-short (correction_of_words w))
+fits-short Request w e = omega (arith, request-width w e, request-short (request_of_words w))
+fits-short Response w e = omega (arith, report-width w e, report-short (report_of_words w))

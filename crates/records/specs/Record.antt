@@ -4,26 +4,26 @@ use Rattle.std.specs.Prelude.{ℕ, Bool, true, false, List, []}
 use Rattle.layout.specs.declared.report.ReportRead.{ReportRead}
 use Rattle.layout.specs.declared.correction.CorrectionRead.{CorrectionRead}
 use Rattle.layout.specs.declared.request.RequestRead.{RequestRead}
-use Rattle.layout.specs.Report.{reportOf, reportOfWords, reportText}
-use Rattle.layout.specs.Correction.{correctionOf, correctionOfWords, correctionText, isReport}
-use Rattle.layout.specs.Request.{requestOf, requestOfWords, requestText}
+use Rattle.layout.specs.Report.{report_of, report_of_words, report_text}
+use Rattle.layout.specs.Correction.{correction_of, correction_of_words, correction_text, is_report}
+use Rattle.layout.specs.Request.{request_of, request_of_words, request_text}
 use Rattle.records.specs.declared.names.kind.FileKind.{FileKind}
 use Rattle.records.specs.declared.names.kind.FileKind.TheVariants.{Default, Correction, Request, Response}
 
-abbrev pub isCorrection : CorrectionRead → Bool
-isCorrection (CorrectionRead.Correction c) = true
-isCorrection CorrectionRead.Fault = false
+abbrev pub is_correction : CorrectionRead → Bool
+is_correction (CorrectionRead.Correction c) = true
+is_correction CorrectionRead.Fault = false
 
-abbrev pub isRequest : RequestRead → Bool
-isRequest (RequestRead.Request q) = true
-isRequest RequestRead.Fault = false
+abbrev pub is_request : RequestRead → Bool
+is_request (RequestRead.Request q) = true
+is_request RequestRead.Fault = false
 
 -- whether a line is a record of a file of this kind
-unfoldable pub isRecord : FileKind → List ℕ → Bool
-isRecord Default l = isReport (reportOf l)
-isRecord Correction l = isCorrection (correctionOf l)
-isRecord Request l = isRequest (requestOf l)
-isRecord Response l = isReport (reportOf l)
+unfoldable pub is_record : FileKind → List ℕ → Bool
+is_record Default l = is_report (report_of l)
+is_record Correction l = is_correction (correction_of l)
+is_record Request l = is_request (request_of l)
+is_record Response l = is_report (report_of l)
 
 -- how many words a record is given by
 abbrev pub width_of : FileKind → ℕ
@@ -34,26 +34,26 @@ width_of Response = 6
 
 -- whether words are the values of a record that the layout can hold
 unfoldable pub fits : FileKind → List ℕ → Bool
-fits Default w = isReport (reportOfWords w)
-fits Correction w = isCorrection (correctionOfWords w)
-fits Request w = isRequest (requestOfWords w)
-fits Response w = isReport (reportOfWords w)
+fits Default w = is_report (report_of_words w)
+fits Correction w = is_correction (correction_of_words w)
+fits Request w = is_request (request_of_words w)
+fits Response w = is_report (report_of_words w)
 
 -- how the record is spelt; nothing where there is none
-abbrev pub reportSpelt : ReportRead → List ℕ
-reportSpelt (ReportRead.Report r) = reportText r
-reportSpelt ReportRead.Fault = []
+abbrev pub report_spelt : ReportRead → List ℕ
+report_spelt (ReportRead.Report r) = report_text r
+report_spelt ReportRead.Fault = []
 
-abbrev pub correctionSpelt : CorrectionRead → List ℕ
-correctionSpelt (CorrectionRead.Correction c) = correctionText c
-correctionSpelt CorrectionRead.Fault = []
+abbrev pub correction_spelt : CorrectionRead → List ℕ
+correction_spelt (CorrectionRead.Correction c) = correction_text c
+correction_spelt CorrectionRead.Fault = []
 
-abbrev pub requestSpelt : RequestRead → List ℕ
-requestSpelt (RequestRead.Request q) = requestText q
-requestSpelt RequestRead.Fault = []
+abbrev pub request_spelt : RequestRead → List ℕ
+request_spelt (RequestRead.Request q) = request_text q
+request_spelt RequestRead.Fault = []
 
 unfoldable pub text_of : FileKind → List ℕ → List ℕ
-text_of Default w = reportSpelt (reportOfWords w)
-text_of Correction w = correctionSpelt (correctionOfWords w)
-text_of Request w = requestSpelt (requestOfWords w)
-text_of Response w = reportSpelt (reportOfWords w)
+text_of Default w = report_spelt (report_of_words w)
+text_of Correction w = correction_spelt (correction_of_words w)
+text_of Request w = request_spelt (request_of_words w)
+text_of Response w = report_spelt (report_of_words w)

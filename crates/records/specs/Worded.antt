@@ -8,30 +8,30 @@ use Rattle.layout.specs.declared.part.Part.{Part}
 use Rattle.layout.specs.declared.report.Report.{Report}
 use Rattle.layout.specs.declared.correction.Correction.{Correction}
 use Rattle.layout.specs.declared.request.Request.{Request}
-use Rattle.layout.specs.Report.{reportPart}
+use Rattle.layout.specs.Report.{report_part}
 
-abbrev pub dateWord : MaybeDate → ℕ
-dateWord (MaybeDate.Date d) = d.0
-dateWord MaybeDate.Empty = 65535
+abbrev pub date_word : MaybeDate → ℕ
+date_word (MaybeDate.Date d) = d.0
+date_word MaybeDate.Empty = 65535
 
-abbrev pub codeWord : MaybeCode → ℕ
-codeWord (MaybeCode.Code c) = c.0
-codeWord MaybeCode.Empty = 1000
+abbrev pub code_word : MaybeCode → ℕ
+code_word (MaybeCode.Code c) = c.0
+code_word MaybeCode.Empty = 1000
 
-abbrev pub kindWord : MaybeKind → ℕ
-kindWord (MaybeKind.Kind Kind.P) = 0
-kindWord (MaybeKind.Kind Kind.L) = 1
-kindWord (MaybeKind.Kind Kind.Z) = 2
-kindWord MaybeKind.Empty = 3
+abbrev pub kind_word : MaybeKind → ℕ
+kind_word (MaybeKind.Kind Kind.P) = 0
+kind_word (MaybeKind.Kind Kind.L) = 1
+kind_word (MaybeKind.Kind Kind.Z) = 2
+kind_word MaybeKind.Empty = 3
 
-abbrev pub partWords : Part → List ℕ
-partWords p = p.number.first.0 ∷ p.number.last.0 ∷ dateWord p.date ∷ codeWord p.gaining ∷ codeWord p.losing ∷ kindWord p.kind ∷ []
+abbrev pub part_words : Part → List ℕ
+part_words p = p.number.first.0 ∷ p.number.last.0 ∷ date_word p.date ∷ code_word p.gaining ∷ code_word p.losing ∷ kind_word p.kind ∷ []
 
-abbrev pub reportWords : Report → List ℕ
-reportWords r = partWords (reportPart r)
+abbrev pub report_words : Report → List ℕ
+report_words r = part_words (report_part r)
 
-abbrev pub correctionWords : Correction → List ℕ
-correctionWords c = c.code.0 ∷ (partWords c.u ++ partWords c.k)
+abbrev pub correction_words : Correction → List ℕ
+correction_words c = c.code.0 ∷ (part_words c.u ++ part_words c.k)
 
-abbrev pub requestWords : Request → List ℕ
-requestWords q = q.code.0 ∷ dateWord q.from ∷ []
+abbrev pub request_words : Request → List ℕ
+request_words q = q.code.0 ∷ date_word q.from ∷ []

@@ -2,7 +2,7 @@
 ghost use Rattle.std.specs.Prelude.{◌≡◌, ℕ, ◌+◌, ◌≤◌, length, eqb};
 ghost use Rattle.laws.specs.Lists.{same_lists};
 ghost use Rattle.laws.specs.Overlay.{Laid};
-ghost use Rattle.records.specs.closing.Closing.{closingText, begins};
+ghost use Rattle.records.specs.closing.Closing.{closing_text, begins};
 
 // Whether two runs of bytes are the same.
 pub fn same(a: &[u8], b: &[u8]) -> bool
@@ -33,7 +33,7 @@ pub fn begins(line: &[u8]) -> bool
 
 // How many bytes the closing record of `n` lines has.
 pub fn text_len(n: u64) -> usize
-    ensures { result ≡ length (closingText n) }
+    ensures { result ≡ length (closing_text n) }
 {
     text::size(n, n as usize) + 15
 }
@@ -53,8 +53,8 @@ fn put_all(out: &mut [u8], at: usize, bytes: &[u8]) -> usize
 
 // The closing record of `n` lines into a lent buffer; what follows it is the answer.
 pub fn put(out: &mut [u8], at: usize, n: u64) -> usize
-    requires { at + length (closingText n) ≤ length out.old }
-    ensures { Laid out.old at (closingText n) out.new result }
+    requires { at + length (closing_text n) ≤ length out.old }
+    ensures { Laid out.old at (closing_text n) out.new result }
 {
     let k = text::size(n, n as usize);
     let number = put_all(out, at, b"Zeilenanzahl:");
@@ -64,7 +64,7 @@ pub fn put(out: &mut [u8], at: usize, n: u64) -> usize
 
 // Whether a line is the closing record of `n` lines.
 pub fn is_closing(line: &[u8], n: u64) -> bool
-    ensures { result ≡ same_lists eqb line.now (closingText n) }
+    ensures { result ≡ same_lists eqb line.now (closing_text n) }
 {
     let mut right = [0u8; 40];
     let end = put(&mut right, 0, n);

@@ -1,9 +1,9 @@
 // Whether a line is a record.
 ghost use Rattle.std.specs.Prelude.{◌≡◌};
-ghost use Rattle.layout.specs.Report.{reportOf};
-ghost use Rattle.layout.specs.Correction.{correctionOf, isReport};
-ghost use Rattle.layout.specs.Request.{requestOf};
-ghost use Rattle.records.specs.Record.{isCorrection, isRequest, isRecord};
+ghost use Rattle.layout.specs.Report.{report_of};
+ghost use Rattle.layout.specs.Correction.{correction_of, is_report};
+ghost use Rattle.layout.specs.Request.{request_of};
+ghost use Rattle.records.specs.Record.{is_correction, is_request, is_record};
 
 use crate::names::kind::FileKind;
 use layout::correction::{Correction, CorrectionRead};
@@ -11,7 +11,7 @@ use layout::report::{Report, ReportRead};
 use layout::request::{Request, RequestRead};
 
 fn is_report(line: &[u8]) -> bool
-    ensures { result ≡ isReport (reportOf line.now) }
+    ensures { result ≡ is_report (report_of line.now) }
 {
     match Report::read(line) {
         ReportRead::Report(_) => true,
@@ -20,7 +20,7 @@ fn is_report(line: &[u8]) -> bool
 }
 
 fn is_correction(line: &[u8]) -> bool
-    ensures { result ≡ isCorrection (correctionOf line.now) }
+    ensures { result ≡ is_correction (correction_of line.now) }
 {
     match Correction::read(line) {
         CorrectionRead::Correction(_) => true,
@@ -29,7 +29,7 @@ fn is_correction(line: &[u8]) -> bool
 }
 
 fn is_request(line: &[u8]) -> bool
-    ensures { result ≡ isRequest (requestOf line.now) }
+    ensures { result ≡ is_request (request_of line.now) }
 {
     match Request::read(line) {
         RequestRead::Request(_) => true,
@@ -39,7 +39,7 @@ fn is_request(line: &[u8]) -> bool
 
 // Whether a line is a record of a file of this kind.
 pub fn is_record(kind: FileKind, line: &[u8]) -> bool
-    ensures { result ≡ isRecord kind line.now }
+    ensures { result ≡ is_record kind line.now }
 {
     match kind {
         FileKind::Default => is_report(line),

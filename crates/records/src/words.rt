@@ -1,10 +1,10 @@
 // Records from plain words.
 ghost use Rattle.std.specs.Prelude.{◌≡◌, ◌+◌, ◌≤◌, length};
 ghost use Rattle.laws.specs.Overlay.{Laid};
-ghost use Rattle.layout.specs.Report.{reportOfWords};
-ghost use Rattle.layout.specs.Correction.{correctionOfWords, isReport};
-ghost use Rattle.layout.specs.Request.{requestOfWords};
-ghost use Rattle.records.specs.Record.{isCorrection, isRequest, reportSpelt, correctionSpelt, requestSpelt, width_of, fits, text_of};
+ghost use Rattle.layout.specs.Report.{report_of_words};
+ghost use Rattle.layout.specs.Correction.{correction_of_words, is_report};
+ghost use Rattle.layout.specs.Request.{request_of_words};
+ghost use Rattle.records.specs.Record.{is_correction, is_request, report_spelt, correction_spelt, request_spelt, width_of, fits, text_of};
 
 use crate::names::kind::FileKind;
 use layout::correction::{Correction, CorrectionRead};
@@ -24,7 +24,7 @@ pub fn width(kind: FileKind) -> usize
 }
 
 fn fits_report(words: &[u64]) -> bool
-    ensures { result ≡ isReport (reportOfWords words.now) }
+    ensures { result ≡ is_report (report_of_words words.now) }
 {
     match Report::of_words(words) {
         ReportRead::Report(_) => true,
@@ -33,7 +33,7 @@ fn fits_report(words: &[u64]) -> bool
 }
 
 fn fits_correction(words: &[u64]) -> bool
-    ensures { result ≡ isCorrection (correctionOfWords words.now) }
+    ensures { result ≡ is_correction (correction_of_words words.now) }
 {
     match Correction::of_words(words) {
         CorrectionRead::Correction(_) => true,
@@ -42,7 +42,7 @@ fn fits_correction(words: &[u64]) -> bool
 }
 
 fn fits_request(words: &[u64]) -> bool
-    ensures { result ≡ isRequest (requestOfWords words.now) }
+    ensures { result ≡ is_request (request_of_words words.now) }
 {
     match Request::of_words(words) {
         RequestRead::Request(_) => true,
@@ -63,7 +63,7 @@ pub fn fits(kind: FileKind, words: &[u64]) -> bool
 }
 
 fn report_len(words: &[u64]) -> usize
-    ensures { result ≡ length (reportSpelt (reportOfWords words.now)) }
+    ensures { result ≡ length (report_spelt (report_of_words words.now)) }
 {
     match Report::of_words(words) {
         ReportRead::Report(r) => r.len(),
@@ -72,7 +72,7 @@ fn report_len(words: &[u64]) -> usize
 }
 
 fn correction_len(words: &[u64]) -> usize
-    ensures { result ≡ length (correctionSpelt (correctionOfWords words.now)) }
+    ensures { result ≡ length (correction_spelt (correction_of_words words.now)) }
 {
     match Correction::of_words(words) {
         CorrectionRead::Correction(c) => c.len(),
@@ -81,7 +81,7 @@ fn correction_len(words: &[u64]) -> usize
 }
 
 fn request_len(words: &[u64]) -> usize
-    ensures { result ≡ length (requestSpelt (requestOfWords words.now)) }
+    ensures { result ≡ length (request_spelt (request_of_words words.now)) }
 {
     match Request::of_words(words) {
         RequestRead::Request(q) => q.len(),
@@ -102,8 +102,8 @@ pub fn len(kind: FileKind, words: &[u64]) -> usize
 }
 
 fn put_report(words: &[u64], out: &mut [u8], at: usize) -> usize
-    requires { at + length (reportSpelt (reportOfWords words.now)) ≤ length out.old }
-    ensures { Laid out.old at (reportSpelt (reportOfWords words.now)) out.new result }
+    requires { at + length (report_spelt (report_of_words words.now)) ≤ length out.old }
+    ensures { Laid out.old at (report_spelt (report_of_words words.now)) out.new result }
 {
     match Report::of_words(words) {
         ReportRead::Report(r) => r.write(out, at),
@@ -112,8 +112,8 @@ fn put_report(words: &[u64], out: &mut [u8], at: usize) -> usize
 }
 
 fn put_correction(words: &[u64], out: &mut [u8], at: usize) -> usize
-    requires { at + length (correctionSpelt (correctionOfWords words.now)) ≤ length out.old }
-    ensures { Laid out.old at (correctionSpelt (correctionOfWords words.now)) out.new result }
+    requires { at + length (correction_spelt (correction_of_words words.now)) ≤ length out.old }
+    ensures { Laid out.old at (correction_spelt (correction_of_words words.now)) out.new result }
 {
     match Correction::of_words(words) {
         CorrectionRead::Correction(c) => c.write(out, at),
@@ -122,8 +122,8 @@ fn put_correction(words: &[u64], out: &mut [u8], at: usize) -> usize
 }
 
 fn put_request(words: &[u64], out: &mut [u8], at: usize) -> usize
-    requires { at + length (requestSpelt (requestOfWords words.now)) ≤ length out.old }
-    ensures { Laid out.old at (requestSpelt (requestOfWords words.now)) out.new result }
+    requires { at + length (request_spelt (request_of_words words.now)) ≤ length out.old }
+    ensures { Laid out.old at (request_spelt (request_of_words words.now)) out.new result }
 {
     match Request::of_words(words) {
         RequestRead::Request(q) => q.write(out, at),

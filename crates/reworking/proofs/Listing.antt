@@ -21,28 +21,28 @@ use Rattle.laws.proofs.Rising.{rising-one, rising-up, rising-first}
 use Rattle.laws.proofs.Tables.{length-table, map-table}
 use Rattle.fields.specs.declared.number.Number.{Number}
 use Rattle.entries.specs.declared.entry.Entry.{Entry}
-use Rattle.entries.specs.comparing.Same.{sameEntry}
+use Rattle.entries.specs.comparing.Same.{same_entry}
 use Rattle.model.specs.Rules.{TableLine}
 use Rattle.model.specs.Model.{Filed}
-use Rattle.store.specs.journals.Reads.{readFiles}
-use Rattle.store.specs.numbers.Lines.{lineCount, line_at, lines_of}
-use Rattle.store.specs.entry_slots.Entries.{entryAt}
-use Rattle.store.specs.Reads.{Buffers, Held, tableLine, held, isReadable, reads}
+use Rattle.store.specs.journals.Reads.{read_files}
+use Rattle.store.specs.numbers.Lines.{line_count, line_at, lines_of}
+use Rattle.store.specs.entry_slots.Entries.{entry_at}
+use Rattle.store.specs.Reads.{Buffers, Held, table_line, held, is_readable, reads}
 use Rattle.store.proofs.Checks.{few-lines}
 use Rattle.store.proofs.Whole.{whole-table}
 use Rattle.asking.specs.answering.Figure.{differs}
 use Rattle.reworking.specs.declared.rework.Reworked.{Reworked}
-use Rattle.reworking.specs.Reworking.{reworkedEntries, changedLines, reworkAnswer, entriesAfter, listAfter, withRoom, Reworks, changes, changesTo}
-use Rattle.reworking.specs.Listed.{readsOtherwise, Listed}
+use Rattle.reworking.specs.Reworking.{reworked_entries, changed_lines, rework_answer, entries_after, list_after, with_room, Reworks, changes, changes_to}
+use Rattle.reworking.specs.Listed.{reads_otherwise, Listed}
 use Rattle.reworking.proofs.Answers.{changes-listed}
 use Rattle.reworking.proofs.Promises.{below-mem, reworked-entry}
 
 -- ---- what is not 44 was asked of a store, with room for the list
-pub accepted : (b : Buffers) (n count : ℕ) (list : List ℕ) → Reworked.Changed count ≡ reworkAnswer n (withRoom list b) → (isReadable b ≡ true) × (withRoom list b ≡ some (held b)) × (1024 ≤ length list)
-unfolding withRoom reads
-accepted b n count list q = go (leb 1024 (length list)) (isReadable b) refl q
+pub accepted : (b : Buffers) (n count : ℕ) (list : List ℕ) → Reworked.Changed count ≡ rework_answer n (with_room list b) → (is_readable b ≡ true) × (with_room list b ≡ some (held b)) × (1024 ≤ length list)
+unfolding with_room reads
+accepted b n count list q = go (leb 1024 (length list)) (is_readable b) refl q
   where
-    go : (r t : Bool) → leb 1024 (length list) ≡ r → Reworked.Changed count ≡ reworkAnswer n (cond r (cond t (some (held b)) none) none)
+    go : (r t : Bool) → leb 1024 (length list) ≡ r → Reworked.Changed count ≡ rework_answer n (cond r (cond t (some (held b)) none) none)
         → (t ≡ true) × (cond r (cond t (some (held b)) none) none ≡ some (held b)) × (1024 ≤ length list)
     go true true e q = (refl, refl, leb-true 1024 (length list) e)
     go true false e q = absurd (let z : ◌≡◌ {A = ℕ} 0 1 = cc in omega arith)
@@ -70,11 +70,11 @@ places-rise p (suc n) = go (p n) refl (places-rise p n)
 -- ---- the list
 module _ {b : Buffers} {n count : ℕ} {list entries listed : List ℕ} (s : Reworks b n list (Reworked.Changed count) entries listed) where
   abbrev files : List Filed
-  files = take n (readFiles b.files b.regular b.corrections)
+  files = take n (read_files b.files b.regular b.corrections)
 
   -- of how many lines, and which of them change
   abbrev m : ℕ
-  m = lineCount b.table
+  m = line_count b.table
 
   abbrev test : ℕ → Bool
   test = changes files b.table b.entries
@@ -82,24 +82,24 @@ module _ {b : Buffers} {n count : ℕ} {list entries listed : List ℕ} (s : Rew
   abbrev lines : List ℕ
   lines = keep test (table m (λ (i : ℕ). i))
 
-  found : (isReadable b ≡ true) × (withRoom list b ≡ some (held b)) × (1024 ≤ length list)
+  found : (is_readable b ≡ true) × (with_room list b ≡ some (held b)) × (1024 ≤ length list)
   found = accepted b n count list s.answers
 
-  all_lines : changedLines (take n (held b).files) (held b).lines (held b).entries ≡ lines
-  unfolding held lines_of changesTo
+  all_lines : changed_lines (take n (held b).files) (held b).lines (held b).entries ≡ lines
+  unfolding held lines_of changes_to
   all_lines =
-      ap (λ (l : List (TableLine Number)). changedLines files l (table m (entryAt b.entries))) (map-table tableLine m (line_at b.table))
+      ap (λ (l : List (TableLine Number)). changed_lines files l (table m (entry_at b.entries))) (map-table table_line m (line_at b.table))
       ∙ sym (changes-listed files b.table b.entries m)
 
   counted : count ≡ length lines
   counted =
-      let e : Reworked.Changed count ≡ reworkAnswer n (some (held b)) = s.answers ∙ ap (reworkAnswer n) found.1 in
-      let same : count ≡ length (changedLines (take n (held b).files) (held b).lines (held b).entries) = cc in
+      let e : Reworked.Changed count ≡ rework_answer n (some (held b)) = s.answers ∙ ap (rework_answer n) found.1 in
+      let same : count ≡ length (changed_lines (take n (held b).files) (held b).lines (held b).entries) = cc in
       same ∙ ap length all_lines
 
   laid : Laid list 0 lines listed count
   laid = record {
-    bytes = s.lists ∙ ap (λ (h : Option Held). listAfter n h list) found.1 ∙ ap (overlay list 0) all_lines;
+    bytes = s.lists ∙ ap (λ (h : Option Held). list_after n h list) found.1 ∙ ap (overlay list 0) all_lines;
     ends = counted ∙ sym (zero-add (length lines));
   }
 
@@ -110,11 +110,11 @@ module _ {b : Buffers} {n count : ℕ} {list entries listed : List ℕ} (s : Rew
   front = laid-front few laid
 
   -- the entry of a line afterwards is the one worked out, so that it changes where it reads otherwise
-  now-reads : (i : ℕ) → i < m → test i ≡ readsOtherwise b.entries entries i
+  now-reads : (i : ℕ) → i < m → test i ≡ reads_otherwise b.entries entries i
   unfolding held differs
   now-reads i h =
-      let left : entries ≡ reworkedEntries files (map tableLine (lines_of b.table)) b.entries = s.leaves ∙ ap (λ (x : Option Held). entriesAfter n x b.entries) found.1 in
-      ap (λ (e : Entry). not (sameEntry (entryAt b.entries i) e)) (sym (reworked-entry b found.0 n i h) ∙ ap (λ (x : List ℕ). entryAt x i) (sym left))
+      let left : entries ≡ reworked_entries files (map table_line (lines_of b.table)) b.entries = s.leaves ∙ ap (λ (x : Option Held). entries_after n x b.entries) found.1 in
+      ap (λ (e : Entry). not (same_entry (entry_at b.entries i) e)) (sym (reworked-entry b found.0 n i h) ∙ ap (λ (x : List ℕ). entry_at x i) (sym left))
 
   pub listed-once : Listed b count entries listed
   listed-once = record {

@@ -8,85 +8,85 @@ use Rattle.laws.specs.Told.{Told, told}
 use Rattle.fields.specs.declared.number.Number.{Number}
 use Rattle.entries.specs.declared.entry.Entry.{Entry}
 use Rattle.model.specs.Rules.{TableLine}
-use Rattle.model.specs.Model.{Filed, entryOver}
+use Rattle.model.specs.Model.{Filed, entry_over}
 use Rattle.rules.specs.Rules.{rules}
 use Rattle.store.specs.numbers.Lines.{line_at}
-use Rattle.store.specs.entry_slots.Entries.{entrySlot, entryAt}
-use Rattle.store.specs.Reads.{Buffers, Held, tableLine, reads}
+use Rattle.store.specs.entry_slots.Entries.{entry_slot, entry_at}
+use Rattle.store.specs.Reads.{Buffers, Held, table_line, reads}
 use Rattle.asking.specs.answering.Figure.{differs}
 use Rattle.reworking.specs.declared.rework.Reworked.{Reworked}
 
 -- the slot of a line: the entry worked out afresh over these files
-unfoldable pub workedSlot : List Filed → TableLine Number → List ℕ
-workedSlot files line = entrySlot (entryOver rules files line)
+unfoldable pub worked_slot : List Filed → TableLine Number → List ℕ
+worked_slot files line = entry_slot (entry_over rules files line)
 
 -- the slots of all lines, one behind the other; every byte behind them stays
-unfoldable pub reworkedEntries : List Filed → List (TableLine Number) → List ℕ → List ℕ
-reworkedEntries files lines entries = overlay entries 0 (flat_map (workedSlot files) lines)
+unfoldable pub reworked_entries : List Filed → List (TableLine Number) → List ℕ → List ℕ
+reworked_entries files lines entries = overlay entries 0 (flat_map (worked_slot files) lines)
 
 -- the places at which a test holds
 unfoldable pub places : List Bool → List ℕ
 places tests = keep (λ (i : ℕ). get_or tests i false) (table (length tests) (λ (i : ℕ). i))
 
 -- the places of the lines whose entry is not the one worked out over these files, in the order of the table
-unfoldable pub changedLines : List Filed → List (TableLine Number) → List Entry → List ℕ
-changedLines files lines entries = places (zip_with (differs files) lines entries)
+unfoldable pub changed_lines : List Filed → List (TableLine Number) → List Entry → List ℕ
+changed_lines files lines entries = places (zip_with (differs files) lines entries)
 
 -- as many files as a store takes: over the first so many of them is over all (`all-files`)
-abbrev pub allFiles : ℕ
-allFiles = 1024
+abbrev pub all_files : ℕ
+all_files = 1024
 
 -- ---- what reworking over the first n files answers, and what it leaves: over a store, or over none
 
 -- what an answer tells: 0 with the count of the entries that were others, or 44
-abbrev pub reworkedTold : Reworked → Told
-reworkedTold (Reworked.Changed n) = told 0 (n ∷ [])
-reworkedTold Reworked.Unreadable = told 44 []
+abbrev pub reworked_told : Reworked → Told
+reworked_told (Reworked.Changed n) = told 0 (n ∷ [])
+reworked_told Reworked.Unreadable = told 44 []
 
-abbrev pub reworkNumber : Reworked → ℕ
-reworkNumber r = (reworkedTold r).number
+abbrev pub rework_number : Reworked → ℕ
+rework_number r = (reworked_told r).number
 
-abbrev pub reworkAnswer : ℕ → Option Held → Reworked
-reworkAnswer n none = Reworked.Unreadable
-reworkAnswer n (some h) = Reworked.Changed (length (changedLines (take n h.files) h.lines h.entries))
+abbrev pub rework_answer : ℕ → Option Held → Reworked
+rework_answer n none = Reworked.Unreadable
+rework_answer n (some h) = Reworked.Changed (length (changed_lines (take n h.files) h.lines h.entries))
 
-abbrev pub entriesAfter : ℕ → Option Held → List ℕ → List ℕ
-entriesAfter n none entries = entries
-entriesAfter n (some h) entries = reworkedEntries (take n h.files) h.lines entries
+abbrev pub entries_after : ℕ → Option Held → List ℕ → List ℕ
+entries_after n none entries = entries
+entries_after n (some h) entries = reworked_entries (take n h.files) h.lines entries
 
 -- the list begins with the places; every number behind them stays
-abbrev pub listAfter : ℕ → Option Held → List ℕ → List ℕ
-listAfter n none list = list
-listAfter n (some h) list = overlay list 0 (changedLines (take n h.files) h.lines h.entries)
+abbrev pub list_after : ℕ → Option Held → List ℕ → List ℕ
+list_after n none list = list
+list_after n (some h) list = overlay list 0 (changed_lines (take n h.files) h.lines h.entries)
 
 -- the store, where the list has room for every line that a table can have
-unfoldable pub withRoom : List ℕ → Buffers → Option Held
-withRoom list b = cond (leb 1024 (length list)) (reads b) none
+unfoldable pub with_room : List ℕ → Buffers → Option Held
+with_room list b = cond (leb 1024 (length list)) (reads b) none
 
 pub record Reworks (b : Buffers) (n : ℕ) (list : List ℕ) (answer : Reworked) (entries listed : List ℕ) : Type 0 where
-  pub answers : answer ≡ reworkAnswer n (withRoom list b)
-  pub leaves : entries ≡ entriesAfter n (withRoom list b) b.entries
-  pub lists : listed ≡ listAfter n (withRoom list b) list
+  pub answers : answer ≡ rework_answer n (with_room list b)
+  pub leaves : entries ≡ entries_after n (with_room list b) b.entries
+  pub lists : listed ≡ list_after n (with_room list b) list
 
 -- ---- line by line
 
 -- the line k, and whether its entry changes
 abbrev pub line_of : List ℕ → ℕ → TableLine Number
-line_of t k = tableLine (line_at t k)
+line_of t k = table_line (line_at t k)
 
 abbrev pub changes : List Filed → List ℕ → List ℕ → ℕ → Bool
-changes files t entries k = differs files (line_of t k) (entryAt entries k)
+changes files t entries k = differs files (line_of t k) (entry_at entries k)
 
 -- of the first m lines, the places of those whose entry changes
-unfoldable pub changesTo : List Filed → List ℕ → List ℕ → ℕ → List ℕ
-changesTo files t entries m = keep (changes files t entries) (table m (λ (i : ℕ). i))
+unfoldable pub changes_to : List Filed → List ℕ → List ℕ → ℕ → List ℕ
+changes_to files t entries m = keep (changes files t entries) (table m (λ (i : ℕ). i))
 
 -- the entries of the first m lines fit their slots: a store that reads as one gives this
 abbrev pub Fitting : List Filed → List ℕ → ℕ → Type 0
-Fitting files t m = (k : ℕ) → k < m → length (workedSlot files (line_of t k)) ≡ 100
+Fitting files t m = (k : ℕ) → k < m → length (worked_slot files (line_of t k)) ≡ 100
 
 pub record LineReworked (files : List Filed) (t : List ℕ) (k : ℕ) (before after : List ℕ) (changed : Bool) : Type 0 where
-  pub written : after ≡ overlay before (k * 100) (workedSlot files (line_of t k))
+  pub written : after ≡ overlay before (k * 100) (worked_slot files (line_of t k))
   pub told : changed ≡ changes files t before k
 
 pub record Noted (before : List ℕ) (count i : ℕ) (changed : Bool) (after : List ℕ) (r : ℕ) : Type 0 where
@@ -94,6 +94,6 @@ pub record Noted (before : List ℕ) (count i : ℕ) (changed : Bool) (after : L
   pub counted : r ≡ count + cond changed 1 0
 
 pub record LinesReworked (files : List Filed) (t : List ℕ) (m : ℕ) (before after list listed : List ℕ) (r : ℕ) : Type 0 where
-  pub written : after ≡ overlay before 0 (flat_map (workedSlot files) (table m (line_of t)))
-  pub laid : listed ≡ overlay list 0 (changesTo files t before m)
-  pub counted : r ≡ length (changesTo files t before m)
+  pub written : after ≡ overlay before 0 (flat_map (worked_slot files) (table m (line_of t)))
+  pub laid : listed ≡ overlay list 0 (changes_to files t before m)
+  pub counted : r ≡ length (changes_to files t before m)

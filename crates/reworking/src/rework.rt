@@ -1,6 +1,6 @@
 // Every line's entry worked out afresh and written, and the places of those lines whose stored entry was another.
 ghost use Rattle.std.specs.Prelude.{◌≡◌, ◌+◌, ◌*◌, ◌≤◌, ◌<◌, length, take};
-ghost use Rattle.store.specs.journals.Reads.{readFiles};
+ghost use Rattle.store.specs.journals.Reads.{read_files};
 ghost use Rattle.store.specs.Reads.{lent};
 ghost use Rattle.working.specs.Working.{Sound};
 ghost use Rattle.working.specs.indexing.Index.{Wanted, Indexed};
@@ -42,7 +42,7 @@ fn rework_line<'a>(
     requires wanted { Wanted wanted.now w }
     requires indexed { Indexed n files.now regular.now corrections.now (take w wanted.now) keys.now places.now c }
     requires i_in_bounds { (2 + i * 14 + 14 ≤ length table.now) × (i * 100 + 100 ≤ length entries.old) }
-    ensures { LineReworked (take n (readFiles files.now regular.now corrections.now)) table.now i entries.old entries.new result }
+    ensures { LineReworked (take n (read_files files.now regular.now corrections.now)) table.now i entries.old entries.new result }
 {
     let s = working::overview::lines::line_standing(
         table,
@@ -97,8 +97,8 @@ fn rework_lines<'a>(
     requires wanted { Wanted wanted.now w }
     requires indexed { Indexed n files.now regular.now corrections.now (take w wanted.now) keys.now places.now c }
     requires m_in_bounds { (2 + m * 14 ≤ length table.now) × (m * 100 ≤ length entries.old) × (m ≤ length list.old) × (m ≤ 1024) }
-    requires fitting { Fitting (take n (readFiles files.now regular.now corrections.now)) table.now m }
-    ensures { LinesReworked (take n (readFiles files.now regular.now corrections.now)) table.now m entries.old entries.new list.old list.new result }
+    requires fitting { Fitting (take n (read_files files.now regular.now corrections.now)) table.now m }
+    ensures { LinesReworked (take n (read_files files.now regular.now corrections.now)) table.now m entries.old entries.new list.old list.new result }
 {
     let mut count = 0;
     let mut i = 0;
@@ -137,8 +137,8 @@ fn rework_all<'a>(
 ) -> usize
     requires sound { Sound n files.now regular.now corrections.now }
     requires m_in_bounds { (2 + m * 14 ≤ length table.now) × (m * 100 ≤ length entries.old) × (m ≤ length list.old) × (m ≤ 1024) }
-    requires fitting { Fitting (take n (readFiles files.now regular.now corrections.now)) table.now m }
-    ensures { LinesReworked (take n (readFiles files.now regular.now corrections.now)) table.now m entries.old entries.new list.old list.new result }
+    requires fitting { Fitting (take n (read_files files.now regular.now corrections.now)) table.now m }
+    ensures { LinesReworked (take n (read_files files.now regular.now corrections.now)) table.now m entries.old entries.new list.old list.new result }
 {
     let mut wanted = [0u64; 10240];
     let mut keys = [0u64; 10240];

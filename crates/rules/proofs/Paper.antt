@@ -7,78 +7,78 @@ use lib.Dec.{lit≤}
 use lib.ListN.{length}
 use Rattle.laws.specs.Sums.{sum_to}
 use Rattle.laws.specs.Lists.{any, all, keep, table}
-use Rattle.laws.specs.Order.{put, inOrder, notAfter}
+use Rattle.laws.specs.Order.{put, in_order, not_after}
 use Rattle.laws.specs.Split.{before, split}
-use Rattle.laws.specs.Digits.{isDigit, spelt, digits}
+use Rattle.laws.specs.Digits.{is_digit, spelt, digits}
 use Rattle.calendar.specs.declared.working_days.Later.TheVariants.{On, Ends}
-use Rattle.calendar.specs.Dates.{leap, monthDays, yearStart, monthStart, dayNumber, valid, weekday}
-use Rattle.calendar.specs.Holidays.{easter, nineOf, holidaysOf, years, holidays, working}
-use Rattle.calendar.specs.Former.{formerHolidays, formerlyWorking}
-use Rattle.calendar.specs.WorkingDays.{daysAfter, workingAfter, smallest, workingDayAfter}
-use Rattle.calendar.specs.Answers.{dayOf, weekdayOf}
+use Rattle.calendar.specs.Dates.{leap, month_days, year_start, month_start, day_number, valid, weekday}
+use Rattle.calendar.specs.Holidays.{easter, nine_of, holidays_of, years, holidays, working}
+use Rattle.calendar.specs.Former.{former_holidays, formerly_working}
+use Rattle.calendar.specs.WorkingDays.{days_after, working_after, smallest, working_day_after}
+use Rattle.calendar.specs.Answers.{day_of, weekday_of}
 use Rattle.calendar.proofs.WorkingLaws.{kth}
-use Rattle.text.specs.Spelt.{spells, digitsOf}
-use Rattle.fields.specs.Code.{codeFrom, code_of, maybeCodeFrom, maybeCodeOf}
-use Rattle.fields.specs.CorrectionCode.{correctionCodeFrom, correctionCodeOf}
-use Rattle.fields.specs.Date.{dateFound, dateFrom, dateFieldOf, maybeDateFrom, maybeDateOf}
-use Rattle.fields.specs.Kind.{kindBy, kind_of, maybeKindFrom, maybeKindOf}
-use Rattle.fields.specs.Number.{digitsFrom, digitsFieldOf, number_of, sameNumber}
-use Rattle.layout.specs.Part.{sixOf, part_of}
-use Rattle.layout.specs.Report.{whole_of, reportFrom, reportOf}
-use Rattle.layout.specs.Correction.{head_of, reportedOf, isSound, soundOf, threeOf, correctionOf, namedNumber}
-use Rattle.entries.specs.places.Places.{holdsOpen, isFree, lapsed}
-use Rattle.verdict.specs.correction_rules.Corrections.{isAmong}
-use Rattle.verdict.specs.report_tests.Tests.{returnPeriod, notYet}
-use Rattle.verdict.specs.Step.{standOn, entryAfter}
-use Rattle.model.specs.Model.{events, journal, about, named, history, entryOver, before as earlier, verdictOver, started, filed, line_of, judged, verdictOf}
-use Rattle.rules.specs.Records.{number_in, classIn, saysIn}
-use Rattle.rules.specs.Paper.{on, onDate, afterDate, last_of, WorkedThrough}
+use Rattle.text.specs.Spelt.{spells, digits_of}
+use Rattle.fields.specs.Code.{code_from, code_of, maybe_code_from, maybe_code_of}
+use Rattle.fields.specs.CorrectionCode.{correction_code_from, correction_code_of}
+use Rattle.fields.specs.Date.{date_found, date_from, date_field_of, maybe_date_from, maybe_date_of}
+use Rattle.fields.specs.Kind.{kind_by, kind_of, maybe_kind_from, maybe_kind_of}
+use Rattle.fields.specs.Number.{digits_from, digits_field_of, number_of, same_number}
+use Rattle.layout.specs.Part.{six_of, part_of}
+use Rattle.layout.specs.Report.{whole_of, report_from, report_of}
+use Rattle.layout.specs.Correction.{head_of, reported_of, is_sound, sound_of, three_of, correction_of, named_number}
+use Rattle.entries.specs.places.Places.{holds_open, is_free, lapsed}
+use Rattle.verdict.specs.correction_rules.Corrections.{is_among}
+use Rattle.verdict.specs.report_tests.Tests.{return_period, not_yet}
+use Rattle.verdict.specs.Step.{stand_on, entry_after}
+use Rattle.model.specs.Model.{events, journal, about, named, history, entry_over, before as earlier, verdict_over, started, filed, line_of, judged, verdict_of}
+use Rattle.rules.specs.Records.{number_in, class_in, says_in}
+use Rattle.rules.specs.Paper.{on, on_date, after_date, last_of, WorkedThrough}
 
 -- five working days after 2024-04-03 is 2024-04-10
-fifth : workingDayAfter 9589 returnPeriod ≡ On (on 9596)
-unfolding sum_to table any keep flat_map put leap monthDays yearStart monthStart dayNumber weekday easter nineOf holidaysOf years holidays working daysAfter workingAfter
+fifth : working_day_after 9589 return_period ≡ On (on 9596)
+unfolding sum_to table any keep flat_map put leap month_days year_start month_start day_number weekday easter nine_of holidays_of years holidays working days_after working_after
 fifth = kth 9589 5 9596 (lit≤ tt) (lit≤ tt) refl refl
 
-two-after : afterDate 2 2014 5 22 ≡ onDate 2014 5 26
-unfolding sum_to table any keep flat_map put leap monthDays yearStart monthStart dayNumber weekday easter nineOf holidaysOf years holidays working daysAfter workingAfter
+two-after : after_date 2 2014 5 22 ≡ on_date 2014 5 26
+unfolding sum_to table any keep flat_map put leap month_days year_start month_start day_number weekday easter nine_of holidays_of years holidays working days_after working_after
 two-after = kth 5985 2 5989 (lit≤ tt) (lit≤ tt) refl refl
 
-twenty-after : afterDate 20 2008 6 16 ≡ onDate 2008 7 14
-unfolding sum_to table any keep flat_map put leap monthDays yearStart monthStart dayNumber weekday easter nineOf holidaysOf years holidays working daysAfter workingAfter
+twenty-after : after_date 20 2008 6 16 ≡ on_date 2008 7 14
+unfolding sum_to table any keep flat_map put leap month_days year_start month_start day_number weekday easter nine_of holidays_of years holidays working days_after working_after
 twenty-after = kth 3819 20 3847 (lit≤ tt) (lit≤ tt) refl refl
 
-five-after : afterDate 5 2017 4 13 ≡ onDate 2017 4 24
-unfolding sum_to table any keep flat_map put leap monthDays yearStart monthStart dayNumber weekday easter nineOf holidaysOf years holidays working daysAfter workingAfter
+five-after : after_date 5 2017 4 13 ≡ on_date 2017 4 24
+unfolding sum_to table any keep flat_map put leap month_days year_start month_start day_number weekday easter nine_of holidays_of years holidays working days_after working_after
 five-after = kth 7042 5 7053 (lit≤ tt) (lit≤ tt) refl refl
 
 -- over 31 October 2017, by the list without it and by the list with it
-formerly-five : keep formerlyWorking (daysAfter 7237 7244) ≡ 7238 ∷ 7239 ∷ 7242 ∷ 7243 ∷ 7244 ∷ []
-unfolding sum_to table any keep flat_map leap monthDays yearStart monthStart dayNumber weekday easter nineOf years formerHolidays formerlyWorking daysAfter
+formerly-five : keep formerly_working (days_after 7237 7244) ≡ 7238 ∷ 7239 ∷ 7242 ∷ 7243 ∷ 7244 ∷ []
+unfolding sum_to table any keep flat_map leap month_days year_start month_start day_number weekday easter nine_of years former_holidays formerly_working days_after
 formerly-five = refl
 
-now-five : keep working (daysAfter 7237 7245) ≡ 7238 ∷ 7239 ∷ 7242 ∷ 7244 ∷ 7245 ∷ []
-unfolding sum_to table any keep flat_map put leap monthDays yearStart monthStart dayNumber weekday easter nineOf holidaysOf years holidays working daysAfter
+now-five : keep working (days_after 7237 7245) ≡ 7238 ∷ 7239 ∷ 7242 ∷ 7244 ∷ 7245 ∷ []
+unfolding sum_to table any keep flat_map put leap month_days year_start month_start day_number weekday easter nine_of holidays_of years holidays working days_after
 now-five = refl
 
-not-too-soon : notYet (on 7244) (On (on (last_of (keep formerlyWorking (daysAfter 7237 7244))))) ≡ false
+not-too-soon : not_yet (on 7244) (On (on (last_of (keep formerly_working (days_after 7237 7244))))) ≡ false
 unfolding last_of
 not-too-soon = rw formerly-five
 
-five-in-2017 : workingDayAfter 7237 returnPeriod ≡ On (on 7245)
-unfolding sum_to table any keep flat_map put leap monthDays yearStart monthStart dayNumber weekday easter nineOf holidaysOf years holidays working daysAfter workingAfter
+five-in-2017 : working_day_after 7237 return_period ≡ On (on 7245)
+unfolding sum_to table any keep flat_map put leap month_days year_start month_start day_number weekday easter nine_of holidays_of years holidays working days_after working_after
 five-in-2017 = kth 7237 5 7245 (lit≤ tt) (lit≤ tt) refl (ap length now-five)
 
 -- one day beyond the last
-none_after : workingDayAfter 18992 1 ≡ Ends
-unfolding sum_to table any keep flat_map put leap monthDays yearStart monthStart dayNumber weekday easter nineOf holidaysOf years holidays working daysAfter workingAfter smallest workingDayAfter
+none_after : working_day_after 18992 1 ≡ Ends
+unfolding sum_to table any keep flat_map put leap month_days year_start month_start day_number weekday easter nine_of holidays_of years holidays working days_after working_after smallest working_day_after
 none_after = refl
 
 last-in-list : last_of holidays ≡ 18987
-unfolding sum_to table flat_map put leap monthDays yearStart monthStart dayNumber easter nineOf holidaysOf years holidays last_of
+unfolding sum_to table flat_map put leap month_days year_start month_start day_number easter nine_of holidays_of years holidays last_of
 last-in-list = refl
 
 pub worked_through : WorkedThrough
-unfolding sum_to table any all keep flat_map zip_with put inOrder notAfter before split isDigit spelt digits leap monthDays yearStart monthStart dayNumber valid weekday dayOf weekdayOf spells digitsOf codeFrom code_of maybeCodeFrom maybeCodeOf correctionCodeFrom correctionCodeOf dateFound dateFrom dateFieldOf maybeDateFrom maybeDateOf kindBy kind_of maybeKindFrom maybeKindOf digitsFrom digitsFieldOf number_of sameNumber sixOf part_of whole_of reportFrom reportOf head_of reportedOf isSound soundOf threeOf correctionOf namedNumber holdsOpen isFree lapsed isAmong standOn entryAfter events journal about named history entryOver earlier verdictOver started filed line_of judged verdictOf number_in classIn saysIn
+unfolding sum_to table any all keep flat_map zip_with put in_order not_after before split is_digit spelt digits leap month_days year_start month_start day_number valid weekday day_of weekday_of spells digits_of code_from code_of maybe_code_from maybe_code_of correction_code_from correction_code_of date_found date_from date_field_of maybe_date_from maybe_date_of kind_by kind_of maybe_kind_from maybe_kind_of digits_from digits_field_of number_of same_number six_of part_of whole_of report_from report_of head_of reported_of is_sound sound_of three_of correction_of named_number holds_open is_free lapsed is_among stand_on entry_after events journal about named history entry_over earlier verdict_over started filed line_of judged verdict_of number_in class_in says_in
 worked_through = (
   refl,
   refl,

@@ -12,11 +12,11 @@ use Rattle.calendar.specs.declared.dates.Found.TheVariants.{Fault}
 use Rattle.calendar.specs.declared.dates.Weekday.TheVariants.{Monday}
 use Rattle.calendar.specs.declared.working_days.Later.{Later}
 use Rattle.calendar.specs.declared.working_days.Later.TheVariants.{On as OnDay, Ends}
-use Rattle.calendar.specs.Dates.{dayNumber}
+use Rattle.calendar.specs.Dates.{day_number}
 use Rattle.calendar.specs.Holidays.{holidays, working}
-use Rattle.calendar.specs.Former.{formerlyWorking}
-use Rattle.calendar.specs.WorkingDays.{daysAfter, workingDayAfter}
-use Rattle.calendar.specs.Answers.{dayOf, weekdayOf}
+use Rattle.calendar.specs.Former.{formerly_working}
+use Rattle.calendar.specs.WorkingDays.{days_after, working_day_after}
+use Rattle.calendar.specs.Answers.{day_of, weekday_of}
 use Rattle.calendar.specs.Paper.{date, day}
 use Rattle.fields.specs.declared.number.Number.{Number}
 use Rattle.fields.specs.declared.kind.Kind.{Kind}
@@ -25,22 +25,22 @@ use Rattle.entries.specs.declared.entry.Place.{Place}
 use Rattle.entries.specs.declared.entry.Entry.{Entry}
 use Rattle.entries.specs.declared.entry.Last.{Last}
 use Rattle.entries.specs.declared.entry.Last.TheVariants.{Never, On}
-use Rattle.entries.specs.Entry.{firstEntry}
-use Rattle.verdict.specs.report_tests.Tests.{returnPeriod, notYet}
+use Rattle.entries.specs.Entry.{first_entry}
+use Rattle.verdict.specs.report_tests.Tests.{return_period, not_yet}
 use Rattle.verdict.specs.declared.step.Why.{Why}
 use Rattle.verdict.specs.declared.step.Why.TheVariants.{Nothing, Pair}
 use Rattle.model.specs.Rules.{TableLine}
-use Rattle.model.specs.Model.{Filed, Store, journal, entryOver, started, filed, verdictOf}
-use Rattle.rules.specs.Rules.{rules, standings, lineBy}
+use Rattle.model.specs.Model.{Filed, Store, journal, entry_over, started, filed, verdict_of}
+use Rattle.rules.specs.Rules.{rules, standings, line_by}
 
 -- ---- days
 
 -- the k-th working day after a date
-abbrev pub afterDate : ℕ → ℕ → ℕ → ℕ → Later
-afterDate k y m d = workingDayAfter (dayNumber y m d) k
+abbrev pub after_date : ℕ → ℕ → ℕ → ℕ → Later
+after_date k y m d = working_day_after (day_number y m d) k
 
-abbrev pub onDate : ℕ → ℕ → ℕ → Later
-onDate y m d = OnDay (record { 0 = dayNumber y m d })
+abbrev pub on_date : ℕ → ℕ → ℕ → Later
+on_date y m d = OnDay (record { 0 = day_number y m d })
 
 -- the last entry of a list
 unfoldable pub last_of : List ℕ → ℕ
@@ -101,10 +101,10 @@ correction from on bytes = record { kind = 1; publisher = from; day = on; record
 
 -- ---- the store that files lead to, filed in this order: owner D001, set up on a day
 abbrev pub line : ℕ → TableLine Number
-line day = record { number = record { first = record { 0 = 13055501 }; last = record { 0 = 1 } }; owner = 1; setUp = day }
+line day = record { number = record { first = record { 0 = 13055501 }; last = record { 0 = 1 } }; owner = 1; set_up = day }
 
 abbrev pub store_of : ℕ → List Filed → Store rules
-store_of setUp files = foldl (filed rules) (started rules (line setUp ∷ [])) files
+store_of set_up files = foldl (filed rules) (started rules (line set_up ∷ [])) files
 
 -- what it then shows of the number: the verdict on each record, in order of arrival; holder and last confirmed date in the stored entry; the pair
 pub record Shown : Type 0 where
@@ -116,23 +116,23 @@ pub record Shown : Type 0 where
 abbrev pub shown : List ℕ → ℕ → Last → Why → Shown
 shown verdicts holder last why = record { verdicts = verdicts; holder = holder; last = last; why = why }
 
-abbrev pub entryIn : ℕ → Store rules → Entry
-entryIn setUp s = get_or s.entries 0 (firstEntry (lineBy (line setUp)))
+abbrev pub entry_in : ℕ → Store rules → Entry
+entry_in set_up s = get_or s.entries 0 (first_entry (line_by (line set_up)))
 
-abbrev pub shownOf : ℕ → List Filed → Shown
-shownOf setUp files =
+abbrev pub shown_of : ℕ → List Filed → Shown
+shown_of set_up files =
     shown
-    (map (verdictOf rules (store_of setUp files)) (journal files))
-    (entryIn setUp (store_of setUp files)).holder.0
-    (entryIn setUp (store_of setUp files)).last
-    (entryOver standings files (line setUp)).why
+    (map (verdict_of rules (store_of set_up files)) (journal files))
+    (entry_in set_up (store_of set_up files)).holder.0
+    (entry_in set_up (store_of set_up files)).last
+    (entry_over standings files (line set_up)).why
 
 -- set up 2024-01-02, as the paper has it, and 2017-01-02
-abbrev pub comeTo : List Filed → Shown
-comeTo files = shownOf 9497 files
+abbrev pub come_to : List Filed → Shown
+come_to files = shown_of 9497 files
 
-abbrev pub comeToIn2017 : List Filed → Shown
-comeToIn2017 files = shownOf 6941 files
+abbrev pub come_to_in2017 : List Filed → Shown
+come_to_in2017 files = shown_of 6941 files
 
 -- a date in the last confirmed date, and a report of a pair: its kind, date, losing and gaining network, and the day on which it was published
 abbrev pub on : ℕ → CalendarDays
@@ -163,43 +163,43 @@ abbrev pub ported : ℕ → ℕ → List Filed → List Filed
 ported p l more = default 2 p P12 ∷ default 1 l L12 ∷ more
 
 -- P and L dated 2017-03-06 and published 03-07, then Z dated 10-24 and published 10-25, then its P, published on this day
-abbrev pub returnedIn2017 : ℕ → List Filed
-returnedIn2017 p = default 2 7005 P12in2017 ∷ default 1 7005 L12in2017 ∷ default 2 7237 Z21in2017 ∷ default 1 p P21in2017 ∷ []
+abbrev pub returned_in2017 : ℕ → List Filed
+returned_in2017 p = default 2 7005 P12in2017 ∷ default 1 7005 L12in2017 ∷ default 2 7237 Z21in2017 ∷ default 1 p P21in2017 ∷ []
 
 abbrev pub WorkedThrough : Type 0
 WorkedThrough =
     -- 2000-02-29 is day 789; 2001-02-29 is a fault; 2024-03-04 is day 9559, a Monday; 2049-12-26 is day 18987, the last in the list
-    (dayOf (date 2000 2 29) ≡ day 789) ×
-    (dayOf (date 2001 2 29) ≡ Fault) ×
-    (dayOf (date 2024 3 4) ≡ day 9559) ×
-    (weekdayOf 9559 ≡ Monday) ×
-    (dayOf (date 2049 12 26) ≡ day 18987) ×
+    (day_of (date 2000 2 29) ≡ day 789) ×
+    (day_of (date 2001 2 29) ≡ Fault) ×
+    (day_of (date 2024 3 4) ≡ day 9559) ×
+    (weekday_of 9559 ≡ Monday) ×
+    (day_of (date 2049 12 26) ≡ day 18987) ×
     (last_of holidays ≡ 18987) ×
     -- two working days after 2014-05-22, twenty after 2008-06-16, five after 2017-04-13, one after 2049-12-31
-    (afterDate 2 2014 5 22 ≡ onDate 2014 5 26) ×
-    (afterDate 20 2008 6 16 ≡ onDate 2008 7 14) ×
-    (afterDate 5 2017 4 13 ≡ onDate 2017 4 24) ×
-    (afterDate 1 2049 12 31 ≡ Ends) ×
+    (after_date 2 2014 5 22 ≡ on_date 2014 5 26) ×
+    (after_date 20 2008 6 16 ≡ on_date 2008 7 14) ×
+    (after_date 5 2017 4 13 ≡ on_date 2017 4 24) ×
+    (after_date 1 2049 12 31 ≡ Ends) ×
     -- P and L, both published 03-05: P gets 10, L gets 11, holder D002
-    (comeTo (ported 9560 9560 []) ≡ shown (10 ∷ 11 ∷ []) 2 (On (on 9559)) (pair12 9560 9560)) ×
+    (come_to (ported 9560 9560 []) ≡ shown (10 ∷ 11 ∷ []) 2 (On (on 9559)) (pair12 9560 9560)) ×
     -- after that, published 03-06, P from D002 to D003 dated 03-04 gets 18, dated 03-03 gets 17, on its own porting date it gets 15
-    (comeTo (ported 9560 9560 (default 3 9561 (P23 4032024) ∷ [])) ≡ shown (10 ∷ 11 ∷ 18 ∷ []) 2 (On (on 9559)) (pair12 9560 9560)) ×
-    (comeTo (ported 9560 9560 (default 3 9561 (P23 3032024) ∷ [])) ≡ shown (10 ∷ 11 ∷ 17 ∷ []) 2 (On (on 9559)) (pair12 9560 9560)) ×
-    (comeTo (ported 9560 9560 (default 3 9561 (P23 6032024) ∷ [])) ≡ shown (10 ∷ 11 ∷ 15 ∷ []) 2 (On (on 9559)) (pair12 9560 9560)) ×
+    (come_to (ported 9560 9560 (default 3 9561 (P23 4032024) ∷ [])) ≡ shown (10 ∷ 11 ∷ 18 ∷ []) 2 (On (on 9559)) (pair12 9560 9560)) ×
+    (come_to (ported 9560 9560 (default 3 9561 (P23 3032024) ∷ [])) ≡ shown (10 ∷ 11 ∷ 17 ∷ []) 2 (On (on 9559)) (pair12 9560 9560)) ×
+    (come_to (ported 9560 9560 (default 3 9561 (P23 6032024) ∷ [])) ≡ shown (10 ∷ 11 ∷ 15 ∷ []) 2 (On (on 9559)) (pair12 9560 9560)) ×
     -- Z from D002 to D001 dated 2024-04-02, published 04-03: the P published 04-09 gets 21, published 04-10 it gets 11 and the holder is D001
-    (comeTo (ported 9560 9560 (default 2 9589 Z21 ∷ default 1 9595 P21 ∷ [])) ≡ shown (10 ∷ 11 ∷ 10 ∷ 21 ∷ []) 2 (On (on 9559)) (pair12 9560 9560)) ×
-    (comeTo (ported 9560 9560 (default 2 9589 Z21 ∷ default 1 9596 P21 ∷ [])) ≡ shown (10 ∷ 11 ∷ 10 ∷ 11 ∷ []) 1 (On (on 9588)) (pair21 9589 9596)) ×
+    (come_to (ported 9560 9560 (default 2 9589 Z21 ∷ default 1 9595 P21 ∷ [])) ≡ shown (10 ∷ 11 ∷ 10 ∷ 21 ∷ []) 2 (On (on 9559)) (pair12 9560 9560)) ×
+    (come_to (ported 9560 9560 (default 2 9589 Z21 ∷ default 1 9596 P21 ∷ [])) ≡ shown (10 ∷ 11 ∷ 10 ∷ 11 ∷ []) 1 (On (on 9588)) (pair21 9589 9596)) ×
     -- P published 03-05, L published 03-06: holder D002
-    (comeTo (ported 9560 9561 []) ≡ shown (10 ∷ 11 ∷ []) 2 (On (on 9559)) (pair12 9560 9561)) ×
+    (come_to (ported 9560 9561 []) ≡ shown (10 ∷ 11 ∷ []) 2 (On (on 9559)) (pair12 9560 9561)) ×
     -- then D001's objection 2500 against P, published 03-06, arrives last: it gets 30, L gets 10, the holder is D001 again, and no pair is shown
-    (comeTo (ported 9560 9561 (correction 1 9561 (objection P12) ∷ [])) ≡ shown (10 ∷ 10 ∷ 30 ∷ []) 1 Never Nothing) ×
+    (come_to (ported 9560 9561 (correction 1 9561 (objection P12) ∷ [])) ≡ shown (10 ∷ 10 ∷ 30 ∷ []) 1 Never Nothing) ×
     -- the five working days after 2017-10-25: by the list without 31 October they were 10-26, 27, 30, 31 and 11-01, and now the fifth is 11-02
-    (keep formerlyWorking (daysAfter 7237 7244) ≡ 7238 ∷ 7239 ∷ 7242 ∷ 7243 ∷ 7244 ∷ []) ×
-    (keep working (daysAfter 7237 7245) ≡ 7238 ∷ 7239 ∷ 7242 ∷ 7244 ∷ 7245 ∷ []) ×
-    (afterDate 5 2017 10 25 ≡ onDate 2017 11 2) ×
+    (keep formerly_working (days_after 7237 7244) ≡ 7238 ∷ 7239 ∷ 7242 ∷ 7243 ∷ 7244 ∷ []) ×
+    (keep working (days_after 7237 7245) ≡ 7238 ∷ 7239 ∷ 7242 ∷ 7244 ∷ 7245 ∷ []) ×
+    (after_date 5 2017 10 25 ≡ on_date 2017 11 2) ×
     -- so the P published 11-01 did not come before the fifth working day after its Z, and was confirmed; now it does
-    (notYet (on 7244) (OnDay (on (last_of (keep formerlyWorking (daysAfter 7237 7244))))) ≡ false) ×
-    (notYet (on 7244) (workingDayAfter 7237 returnPeriod) ≡ true) ×
+    (not_yet (on 7244) (OnDay (on (last_of (keep formerly_working (days_after 7237 7244))))) ≡ false) ×
+    (not_yet (on 7244) (working_day_after 7237 return_period) ≡ true) ×
     -- it gets 21 and the holder stays D002; published 11-02 it gets 11 and the holder is D001
-    (comeToIn2017 (returnedIn2017 7244) ≡ shown (10 ∷ 11 ∷ 10 ∷ 21 ∷ []) 2 (On (on 7004)) pair12in2017) ×
-    (comeToIn2017 (returnedIn2017 7245) ≡ shown (10 ∷ 11 ∷ 10 ∷ 11 ∷ []) 1 (On (on 7236)) pair21in2017)
+    (come_to_in2017 (returned_in2017 7244) ≡ shown (10 ∷ 11 ∷ 10 ∷ 21 ∷ []) 2 (On (on 7004)) pair12in2017) ×
+    (come_to_in2017 (returned_in2017 7245) ≡ shown (10 ∷ 11 ∷ 10 ∷ 11 ∷ []) 1 (On (on 7236)) pair21in2017)

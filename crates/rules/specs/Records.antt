@@ -5,13 +5,13 @@ use Rattle.laws.specs.Split.{piece_of}
 use Rattle.fields.specs.declared.kind.Kind.{Kind}
 use Rattle.fields.specs.declared.number.DigitsRead.{DigitsRead}
 use Rattle.fields.specs.declared.number.Number.{Number}
-use Rattle.fields.specs.Number.{digitsFieldOf}
-use Rattle.fields.specs.CorrectionCode.{isObjection}
+use Rattle.fields.specs.Number.{digits_field_of}
+use Rattle.fields.specs.CorrectionCode.{is_objection}
 use Rattle.layout.specs.declared.report.Report.{Report}
 use Rattle.layout.specs.declared.report.ReportRead.{ReportRead}
 use Rattle.layout.specs.declared.correction.CorrectionRead.{CorrectionRead}
-use Rattle.layout.specs.Report.{reportOf, whole_of}
-use Rattle.layout.specs.Correction.{correctionOf, namedNumber}
+use Rattle.layout.specs.Report.{report_of, whole_of}
+use Rattle.layout.specs.Correction.{correction_of, named_number}
 use Rattle.entries.specs.declared.report.Published.{Published}
 use Rattle.entries.specs.Report.{by_kind}
 use Rattle.verdict.specs.declared.step.Says.{Says}
@@ -20,72 +20,72 @@ use Rattle.verdict.specs.declared.step.Says.TheVariants.{Reported, Objected, Oth
 -- ---- the number
 
 -- both fields empty: no record of a file names it
-abbrev pub noNumber : Number
-noNumber = record { first = record { 0 = 1 }; last = record { 0 = 1 } }
+abbrev pub no_number : Number
+no_number = record { first = record { 0 = 1 }; last = record { 0 = 1 } }
 
-abbrev pub numberInReport : ReportRead → Number
-numberInReport (ReportRead.Report r) = r.number
-numberInReport ReportRead.Fault = noNumber
+abbrev pub number_in_report : ReportRead → Number
+number_in_report (ReportRead.Report r) = r.number
+number_in_report ReportRead.Fault = no_number
 
-abbrev pub numberInCorrection : CorrectionRead → Number
-numberInCorrection (CorrectionRead.Correction c) = namedNumber c
-numberInCorrection CorrectionRead.Fault = noNumber
+abbrev pub number_in_correction : CorrectionRead → Number
+number_in_correction (CorrectionRead.Correction c) = named_number c
+number_in_correction CorrectionRead.Fault = no_number
 
 -- the number that a record names. The kinds of file: 0 default, 1 correction
 unfoldable pub number_in : ℕ → List ℕ → Number
-number_in zero bytes = numberInReport (reportOf bytes)
-number_in (suc zero) bytes = numberInCorrection (correctionOf bytes)
-number_in (suc (suc kind)) bytes = noNumber
+number_in zero bytes = number_in_report (report_of bytes)
+number_in (suc zero) bytes = number_in_correction (correction_of bytes)
+number_in (suc (suc kind)) bytes = no_number
 
 -- the digits of a number field behind a leading 1; 1 where it is empty, or is no number field
-abbrev pub fieldDigits : DigitsRead → ℕ
-fieldDigits (DigitsRead.Digits d) = d.0
-fieldDigits DigitsRead.Fault = 1
+abbrev pub field_digits : DigitsRead → ℕ
+field_digits (DigitsRead.Digits d) = d.0
+field_digits DigitsRead.Fault = 1
 
 -- the field before the first comma (44) of a report; of a correction that of its U part, behind the code and "U:"
-unfoldable pub firstIn : ℕ → List ℕ → ℕ
-firstIn zero bytes = fieldDigits (digitsFieldOf (piece_of 44 bytes 0))
-firstIn (suc zero) bytes = fieldDigits (digitsFieldOf (piece_of 44 (drop 6 bytes) 0))
-firstIn (suc (suc kind)) bytes = 1
+unfoldable pub first_in : ℕ → List ℕ → ℕ
+first_in zero bytes = field_digits (digits_field_of (piece_of 44 bytes 0))
+first_in (suc zero) bytes = field_digits (digits_field_of (piece_of 44 (drop 6 bytes) 0))
+first_in (suc (suc kind)) bytes = 1
 
 -- ---- the class within a day: corrections, then P, then L, then Z. Numbers between them are left for kinds of record to come
 
-abbrev pub classOfKind : Kind → ℕ
-classOfKind kind = by_kind kind 8 9 10
+abbrev pub class_of_kind : Kind → ℕ
+class_of_kind kind = by_kind kind 8 9 10
 
-abbrev pub classOfReport : ReportRead → ℕ
-classOfReport (ReportRead.Report r) = classOfKind r.kind
-classOfReport ReportRead.Fault = 11
+abbrev pub class_of_report : ReportRead → ℕ
+class_of_report (ReportRead.Report r) = class_of_kind r.kind
+class_of_report ReportRead.Fault = 11
 
-abbrev pub correctionClass : ℕ
-correctionClass = 2
+abbrev pub correction_class : ℕ
+correction_class = 2
 
-unfoldable pub classIn : ℕ → List ℕ → ℕ
-classIn zero bytes = classOfReport (reportOf bytes)
-classIn (suc zero) bytes = correctionClass
-classIn (suc (suc kind)) bytes = 100 + kind
+unfoldable pub class_in : ℕ → List ℕ → ℕ
+class_in zero bytes = class_of_report (report_of bytes)
+class_in (suc zero) bytes = correction_class
+class_in (suc (suc kind)) bytes = 100 + kind
 
 -- ---- what it says
 
 -- a report without its number
-abbrev pub publishedBy : Report → Published
-publishedBy r = record { kind = r.kind; date = r.date; losing = r.losing; gaining = r.gaining }
+abbrev pub published_by : Report → Published
+published_by r = record { kind = r.kind; date = r.date; losing = r.losing; gaining = r.gaining }
 
 abbrev pub reported : ReportRead → Says
-reported (ReportRead.Report r) = Reported (publishedBy r)
+reported (ReportRead.Report r) = Reported (published_by r)
 reported ReportRead.Fault = Other
 
 -- an objection with this code, against the report of its U part
 abbrev pub objected : ℕ → ReportRead → Says
-objected code (ReportRead.Report r) = Objected (record { code = code; named = publishedBy r })
+objected code (ReportRead.Report r) = Objected (record { code = code; named = published_by r })
 objected code ReportRead.Fault = Other
 
 -- a correction: 25XX is an objection
 abbrev pub corrected : CorrectionRead → Says
-corrected (CorrectionRead.Correction c) = cond (isObjection c.code) (objected c.code.0 (whole_of c.u)) Other
+corrected (CorrectionRead.Correction c) = cond (is_objection c.code) (objected c.code.0 (whole_of c.u)) Other
 corrected CorrectionRead.Fault = Other
 
-unfoldable pub saysIn : ℕ → List ℕ → Says
-saysIn zero bytes = reported (reportOf bytes)
-saysIn (suc zero) bytes = corrected (correctionOf bytes)
-saysIn (suc (suc kind)) bytes = Other
+unfoldable pub says_in : ℕ → List ℕ → Says
+says_in zero bytes = reported (report_of bytes)
+says_in (suc zero) bytes = corrected (correction_of bytes)
+says_in (suc (suc kind)) bytes = Other

@@ -1,11 +1,11 @@
 // What the bytes of a record say, by the kind of its file: 0 default, 1 correction.
 ghost use Rattle.std.specs.Prelude.{◌≡◌, cond, ◌-◌, eqb};
-ghost use Rattle.laws.specs.Digits.{isDigit};
+ghost use Rattle.laws.specs.Digits.{is_digit};
 ghost use Rattle.laws.specs.Split.{piece_of};
-ghost use Rattle.fields.specs.Number.{digitsFieldOf};
-ghost use Rattle.layout.specs.Report.{reportOf};
-ghost use Rattle.layout.specs.Correction.{correctionOf};
-ghost use Rattle.rules.specs.Records.{noNumber, numberInReport, numberInCorrection, number_in, fieldDigits, firstIn, classOfKind, classOfReport, classIn, publishedBy, reported, objected, corrected, saysIn};
+ghost use Rattle.fields.specs.Number.{digits_field_of};
+ghost use Rattle.layout.specs.Report.{report_of};
+ghost use Rattle.layout.specs.Correction.{correction_of};
+ghost use Rattle.rules.specs.Records.{no_number, number_in_report, number_in_correction, number_in, field_digits, first_in, class_of_kind, class_of_report, class_in, published_by, reported, objected, corrected, says_in};
 
 use entries::report::Published;
 use fields::kind::Kind;
@@ -17,7 +17,7 @@ use verdict::step::Says;
 
 // No record of a file names it.
 fn no_number() -> Number
-    ensures { result ≡ noNumber }
+    ensures { result ≡ no_number }
 {
     let empty = Digits(1);
     Number {
@@ -27,7 +27,7 @@ fn no_number() -> Number
 }
 
 fn number_in_report(bytes: &[u8]) -> Number
-    ensures { result ≡ numberInReport (reportOf bytes.now) }
+    ensures { result ≡ number_in_report (report_of bytes.now) }
 {
     let read = Report::read(bytes);
     match read {
@@ -37,7 +37,7 @@ fn number_in_report(bytes: &[u8]) -> Number
 }
 
 fn number_in_correction(bytes: &[u8]) -> Number
-    ensures { result ≡ numberInCorrection (correctionOf bytes.now) }
+    ensures { result ≡ number_in_correction (correction_of bytes.now) }
 {
     let read = layout::correction::Correction::read(bytes);
     match read {
@@ -60,7 +60,7 @@ pub fn number_in(kind: u8, bytes: &[u8]) -> Number
 }
 
 fn is_digit(b: u8) -> bool
-    ensures { result ≡ isDigit b }
+    ensures { result ≡ is_digit b }
 {
     (48 <= b) & (b <= 57)
 }
@@ -93,7 +93,7 @@ fn ended(b: u8, n: u64) -> u64
 
 // The number field before the first comma, behind a leading 1; 1 where it is empty, or is no number field. At most 11 digits are read.
 fn first_field(s: &[u8]) -> u64
-    ensures { result ≡ fieldDigits (digitsFieldOf (piece_of 44 s.now 0)) }
+    ensures { result ≡ field_digits (digits_field_of (piece_of 44 s.now 0)) }
 {
     let most = at_most_11(s.len());
     let mut n: u64 = 1;
@@ -114,7 +114,7 @@ fn first_field(s: &[u8]) -> u64
 
 // The first number field of a record as far as its first comma.
 pub fn first_in(kind: u8, bytes: &[u8]) -> u64
-    ensures { result ≡ firstIn kind bytes.now }
+    ensures { result ≡ first_in kind bytes.now }
 {
     if kind == 0 {
         return first_field(bytes);
@@ -130,7 +130,7 @@ pub fn first_in(kind: u8, bytes: &[u8]) -> u64
 
 // The class of a report: P, then L, then Z.
 fn class_of(k: Kind) -> u64
-    ensures { result ≡ classOfKind k }
+    ensures { result ≡ class_of_kind k }
 {
     match k {
         Kind::P => 8,
@@ -140,7 +140,7 @@ fn class_of(k: Kind) -> u64
 }
 
 fn class_of_report(bytes: &[u8]) -> u64
-    ensures { result ≡ classOfReport (reportOf bytes.now) }
+    ensures { result ≡ class_of_report (report_of bytes.now) }
 {
     let read = Report::read(bytes);
     match read {
@@ -154,7 +154,7 @@ fn class_of_report(bytes: &[u8]) -> u64
 
 // The class of a record within its day.
 pub fn class_in(kind: u8, bytes: &[u8]) -> u64
-    ensures { result ≡ classIn kind bytes.now }
+    ensures { result ≡ class_in kind bytes.now }
 {
     if kind == 0 {
         return class_of_report(bytes);
@@ -167,7 +167,7 @@ pub fn class_in(kind: u8, bytes: &[u8]) -> u64
 
 // A report without its number.
 fn published(r: Report) -> Published
-    ensures { result ≡ publishedBy r }
+    ensures { result ≡ published_by r }
 {
     let kind = r.kind;
     let date = r.date;
@@ -182,7 +182,7 @@ fn published(r: Report) -> Published
 }
 
 fn says_report(bytes: &[u8]) -> Says
-    ensures { result ≡ reported (reportOf bytes.now) }
+    ensures { result ≡ reported (report_of bytes.now) }
 {
     let read = Report::read(bytes);
     match read {
@@ -209,7 +209,7 @@ fn says_objection(code: u16, read: ReportRead) -> Says
 }
 
 fn says_correction(bytes: &[u8]) -> Says
-    ensures { result ≡ corrected (correctionOf bytes.now) }
+    ensures { result ≡ corrected (correction_of bytes.now) }
 {
     let read = layout::correction::Correction::read(bytes);
     match read {
@@ -226,7 +226,7 @@ fn says_correction(bytes: &[u8]) -> Says
 
 // What a record says.
 pub fn says_in(kind: u8, bytes: &[u8]) -> Says
-    ensures { result ≡ saysIn kind bytes.now }
+    ensures { result ≡ says_in kind bytes.now }
 {
     if kind == 0 {
         return says_report(bytes);

@@ -7,12 +7,12 @@ use lib.Seq.{take_all}
 use native.Mathlib.Nat.{sub-zero}
 use native.Mathlib.Omega.{arith}
 use borrow.Author.Tests.{le-leb, lt-leb}
-use Rattle.fields.specs.Number.{digitsFieldOf}
+use Rattle.fields.specs.Number.{digits_field_of}
 use Rattle.fields.specs.declared.number.NumberRead.{NumberRead}
-use Rattle.shown.specs.Named.{besideFirst, named_at}
+use Rattle.shown.specs.Named.{beside_first, named_at}
 
 module _ (w : List ℕ) (dash : ℕ) where
-  pub named-whole : length w ≤ dash → besideFirst (digitsFieldOf w) [] ≡ named_at w dash
+  pub named-whole : length w ≤ dash → beside_first (digits_field_of w) [] ≡ named_at w dash
   unfolding named_at
   named-whole h = simp (le-leb _ _ h)
 
@@ -22,6 +22,6 @@ module _ (w : List ℕ) (dash : ℕ) where
 
   -- the two fields as `&w[0..dash]` and `&w[dash + 1..]` have them
   pub named-two : dash < length w → dash + 1 < length w
-      → besideFirst (digitsFieldOf (take (dash - 0) w)) (take (length w - (dash + 1)) (drop (dash + 1) w)) ≡ named_at w dash
+      → beside_first (digits_field_of (take (dash - 0) w)) (take (length w - (dash + 1)) (drop (dash + 1) w)) ≡ named_at w dash
   unfolding named_at
   named-two h i = simp (sub-zero, lt-leb _ _ h, lt-leb _ _ i, take_all (length w - (dash + 1)) (drop (dash + 1) w) (omega (arith, length-drop (dash + 1) w)))

@@ -1,7 +1,7 @@
 // Numbers: num1, or num1-num2.
 ghost use Rattle.std.specs.Prelude.{◌≡◌};
-ghost use Rattle.fields.specs.Number.{digitsFieldOf};
-ghost use Rattle.shown.specs.Named.{besideFirst, numberNamed};
+ghost use Rattle.fields.specs.Number.{digits_field_of};
+ghost use Rattle.shown.specs.Named.{beside_first, number_named};
 
 use desk::page;
 use fields::number::{Digits, DigitsRead, Number, NumberRead};
@@ -35,7 +35,7 @@ pub fn number(p: Page, room: &mut [u8; ROOM], n: Number) -> Page {
 
 // Two fields as a number; a first field of no digits is none.
 fn of_fields(first: &[u8], last: &[u8]) -> NumberRead
-    ensures { result ≡ besideFirst (digitsFieldOf first.now) last.now }
+    ensures { result ≡ beside_first (digits_field_of first.now) last.now }
 {
     let DigitsRead::Digits(d) = Digits::read(first) else {
         return NumberRead::Fault;
@@ -48,7 +48,7 @@ fn of_fields(first: &[u8], last: &[u8]) -> NumberRead
 
 // The number that a word of the command line names.
 pub fn read(word: &[u8]) -> NumberRead
-    ensures { result ≡ numberNamed word.now }
+    ensures { result ≡ number_named word.now }
 {
     let end = text::field_end(word, 0, b'-');
     if word.len() <= end {

@@ -3,7 +3,7 @@ ghost use Rattle.std.specs.Prelude.{◌≡◌, ◌+◌, ◌*◌, ◌≤◌, leng
 ghost use Rattle.laws.specs.Overlay.{overlay};
 ghost use Rattle.laws.specs.Words.{low_first};
 ghost use Rattle.store.specs.Reads.{lent};
-ghost use Rattle.starting.specs.Start.{first_of, tableWith, entriesWith, Entered, Begun, Starts};
+ghost use Rattle.starting.specs.Start.{first_of, table_with, entries_with, Entered, Begun, Starts};
 
 use crate::tables::scratch;
 use crate::tables::scratch::Counted;
@@ -35,7 +35,7 @@ fn first_of(l: lines::Line) -> Entry
 // Writes the count and the n lines of `room` into the table.
 fn put_table(room: &[u8], n: usize, table: &mut [u8])
     requires { (n ≤ 1024) × (14338 ≤ length room.now) × (14338 ≤ length table.old) }
-    ensures { table.new ≡ tableWith room.now n table.old }
+    ensures { table.new ≡ table_with room.now n table.old }
 {
     let end = lines::HEAD + n * lines::LINE;
     lines::put_count(table, n as u16);
@@ -45,7 +45,7 @@ fn put_table(room: &[u8], n: usize, table: &mut [u8])
 // Writes the first entries of the n lines of `room`.
 fn put_entries(room: &[u8], n: usize, entries: &mut [u8])
     requires { (2 + n * 14 ≤ length room.now) × (n * 100 ≤ length entries.old) }
-    ensures { entries.new ≡ entriesWith room.now n entries.old }
+    ensures { entries.new ≡ entries_with room.now n entries.old }
 {
     let mut i = 0;
     while i < n {

@@ -9,38 +9,38 @@ use native.Mathlib.Omega.{arith}
 use lib.ListN.{length, take, length-take}
 use Rattle.laws.specs.Lists.{table, total}
 use Rattle.laws.specs.Overlay.{part}
-use Rattle.laws.specs.Slots.{slot_at, heldIn}
+use Rattle.laws.specs.Slots.{slot_at, held_in}
 use Rattle.laws.proofs.Lists.{total-end}
-use Rattle.store.specs.journals.Files.{files_of, recordsOf}
-use Rattle.store.specs.journals.Records.{recordAt}
-use Rattle.store.specs.Reads.{goodFiles}
+use Rattle.store.specs.journals.Files.{files_of, records_of}
+use Rattle.store.specs.journals.Records.{record_at}
+use Rattle.store.specs.Reads.{good_files}
 use Rattle.store.proofs.Checks.{few-reports, few-corrections}
 
 -- what a slot holds is shorter than the slot
-held_below : (w : ℕ) (s : List ℕ) → length s ≤ suc w → length (heldIn s) ≤ w
-unfolding heldIn
+held_below : (w : ℕ) (s : List ℕ) → length s ≤ suc w → length (held_in s) ≤ w
+unfolding held_in
 held_below w [] h = omega arith
 held_below w (n ∷ rest) h = rw length-take (omega arith)
 
-record-below : (w : ℕ) (journal : List ℕ) (k : ℕ) → length (recordAt (suc w) journal k) ≤ w
-unfolding recordAt slot_at part
+record-below : (w : ℕ) (journal : List ℕ) (k : ℕ) → length (record_at (suc w) journal k) ≤ w
+unfolding record_at slot_at part
 record-below w journal k = held_below w (part journal (0 + k * suc w) (suc w)) (rw length-take (omega arith))
 
-pub bytes_below : (w n : ℕ) (journal : List ℕ) → total length (table n (recordAt (suc w) journal)) ≤ n * w
+pub bytes_below : (w n : ℕ) (journal : List ℕ) → total length (table n (record_at (suc w) journal)) ≤ n * w
 unfolding table total
 bytes_below w zero journal = omega arith
 bytes_below w (suc n) journal =
     omega (
       arith,
-      total-end length (table n (recordAt (suc w) journal)) (recordAt (suc w) journal n),
+      total-end length (table n (record_at (suc w) journal)) (record_at (suc w) journal n),
       bytes_below w n journal,
       record-below w journal n,
       suc-mul n w,
     )
 
-module _ (files : List ℕ) (e : goodFiles files ≡ true) (journal : List ℕ) where
-  pub regular-bytes : total length (table (recordsOf 0 (files_of files)) (recordAt 45 journal)) ≤ 1048576
-  regular-bytes = omega (arith, bytes_below 44 (recordsOf 0 (files_of files)) journal, few-reports files e)
+module _ (files : List ℕ) (e : good_files files ≡ true) (journal : List ℕ) where
+  pub regular-bytes : total length (table (records_of 0 (files_of files)) (record_at 45 journal)) ≤ 1048576
+  regular-bytes = omega (arith, bytes_below 44 (records_of 0 (files_of files)) journal, few-reports files e)
 
-  pub correction-bytes : total length (table (recordsOf 1 (files_of files)) (recordAt 98 journal)) ≤ 262144
-  correction-bytes = omega (arith, bytes_below 97 (recordsOf 1 (files_of files)) journal, few-corrections files e)
+  pub correction-bytes : total length (table (records_of 1 (files_of files)) (record_at 98 journal)) ≤ 262144
+  correction-bytes = omega (arith, bytes_below 97 (records_of 1 (files_of files)) journal, few-corrections files e)

@@ -1,6 +1,6 @@
 // Whether the five lent buffers read as a store.
 ghost use Rattle.std.specs.Prelude.{◌≡◌, true, ◌≤◌, length};
-ghost use Rattle.store.specs.Reads.{lent, longEnough, goodTable, goodFiles, goodRecords, isReadable};
+ghost use Rattle.store.specs.Reads.{lent, long_enough, good_table, good_files, good_records, is_readable};
 
 use crate::entry_slots::entry;
 use crate::journals::records::{CORRECTIONS, CORRECTIONS_LENGTH, REGULAR_LENGTH, REPORTS};
@@ -19,7 +19,7 @@ pub fn long_enough(
     corrections: &[u8],
     entries: &[u8],
 ) -> bool
-    ensures { result ≡ longEnough (lent table.now files.now regular.now corrections.now entries.now) }
+    ensures { result ≡ long_enough (lent table.now files.now regular.now corrections.now entries.now) }
 {
     if table.len() < lines::TABLE_LENGTH {
         return false;
@@ -39,7 +39,7 @@ pub fn long_enough(
 // Whether the number table is well formed.
 fn good_table(table: &[u8]) -> bool
     requires { 14338 ≤ length table.now }
-    ensures { result ≡ goodTable table.now }
+    ensures { result ≡ good_table table.now }
 {
     let n = lines::line_count(table);
     if lines::NUMBERS < n {
@@ -54,7 +54,7 @@ fn good_table(table: &[u8]) -> bool
 // Whether the list of files is well formed.
 fn good_files(files: &[u8]) -> bool
     requires { 8194 ≤ length files.now }
-    ensures { result ≡ goodFiles files.now }
+    ensures { result ≡ good_files files.now }
 {
     let n = files::file_count(files);
     if files::FILES < n {
@@ -74,8 +74,8 @@ fn good_files(files: &[u8]) -> bool
 
 // Whether the records of the files are in their layouts.
 fn good_records(files: &[u8], regular: &[u8], corrections: &[u8]) -> bool
-    requires { (8194 ≤ length files.now) × (368640 ≤ length regular.now) × (200704 ≤ length corrections.now) × (goodFiles files.now ≡ true) }
-    ensures { result ≡ goodRecords files.now regular.now corrections.now }
+    requires { (8194 ≤ length files.now) × (368640 ≤ length regular.now) × (200704 ≤ length corrections.now) × (good_files files.now ≡ true) }
+    ensures { result ≡ good_records files.now regular.now corrections.now }
 {
     let n = files::file_count(files);
     if !records::good_reports(regular, sums::records_of(files, n, 0)) {
@@ -92,7 +92,7 @@ pub fn readable(
     corrections: &[u8],
     entries: &[u8],
 ) -> bool
-    ensures { result ≡ isReadable (lent table.now files.now regular.now corrections.now entries.now) }
+    ensures { result ≡ is_readable (lent table.now files.now regular.now corrections.now entries.now) }
 {
     if !long_enough(table, files, regular, corrections, entries) {
         return false;

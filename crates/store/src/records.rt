@@ -2,9 +2,9 @@
 ghost use Rattle.std.specs.Prelude.{◌≡◌, ◌+◌, ◌*◌, ◌≤◌, length};
 ghost use Rattle.laws.specs.Lists.{table, all};
 ghost use Rattle.laws.specs.Slots.{slot_at};
-ghost use Rattle.layout.specs.Correction.{correctionOf, isReport};
-ghost use Rattle.layout.specs.Report.{reportOf};
-ghost use Rattle.store.specs.Records.{isCorrection, goodReport, goodCorrection};
+ghost use Rattle.layout.specs.Correction.{correction_of, is_report};
+ghost use Rattle.layout.specs.Report.{report_of};
+ghost use Rattle.store.specs.Records.{is_correction, good_report, good_correction};
 
 use crate::journals::records::{CORRECTION_SLOT, REPORT_SLOT};
 use crate::slots::record;
@@ -13,7 +13,7 @@ use layout::report::{Report, ReportRead};
 
 // Whether bytes are a report.
 fn is_report(bytes: &[u8]) -> bool
-    ensures { result ≡ isReport (reportOf bytes.now) }
+    ensures { result ≡ is_report (report_of bytes.now) }
 {
     let ReportRead::Report(_) = Report::read(bytes) else {
         return false;
@@ -23,7 +23,7 @@ fn is_report(bytes: &[u8]) -> bool
 
 // Whether bytes are a correction.
 fn is_correction(bytes: &[u8]) -> bool
-    ensures { result ≡ isCorrection (correctionOf bytes.now) }
+    ensures { result ≡ is_correction (correction_of bytes.now) }
 {
     let CorrectionRead::Correction(_) = Correction::read(bytes) else {
         return false;
@@ -34,7 +34,7 @@ fn is_correction(bytes: &[u8]) -> bool
 // Whether the slot k of the regular journal holds a report.
 fn good_report(regular: &[u8], k: usize) -> bool
     requires { k * 45 + 45 ≤ length regular.now }
-    ensures { result ≡ goodReport (slot_at 0 45 regular.now k) }
+    ensures { result ≡ good_report (slot_at 0 45 regular.now k) }
 {
     if !record::is_held(regular, REPORT_SLOT, k) {
         return false;
@@ -45,7 +45,7 @@ fn good_report(regular: &[u8], k: usize) -> bool
 // Whether the slot k of the correction journal holds a correction.
 fn good_correction(corrections: &[u8], k: usize) -> bool
     requires { k * 98 + 98 ≤ length corrections.now }
-    ensures { result ≡ goodCorrection (slot_at 0 98 corrections.now k) }
+    ensures { result ≡ good_correction (slot_at 0 98 corrections.now k) }
 {
     if !record::is_held(corrections, CORRECTION_SLOT, k) {
         return false;
@@ -56,7 +56,7 @@ fn good_correction(corrections: &[u8], k: usize) -> bool
 // Whether each of the first n slots of the regular journal does.
 pub(crate) fn good_reports(regular: &[u8], n: usize) -> bool
     requires { n * 45 ≤ length regular.now }
-    ensures { result ≡ all goodReport (table n (slot_at 0 45 regular.now)) }
+    ensures { result ≡ all good_report (table n (slot_at 0 45 regular.now)) }
 {
     let mut i = 0;
     while i < n {
@@ -71,7 +71,7 @@ pub(crate) fn good_reports(regular: &[u8], n: usize) -> bool
 // Whether each of the first n slots of the correction journal does.
 pub(crate) fn good_corrections(corrections: &[u8], n: usize) -> bool
     requires { n * 98 ≤ length corrections.now }
-    ensures { result ≡ all goodCorrection (table n (slot_at 0 98 corrections.now)) }
+    ensures { result ≡ all good_correction (table n (slot_at 0 98 corrections.now)) }
 {
     let mut i = 0;
     while i < n {

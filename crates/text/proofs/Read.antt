@@ -10,24 +10,24 @@ use lib.Seq.{drop-cons}
 use borrow.Author.Tests.{le-leb, lt-leb}
 use Rattle.text.specs.declared.Spelt.TheVariants.{Value, Fault}
 use Rattle.laws.specs.Lists.{all}
-use Rattle.laws.specs.Digits.{isDigit, spelt}
+use Rattle.laws.specs.Digits.{is_digit, spelt}
 use Rattle.text.specs.Spelt.{spells}
 
 module _ (f : List ℕ) (n i : ℕ) (h : i < length f) where
   pub turn : 48 ≤ get_or f i 0 → get_or f i 0 ≤ 57 → spells n (drop i f) ≡ spells (n * 10 + (get_or f i 0 - 48)) (drop (i + 1) f)
-  unfolding spells all isDigit spelt
+  unfolding spells all is_digit spelt
   turn low high = rw (add-one, drop-cons f i 0) (simp (le-leb 48 (get_or f i 0), le-leb (get_or f i 0) 57))
 
   pub too-low : get_or f i 0 < 48 → spells n (drop i f) ≡ Fault
-  unfolding spells all isDigit spelt
+  unfolding spells all is_digit spelt
   too-low low = rw (drop-cons f i 0) (simp (lt-leb 48 (get_or f i 0)))
 
   pub too-high : 48 ≤ get_or f i 0 → 57 < get_or f i 0 → spells n (drop i f) ≡ Fault
-  unfolding spells all isDigit spelt
+  unfolding spells all is_digit spelt
   too-high low high = rw (drop-cons f i 0) (simp (le-leb 48 (get_or f i 0), lt-leb (get_or f i 0) 57))
 
 pub done : (f : List ℕ) (n i : ℕ) → length f ≤ i → spells n (drop i f) ≡ Value n
-unfolding spells all isDigit spelt
+unfolding spells all is_digit spelt
 done f n i h = rw (drop_of_length-le f)
 
 -- what i digits behind at most 1 spell

@@ -4,7 +4,7 @@ ghost use Rattle.std.specs.Prelude.{◌≡◌, [], ◌∷◌, ◌+◌, ◌-◌, 
 ghost use Rattle.laws.specs.Split.{split, piece_of, end_of};
 ghost use Rattle.laws.specs.Digits.{digits, down, size_of};
 ghost use Rattle.laws.specs.Overlay.{Laid};
-ghost use Rattle.text.specs.Spelt.{spells, digitsOf};
+ghost use Rattle.text.specs.Spelt.{spells, digits_of};
 
 // What a run of decimal digits spells.
 #[derive(Drop)]
@@ -89,7 +89,7 @@ fn spell(f: &[u8], start: u64) -> Spelt
 
 // The number that at most 18 digits spell, behind a leading 1 where `lead` asks for one.
 pub fn read_digits(f: &[u8], lead: bool) -> Spelt
-    ensures { result ≡ digitsOf lead f.now }
+    ensures { result ≡ digits_of lead f.now }
 {
     if 18 < f.len() {
         return Spelt::Fault;

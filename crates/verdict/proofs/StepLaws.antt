@@ -32,23 +32,23 @@ use Rattle.verdict.specs.declared.step.Record.{Record}
 use Rattle.verdict.specs.declared.step.Standing.{Standing}
 use Rattle.verdict.specs.declared.verdicts.Doing.{Doing}
 use Rattle.verdict.specs.verdicts.Numbers.{number_of}
-use Rattle.verdict.specs.verdicts.Does.{isKept, isConfirmed, isLapsed, doesBy}
-use Rattle.entries.specs.Report.{meantBy}
-use Rattle.entries.specs.Entry.{freePlace}
-use Rattle.entries.specs.places.Places.{isOpen, lowestFree, lapsed}
-use Rattle.verdict.specs.report_tests.Tests.{beforeLast, partnerOpen, zedOpen}
-use Rattle.verdict.specs.report_rules.Reports.{reportTable, reportVerdict}
-use Rattle.verdict.specs.correction_rules.Corrections.{objectionVerdict}
-use Rattle.verdict.specs.effects.Reports.{kept, confirmed, reportEffect}
-use Rattle.verdict.specs.effects.Corrections.{named_at, withoutNamed, objectionEffect}
-use Rattle.verdict.specs.Step.{placedAs, verdictBy, effectBy, effectOn, pairAfter, whyBy, verdictOn, entryAfter, standOn}
+use Rattle.verdict.specs.verdicts.Does.{is_kept, is_confirmed, is_lapsed, does_by}
+use Rattle.entries.specs.Report.{meant_by}
+use Rattle.entries.specs.Entry.{free_place}
+use Rattle.entries.specs.places.Places.{is_open, lowest_free, lapsed}
+use Rattle.verdict.specs.report_tests.Tests.{before_last, partner_open, zed_open}
+use Rattle.verdict.specs.report_rules.Reports.{report_table, report_verdict}
+use Rattle.verdict.specs.correction_rules.Corrections.{objection_verdict}
+use Rattle.verdict.specs.effects.Reports.{kept, confirmed, report_effect}
+use Rattle.verdict.specs.effects.Corrections.{named_at, without_named, objection_effect}
+use Rattle.verdict.specs.Step.{placed_as, verdict_by, effect_by, effect_on, pair_after, why_by, verdict_on, entry_after, stand_on}
 use Rattle.verdict.specs.Sound.{Discarded, NotAfter, Tidy, Explained}
 use Rattle.entries.proofs.places.PlaceLaws.{thinned-set, thinned-map, apart-thinned, apart-kept}
 use Rattle.verdict.proofs.PairLaws.{partner-pairs}
 
 -- ---- a verdict does what its number says
-pub kept_by : (v : Verdict) → doesBy v ≡ Doing.Keeps → isKept v ≡ true
-kept_by v = go (isKept v) (isConfirmed v) (isLapsed v)
+pub kept_by : (v : Verdict) → does_by v ≡ Doing.Keeps → is_kept v ≡ true
+kept_by v = go (is_kept v) (is_confirmed v) (is_lapsed v)
   where
     go : (k c l : Bool) → cond k Doing.Keeps (cond c Doing.Confirms (cond l Doing.Lapses Doing.Nothing)) ≡ Doing.Keeps → k ≡ true
     go true c l q = refl
@@ -56,8 +56,8 @@ kept_by v = go (isKept v) (isConfirmed v) (isLapsed v)
     go false false true q = cc
     go false false false q = cc
 
-pub confirmed-by : (v : Verdict) → doesBy v ≡ Doing.Confirms → isConfirmed v ≡ true
-confirmed-by v = go (isKept v) (isConfirmed v) (isLapsed v)
+pub confirmed-by : (v : Verdict) → does_by v ≡ Doing.Confirms → is_confirmed v ≡ true
+confirmed-by v = go (is_kept v) (is_confirmed v) (is_lapsed v)
   where
     go : (k c l : Bool) → cond k Doing.Keeps (cond c Doing.Confirms (cond l Doing.Lapses Doing.Nothing)) ≡ Doing.Confirms → c ≡ true
     go k true l q = refl
@@ -65,24 +65,24 @@ confirmed-by v = go (isKept v) (isConfirmed v) (isLapsed v)
     go false false true q = cc
     go false false false q = cc
 
-pub confirmed-does : (v : Verdict) → isConfirmed v ≡ true → doesBy v ≡ Doing.Confirms
+pub confirmed-does : (v : Verdict) → is_confirmed v ≡ true → does_by v ≡ Doing.Confirms
 confirmed-does v h =
-    let other : isKept v ≡ false = ne_eqb (number_of v) 10 (λ e. omega (arith, e, eqb-true (number_of v) 11 h)) in
+    let other : is_kept v ≡ false = ne_eqb (number_of v) 10 (λ e. omega (arith, e, eqb-true (number_of v) 11 h)) in
     rw (other, h)
 
 -- ---- what the table of reports says of a report that is kept or confirmed
 module _ (n : Listed) (e : Entry) (from : Code) (day : CalendarDays) (r : Report) where
-  not-open : isKept (reportVerdict n e from day r) ≡ true → isOpen r.kind r e.places ≡ false
+  not-open : is_kept (report_verdict n e from day r) ≡ true → is_open r.kind r e.places ≡ false
   unfolding any
-  not-open h = line-passed isKept 8 (false, Kept) (reportTable n e from day r) Kept (lit≤ tt) refl h
+  not-open h = line-passed is_kept 8 (false, Kept) (report_table n e from day r) Kept (lit≤ tt) refl h
 
-  not-before : isConfirmed (reportVerdict n e from day r) ≡ true → beforeLast r.date e.last ≡ false
+  not-before : is_confirmed (report_verdict n e from day r) ≡ true → before_last r.date e.last ≡ false
   unfolding any
-  not-before h = line-passed isConfirmed 5 (false, Kept) (reportTable n e from day r) Kept (lit≤ tt) refl h
+  not-before h = line-passed is_confirmed 5 (false, Kept) (report_table n e from day r) Kept (lit≤ tt) refl h
 
-  partnered : isConfirmed (reportVerdict n e from day r) ≡ true → (partnerOpen r e.places || zedOpen r e.places) ≡ true
+  partnered : is_confirmed (report_verdict n e from day r) ≡ true → (partner_open r e.places || zed_open r e.places) ≡ true
   unfolding any
-  partnered h = either (partnerOpen r e.places) (zedOpen r e.places) (line-applied isConfirmed (reportTable n e from day r) Kept refl h)
+  partnered h = either (partner_open r e.places) (zed_open r e.places) (line-applied is_confirmed (report_table n e from day r) Kept refl h)
     where
       either : (a b : Bool) → (a || (b || false)) ≡ true → (a || b) ≡ true
       either true b e = refl
@@ -90,55 +90,55 @@ module _ (n : Listed) (e : Entry) (from : Code) (day : CalendarDays) (r : Report
       either false false e = e
 
 -- ---- discarded
-no-effect : (line : Line) (e : Entry) (rec : Record) (says : Says) → effectBy Doing.Nothing line e rec says ≡ e
+no-effect : (line : Line) (e : Entry) (rec : Record) (says : Says) → effect_by Doing.Nothing line e rec says ≡ e
 no-effect line e rec (Reported p) = refl
 no-effect line e rec (Objected o) = refl
 no-effect line e rec Other = refl
 
-pub discarded-stays : (line : Line) (e : Entry) (rec : Record) → Discarded (verdictOn (With line) e rec) → entryAfter line e rec ≡ e
-unfolding entryAfter
-discarded-stays line e rec h = ap (λ (d : Doing). effectOn d line e rec) h ∙ no-effect line e rec rec.says
+pub discarded-stays : (line : Line) (e : Entry) (rec : Record) → Discarded (verdict_on (With line) e rec) → entry_after line e rec ≡ e
+unfolding entry_after
+discarded-stays line e rec h = ap (λ (d : Doing). effect_on d line e rec) h ∙ no-effect line e rec rec.says
 
 -- ---- the last confirmed date
 pub not-after-refl : (l : Last) → NotAfter l l
 not-after-refl Never = tt
 not-after-refl (On d) = le_refl d.0
 
-date-not-after : (d : CalendarDays) (l : Last) → beforeLast d l ≡ false → NotAfter l (On d)
+date-not-after : (d : CalendarDays) (l : Last) → before_last d l ≡ false → NotAfter l (On d)
 date-not-after d Never h = tt
 date-not-after d (On l) h = ltb-false d.0 l.0 h
 
-last-by : (line : Line) (e : Entry) (rec : Record) (says : Says) → NotAfter e.last (effectBy (doesBy (verdictBy (With line) e rec.publisher rec.day says)) line e rec says).last
-last-by line e rec (Reported p) = go (doesBy v) refl
+last-by : (line : Line) (e : Entry) (rec : Record) (says : Says) → NotAfter e.last (effect_by (does_by (verdict_by (With line) e rec.publisher rec.day says)) line e rec says).last
+last-by line e rec (Reported p) = go (does_by v) refl
   where
     r : Report
-    r = meantBy line.owner p
+    r = meant_by line.owner p
 
     v : Verdict
-    v = reportVerdict (With line) e rec.publisher rec.day r
+    v = report_verdict (With line) e rec.publisher rec.day r
 
-    go : (d : Doing) → doesBy v ≡ d → NotAfter e.last (reportEffect d e (placedAs rec r)).last
+    go : (d : Doing) → does_by v ≡ d → NotAfter e.last (report_effect d e (placed_as rec r)).last
     go Doing.Keeps q = not-after-refl e.last
     go Doing.Confirms q = date-not-after r.date e.last (not-before (With line) e rec.publisher rec.day r (confirmed-by v q))
     go Doing.Lapses q = not-after-refl e.last
     go Doing.Nothing q = not-after-refl e.last
-last-by line e rec (Objected o) = go (doesBy (objectionVerdict (With line) e rec.publisher o))
+last-by line e rec (Objected o) = go (does_by (objection_verdict (With line) e rec.publisher o))
   where
-    go : (d : Doing) → NotAfter e.last (objectionEffect d e line.owner o.named).last
+    go : (d : Doing) → NotAfter e.last (objection_effect d e line.owner o.named).last
     go Doing.Keeps = not-after-refl e.last
     go Doing.Confirms = not-after-refl e.last
     go Doing.Lapses = not-after-refl e.last
     go Doing.Nothing = not-after-refl e.last
 last-by line e rec Other = not-after-refl e.last
 
-pub last-stays : (line : Line) (e : Entry) (rec : Record) → NotAfter e.last (entryAfter line e rec).last
-unfolding entryAfter
+pub last-stays : (line : Line) (e : Entry) (rec : Record) → NotAfter e.last (entry_after line e rec).last
+unfolding entry_after
 last-stays line e rec = last-by line e rec rec.says
 
 -- ---- the places
-kept-tidy : (e : Entry) (q : Place) → q.taken ≡ true → isOpen q.report.kind q.report e.places ≡ false → Tidy e → Tidy (kept e q)
+kept-tidy : (e : Entry) (q : Place) → q.taken ≡ true → is_open q.report.kind q.report e.places ≡ false → Tidy e → Tidy (kept e q)
 kept-tidy e q t n h = record {
-  eight = length-set e.places (lowestFree e.places) q ∙ h.eight;
+  eight = length-set e.places (lowest_free e.places) q ∙ h.eight;
   apart = apart-kept e.places q t n h.apart;
 }
 
@@ -148,69 +148,69 @@ confirmed-tidy e r h = record {
   apart = apart-thinned (thinned-map r.date e.places) h.apart;
 }
 
-without-tidy : (e : Entry) (owner : Code) (named : Published) → Tidy e → Tidy (withoutNamed e owner named)
+without-tidy : (e : Entry) (owner : Code) (named : Published) → Tidy e → Tidy (without_named e owner named)
 without-tidy e owner named h = record {
-  eight = length-set e.places (named_at owner named e.places) freePlace ∙ h.eight;
+  eight = length-set e.places (named_at owner named e.places) free_place ∙ h.eight;
   apart = apart-thinned (thinned-set e.places (named_at owner named e.places)) h.apart;
 }
 
-tidy-by : (line : Line) (e : Entry) (rec : Record) (says : Says) → Tidy e → Tidy (effectBy (doesBy (verdictBy (With line) e rec.publisher rec.day says)) line e rec says)
-tidy-by line e rec (Reported p) h = go (doesBy v) refl
+tidy-by : (line : Line) (e : Entry) (rec : Record) (says : Says) → Tidy e → Tidy (effect_by (does_by (verdict_by (With line) e rec.publisher rec.day says)) line e rec says)
+tidy-by line e rec (Reported p) h = go (does_by v) refl
   where
     r : Report
-    r = meantBy line.owner p
+    r = meant_by line.owner p
 
     v : Verdict
-    v = reportVerdict (With line) e rec.publisher rec.day r
+    v = report_verdict (With line) e rec.publisher rec.day r
 
-    go : (d : Doing) → doesBy v ≡ d → Tidy (reportEffect d e (placedAs rec r))
-    go Doing.Keeps q = kept-tidy e (placedAs rec r) refl (not-open (With line) e rec.publisher rec.day r (kept_by v q)) h
+    go : (d : Doing) → does_by v ≡ d → Tidy (report_effect d e (placed_as rec r))
+    go Doing.Keeps q = kept-tidy e (placed_as rec r) refl (not-open (With line) e rec.publisher rec.day r (kept_by v q)) h
     go Doing.Confirms q = confirmed-tidy e r h
     go Doing.Lapses q = h
     go Doing.Nothing q = h
-tidy-by line e rec (Objected o) h = go (doesBy (objectionVerdict (With line) e rec.publisher o))
+tidy-by line e rec (Objected o) h = go (does_by (objection_verdict (With line) e rec.publisher o))
   where
-    go : (d : Doing) → Tidy (objectionEffect d e line.owner o.named)
+    go : (d : Doing) → Tidy (objection_effect d e line.owner o.named)
     go Doing.Keeps = h
     go Doing.Confirms = h
     go Doing.Lapses = without-tidy e line.owner o.named h
     go Doing.Nothing = h
 tidy-by line e rec Other h = h
 
-pub tidy-stays : (line : Line) (e : Entry) (rec : Record) → Tidy e → Tidy (entryAfter line e rec)
-unfolding entryAfter
+pub tidy-stays : (line : Line) (e : Entry) (rec : Record) → Tidy e → Tidy (entry_after line e rec)
+unfolding entry_after
 tidy-stays line e rec h = tidy-by line e rec rec.says h
 
 -- ---- the pair
 explained-by : (line : Line) (s : Standing) (rec : Record) (says : Says) → Explained line s
-    → Explained line (record { entry = effectBy (doesBy (verdictBy (With line) s.entry rec.publisher rec.day says)) line s.entry rec says; why = whyBy (doesBy (verdictBy (With line) s.entry rec.publisher rec.day says)) line.owner s.entry.places s.why rec says })
-explained-by line s rec (Reported p) h = go (doesBy v) refl
+    → Explained line (record { entry = effect_by (does_by (verdict_by (With line) s.entry rec.publisher rec.day says)) line s.entry rec says; why = why_by (does_by (verdict_by (With line) s.entry rec.publisher rec.day says)) line.owner s.entry.places s.why rec says })
+explained-by line s rec (Reported p) h = go (does_by v) refl
   where
     r : Report
-    r = meantBy line.owner p
+    r = meant_by line.owner p
 
     e : Entry
     e = s.entry
 
     v : Verdict
-    v = reportVerdict (With line) e rec.publisher rec.day r
+    v = report_verdict (With line) e rec.publisher rec.day r
 
-    go : (d : Doing) → doesBy v ≡ d → Explained line (record { entry = reportEffect d e (placedAs rec r); why = pairAfter d e.places (placedAs rec r) s.why })
+    go : (d : Doing) → does_by v ≡ d → Explained line (record { entry = report_effect d e (placed_as rec r); why = pair_after d e.places (placed_as rec r) s.why })
     go Doing.Keeps q = record { holder = h.holder; last = h.last; pair = h.pair }
     go Doing.Confirms q =
         let m = partner-pairs r e.places (partnered (With line) e rec.publisher rec.day r (confirmed-by v q)) in
         record { holder = refl; last = refl; pair = record { kinds = m.0; matching = m.1 } }
     go Doing.Lapses q = record { holder = h.holder; last = h.last; pair = h.pair }
     go Doing.Nothing q = record { holder = h.holder; last = h.last; pair = h.pair }
-explained-by line s rec (Objected o) h = go (doesBy (objectionVerdict (With line) s.entry rec.publisher o))
+explained-by line s rec (Objected o) h = go (does_by (objection_verdict (With line) s.entry rec.publisher o))
   where
-    go : (d : Doing) → Explained line (record { entry = objectionEffect d s.entry line.owner o.named; why = s.why })
+    go : (d : Doing) → Explained line (record { entry = objection_effect d s.entry line.owner o.named; why = s.why })
     go Doing.Keeps = record { holder = h.holder; last = h.last; pair = h.pair }
     go Doing.Confirms = record { holder = h.holder; last = h.last; pair = h.pair }
     go Doing.Lapses = record { holder = h.holder; last = h.last; pair = h.pair }
     go Doing.Nothing = record { holder = h.holder; last = h.last; pair = h.pair }
 explained-by line s rec Other h = record { holder = h.holder; last = h.last; pair = h.pair }
 
-pub explained-stays : (line : Line) (s : Standing) (rec : Record) → Explained line s → Explained line (standOn line s rec)
-unfolding standOn
+pub explained-stays : (line : Line) (s : Standing) (rec : Record) → Explained line s → Explained line (stand_on line s rec)
+unfolding stand_on
 explained-stays line s rec h = explained-by line s rec rec.says h

@@ -12,14 +12,14 @@ use Rattle.verdict.specs.declared.step.Why.{Why}
 use Rattle.verdict.specs.declared.step.Why.TheVariants.{Nothing, Pair}
 use Rattle.verdict.specs.declared.step.Standing.{Standing}
 use Rattle.verdict.specs.declared.verdicts.Doing.{Doing}
-use Rattle.verdict.specs.verdicts.Does.{doesBy}
+use Rattle.verdict.specs.verdicts.Does.{does_by}
 use Rattle.entries.specs.Report.{by_kind, matches}
-use Rattle.entries.specs.Entry.{placeCount}
-use Rattle.entries.specs.places.Places.{noTwoEqual}
+use Rattle.entries.specs.Entry.{place_count}
+use Rattle.entries.specs.places.Places.{no_two_equal}
 
 -- the record is discarded: its verdict changes nothing
 abbrev pub Discarded : Verdict → Type 0
-Discarded v = doesBy v ≡ Doing.Nothing
+Discarded v = does_by v ≡ Doing.Nothing
 
 -- the first date is not after the second; no date is before all
 abbrev pub NotAfter : Last → Last → Type 0
@@ -28,9 +28,9 @@ NotAfter (On d) Never = ⊥
 NotAfter (On d) (On l) = d.0 ≤ l.0
 
 -- the holder and the last confirmed date that a pair leads to: its gaining network and its date; without one, the owner and none
-abbrev pub holderBy : Code → Why → Code
-holderBy owner Nothing = owner
-holderBy owner (Pair a b) = b.report.gaining
+abbrev pub holder_by : Code → Why → Code
+holder_by owner Nothing = owner
+holder_by owner (Pair a b) = b.report.gaining
 
 abbrev pub last_by : Why → Last
 last_by Nothing = Never
@@ -50,11 +50,11 @@ Paired (Pair a b) = Pairing a b
 
 -- an entry has its eight places, and no two open reports are equal
 pub record Tidy (e : Entry) : Type 0 where
-  pub eight : length e.places ≡ placeCount
-  pub apart : noTwoEqual e.places ≡ true
+  pub eight : length e.places ≡ place_count
+  pub apart : no_two_equal e.places ≡ true
 
 -- the pair is one, and it is why the holder is who it is and the last confirmed date what it is
 pub record Explained (line : Line) (s : Standing) : Type 0 where
-  pub holder : s.entry.holder ≡ holderBy line.owner s.why
+  pub holder : s.entry.holder ≡ holder_by line.owner s.why
   pub last : s.entry.last ≡ last_by s.why
   pub pair : Paired s.why

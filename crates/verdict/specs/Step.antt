@@ -18,74 +18,74 @@ use Rattle.verdict.specs.declared.step.Why.{Why}
 use Rattle.verdict.specs.declared.step.Why.TheVariants.{Nothing, Pair}
 use Rattle.verdict.specs.declared.step.Standing.{Standing}
 use Rattle.verdict.specs.declared.verdicts.Doing.{Doing}
-use Rattle.verdict.specs.verdicts.Does.{doesBy}
-use Rattle.entries.specs.Report.{meantBy}
-use Rattle.entries.specs.Entry.{freePlace, firstEntry, lineIn}
-use Rattle.verdict.specs.report_rules.Reports.{reportVerdict}
-use Rattle.verdict.specs.effects.Reports.{reportEffect, partnerAt}
-use Rattle.verdict.specs.correction_rules.Corrections.{objectionVerdict, otherVerdict}
-use Rattle.verdict.specs.effects.Corrections.{objectionEffect}
+use Rattle.verdict.specs.verdicts.Does.{does_by}
+use Rattle.entries.specs.Report.{meant_by}
+use Rattle.entries.specs.Entry.{free_place, first_entry, line_in}
+use Rattle.verdict.specs.report_rules.Reports.{report_verdict}
+use Rattle.verdict.specs.effects.Reports.{report_effect, partner_at}
+use Rattle.verdict.specs.correction_rules.Corrections.{objection_verdict, other_verdict}
+use Rattle.verdict.specs.effects.Corrections.{objection_effect}
 
 -- a report with the publication day and the place of its record
-abbrev pub placedAs : Record → Report → Place
-placedAs rec r = record { taken = true; report = r; day = rec.day; at = rec.at }
+abbrev pub placed_as : Record → Report → Place
+placed_as rec r = record { taken = true; report = r; day = rec.day; at = rec.at }
 
 -- the verdict on a record
-abbrev pub verdictBy : Listed → Entry → Code → CalendarDays → Says → Verdict
-verdictBy n e from day (Reported p) = reportVerdict n e from day (meantBy (lineIn n).owner p)
-verdictBy n e from day (Objected o) = objectionVerdict n e from o
-verdictBy n e from day Other = otherVerdict n
+abbrev pub verdict_by : Listed → Entry → Code → CalendarDays → Says → Verdict
+verdict_by n e from day (Reported p) = report_verdict n e from day (meant_by (line_in n).owner p)
+verdict_by n e from day (Objected o) = objection_verdict n e from o
+verdict_by n e from day Other = other_verdict n
 
-abbrev pub verdictOn : Listed → Entry → Record → Verdict
-verdictOn n e rec = verdictBy n e rec.publisher rec.day rec.says
+abbrev pub verdict_on : Listed → Entry → Record → Verdict
+verdict_on n e rec = verdict_by n e rec.publisher rec.day rec.says
 
 -- the entry after a record whose verdict does this
-abbrev pub effectBy : Doing → Line → Entry → Record → Says → Entry
-effectBy d line e rec (Reported p) = reportEffect d e (placedAs rec (meantBy line.owner p))
-effectBy d line e rec (Objected o) = objectionEffect d e line.owner o.named
-effectBy d line e rec Other = e
+abbrev pub effect_by : Doing → Line → Entry → Record → Says → Entry
+effect_by d line e rec (Reported p) = report_effect d e (placed_as rec (meant_by line.owner p))
+effect_by d line e rec (Objected o) = objection_effect d e line.owner o.named
+effect_by d line e rec Other = e
 
-abbrev pub effectOn : Doing → Line → Entry → Record → Entry
-effectOn d line e rec = effectBy d line e rec rec.says
+abbrev pub effect_on : Doing → Line → Entry → Record → Entry
+effect_on d line e rec = effect_by d line e rec rec.says
 
 -- the verdict on a record, and the next entry
-abbrev pub stepOn : Line → Entry → Record → Outcome
-stepOn line e rec = record { verdict = verdictOn (With line) e rec; entry = effectOn (doesBy (verdictOn (With line) e rec)) line e rec }
+abbrev pub step_on : Line → Entry → Record → Outcome
+step_on line e rec = record { verdict = verdict_on (With line) e rec; entry = effect_on (does_by (verdict_on (With line) e rec)) line e rec }
 
 -- a confirmed report makes a pair with the open one that it matches, which was processed before it
-abbrev pub pairedIn : List Place → Place → Why
-pairedIn ps second = Pair (get_or ps (partnerAt second.report ps) freePlace) second
+abbrev pub paired_in : List Place → Place → Why
+paired_in ps second = Pair (get_or ps (partner_at second.report ps) free_place) second
 
 -- the pair that confirmed last: a report that is confirmed makes a new one
-abbrev pub pairAfter : Doing → List Place → Place → Why → Why
-pairAfter Doing.Confirms ps second before = pairedIn ps second
-pairAfter Doing.Keeps ps second before = before
-pairAfter Doing.Lapses ps second before = before
-pairAfter Doing.Nothing ps second before = before
+abbrev pub pair_after : Doing → List Place → Place → Why → Why
+pair_after Doing.Confirms ps second before = paired_in ps second
+pair_after Doing.Keeps ps second before = before
+pair_after Doing.Lapses ps second before = before
+pair_after Doing.Nothing ps second before = before
 
-abbrev pub whyBy : Doing → Code → List Place → Why → Record → Says → Why
-whyBy d owner ps before rec (Reported p) = pairAfter d ps (placedAs rec (meantBy owner p)) before
-whyBy d owner ps before rec (Objected o) = before
-whyBy d owner ps before rec Other = before
+abbrev pub why_by : Doing → Code → List Place → Why → Record → Says → Why
+why_by d owner ps before rec (Reported p) = pair_after d ps (placed_as rec (meant_by owner p)) before
+why_by d owner ps before rec (Objected o) = before
+why_by d owner ps before rec Other = before
 
 -- where a number stands at first, and after a record
-abbrev pub firstStanding : Line → Standing
-firstStanding line = record { entry = firstEntry line; why = Nothing }
+abbrev pub first_standing : Line → Standing
+first_standing line = record { entry = first_entry line; why = Nothing }
 
-unfoldable pub standOn : Line → Standing → Record → Standing
-standOn line s rec = record { entry = (stepOn line s.entry rec).entry; why = whyBy (doesBy (stepOn line s.entry rec).verdict) line.owner s.entry.places s.why rec rec.says }
+unfoldable pub stand_on : Line → Standing → Record → Standing
+stand_on line s rec = record { entry = (step_on line s.entry rec).entry; why = why_by (does_by (step_on line s.entry rec).verdict) line.owner s.entry.places s.why rec rec.says }
 
 -- the entry after a record
-unfoldable pub entryAfter : Line → Entry → Record → Entry
-entryAfter line e rec = (stepOn line e rec).entry
+unfoldable pub entry_after : Line → Entry → Record → Entry
+entry_after line e rec = (step_on line e rec).entry
 
 -- What records come to, one after the other, from any entry on: the entry, the verdict of each, and where the number stands.
 abbrev pub worked : Line → Entry → List Record → Entry
-worked line e recs = foldl (entryAfter line) e recs
+worked line e recs = foldl (entry_after line) e recs
 
 unfoldable pub verdicts : Line → Entry → List Record → List Verdict
 verdicts line e [] = []
-verdicts line e (rec ∷ recs) = verdictOn (With line) e rec ∷ verdicts line (entryAfter line e rec) recs
+verdicts line e (rec ∷ recs) = verdict_on (With line) e rec ∷ verdicts line (entry_after line e rec) recs
 
 abbrev pub standing : Line → Standing → List Record → Standing
-standing line s recs = foldl (standOn line) s recs
+standing line s recs = foldl (stand_on line) s recs

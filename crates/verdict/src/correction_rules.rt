@@ -1,6 +1,6 @@
 // The verdict on an objection, the first of the rules that applies; and on any other correction.
 ghost use Rattle.std.specs.Prelude.{◌≡◌};
-ghost use Rattle.verdict.specs.correction_rules.Corrections.{isAmong, isPermitted, namesOwn, namesOpen, objectionVerdict, otherVerdict};
+ghost use Rattle.verdict.specs.correction_rules.Corrections.{is_among, is_permitted, names_own, names_open, objection_verdict, other_verdict};
 ghost use Rattle.verdict.specs.correction_rules.Code.{first_of};
 
 use crate::verdicts::Verdict;
@@ -26,7 +26,7 @@ pub struct Objection {
 
 // The code is one of these.
 fn among(codes: &[u16], code: u16) -> bool
-    ensures { result ≡ isAmong code codes.now }
+    ensures { result ≡ is_among code codes.now }
 {
     let mut i = 0;
     while i < codes.len() {
@@ -40,7 +40,7 @@ fn among(codes: &[u16], code: u16) -> bool
 
 // The code is permitted against a report of this kind.
 pub fn permitted(k: Kind, code: u16) -> bool
-    ensures { result ≡ isPermitted k code }
+    ensures { result ≡ is_permitted k code }
 {
     match k {
         Kind::P => among(&AGAINST_P_L, code),
@@ -51,7 +51,7 @@ pub fn permitted(k: Kind, code: u16) -> bool
 
 // The network `by` published the named report.
 fn names_own(owner: Code, named: Published, by: Code) -> bool
-    ensures { result ≡ namesOwn owner named by }
+    ensures { result ≡ names_own owner named by }
 {
     let must = report::publisher(report::meant(owner, named));
     by.0 == must.0
@@ -59,7 +59,7 @@ fn names_own(owner: Code, named: Published, by: Code) -> bool
 
 // The named report is open.
 fn names_open(owner: Code, named: Published, places: [Place; PLACES]) -> bool
-    ensures { result ≡ namesOpen owner named places }
+    ensures { result ≡ names_open owner named places }
 {
     let r = report::meant(owner, named);
     let k = named.kind;
@@ -87,7 +87,7 @@ fn first_of(unknown: bool, banned: bool, own: bool, absent: bool) -> Verdict
 
 // The verdict on an objection of the network `by`.
 pub fn verdict(n: Listed, e: Entry, by: Code, o: Objection) -> Verdict
-    ensures { result ≡ objectionVerdict n e by o }
+    ensures { result ≡ objection_verdict n e by o }
 {
     let line = entry::line_in(n);
     let owner = line.owner;
@@ -104,7 +104,7 @@ pub fn verdict(n: Listed, e: Entry, by: Code, o: Objection) -> Verdict
 
 // The verdict on any other correction.
 pub fn other(n: Listed) -> Verdict
-    ensures { result ≡ otherVerdict n }
+    ensures { result ≡ other_verdict n }
 {
     if entry::is_missing(n) {
         return Verdict::UnknownNumber;

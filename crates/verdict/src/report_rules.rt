@@ -1,8 +1,8 @@
 // The verdict on a report: the first line of the table that applies.
 ghost use Rattle.std.specs.Prelude.{◌≡◌};
-ghost use Rattle.laws.specs.Lists.{firstLine};
-ghost use Rattle.verdict.specs.report_rules.Reports.{reportLines, reportVerdict};
-ghost use Rattle.verdict.specs.report_rules.Code.{firstRule};
+ghost use Rattle.laws.specs.Lists.{first_line};
+ghost use Rattle.verdict.specs.report_rules.Reports.{report_lines, report_verdict};
+ghost use Rattle.verdict.specs.report_rules.Code.{first_rule};
 
 use crate::verdicts::Verdict;
 use calendar::dates::CalendarDays;
@@ -26,7 +26,7 @@ fn first_rule(
     zed: bool,
     otherwise: Verdict,
 ) -> Verdict
-    ensures { result ≡ firstRule stranger same early unset before equal other known pair soon zed otherwise }
+    ensures { result ≡ first_rule stranger same early unset before equal other known pair soon zed otherwise }
 {
     if stranger {
         return Verdict::WrongPublisher;
@@ -73,7 +73,7 @@ pub fn ruled(
     r: Report,
     otherwise: Verdict,
 ) -> Verdict
-    ensures { result ≡ firstLine (reportLines n e from day r) otherwise }
+    ensures { result ≡ first_line (report_lines n e from day r) otherwise }
 {
     let line = entry::line_in(n);
     let places = e.places;
@@ -99,7 +99,7 @@ pub fn ruled(
 
 // The verdict on it.
 pub fn verdict(n: Listed, e: Entry, from: Code, day: CalendarDays, r: Report) -> Verdict
-    ensures { result ≡ reportVerdict n e from day r }
+    ensures { result ≡ report_verdict n e from day r }
 {
     if entry::is_missing(n) {
         return Verdict::UnknownNumber;

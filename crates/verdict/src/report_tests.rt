@@ -1,7 +1,7 @@
 // The questions that the table of rules asks about a report and the open ones.
 ghost use Rattle.std.specs.Prelude.{◌≡◌};
-ghost use Rattle.calendar.specs.WorkingDays.{workingDayAfter};
-ghost use Rattle.verdict.specs.report_tests.Tests.{returnPeriod, toOther, beforeLast, equalsLast, partnerOpen, zedOpen, zedDay, notYet, tooSoon};
+ghost use Rattle.calendar.specs.WorkingDays.{working_day_after};
+ghost use Rattle.verdict.specs.report_tests.Tests.{return_period, to_other, before_last, equals_last, partner_open, zed_open, zed_day, not_yet, too_soon};
 
 use calendar::dates::CalendarDays;
 use calendar::working_days;
@@ -16,7 +16,7 @@ pub const RETURN_PERIOD: WorkingDays = WorkingDays(5);
 
 // A Z whose gaining network is not the owner.
 pub fn to_other(owner: Code, r: Report) -> bool
-    ensures { result ≡ toOther owner r }
+    ensures { result ≡ to_other owner r }
 {
     let k = r.kind;
     match k {
@@ -27,7 +27,7 @@ pub fn to_other(owner: Code, r: Report) -> bool
 }
 
 pub fn before_last(date: CalendarDays, last: Last) -> bool
-    ensures { result ≡ beforeLast date last }
+    ensures { result ≡ before_last date last }
 {
     match last {
         Last::Never => false,
@@ -36,7 +36,7 @@ pub fn before_last(date: CalendarDays, last: Last) -> bool
 }
 
 pub fn equals_last(date: CalendarDays, last: Last) -> bool
-    ensures { result ≡ equalsLast date last }
+    ensures { result ≡ equals_last date last }
 {
     match last {
         Last::Never => false,
@@ -46,7 +46,7 @@ pub fn equals_last(date: CalendarDays, last: Last) -> bool
 
 // P with a matching open L, or L with a matching open P.
 pub fn partner_open(places: [Place; PLACES], r: Report) -> bool
-    ensures { result ≡ partnerOpen r places }
+    ensures { result ≡ partner_open r places }
 {
     let k = r.kind;
     match k {
@@ -58,7 +58,7 @@ pub fn partner_open(places: [Place; PLACES], r: Report) -> bool
 
 // P with a matching open Z.
 pub fn zed_open(places: [Place; PLACES], r: Report) -> bool
-    ensures { result ≡ zedOpen r places }
+    ensures { result ≡ zed_open r places }
 {
     let k = r.kind;
     match k {
@@ -70,7 +70,7 @@ pub fn zed_open(places: [Place; PLACES], r: Report) -> bool
 
 // The day is before this one, or the calendar ends first.
 fn not_yet(day: CalendarDays, earliest: Later) -> bool
-    ensures { result ≡ notYet day earliest }
+    ensures { result ≡ not_yet day earliest }
 {
     match earliest {
         Later::On(d) => day.0 < d.0,
@@ -80,7 +80,7 @@ fn not_yet(day: CalendarDays, earliest: Later) -> bool
 
 // The publication day of the matching open Z.
 fn zed_day(places: [Place; PLACES], r: Report) -> CalendarDays
-    ensures { result ≡ zedDay r places }
+    ensures { result ≡ zed_day r places }
 {
     let z = entries::places::place_at(places, entries::places::place_of(places, Kind::Z, r));
     z.day
@@ -88,14 +88,14 @@ fn zed_day(places: [Place; PLACES], r: Report) -> CalendarDays
 
 // The day from which on a P may answer a Z that was published on this one.
 fn earliest(published: CalendarDays) -> Later
-    ensures { result ≡ workingDayAfter published.0 returnPeriod }
+    ensures { result ≡ working_day_after published.0 return_period }
 {
     working_days::working_day_after(published, RETURN_PERIOD)
 }
 
 // The day is before the fifth working day after the publication of the matching open Z.
 pub fn too_soon(places: [Place; PLACES], day: CalendarDays, r: Report) -> bool
-    ensures { result ≡ tooSoon day r places }
+    ensures { result ≡ too_soon day r places }
 {
     not_yet(day, earliest(zed_day(places, r)))
 }

@@ -1,6 +1,6 @@
 // One record of a number's history: its verdict, the entry after it, and the pair that confirmed last.
 ghost use Rattle.std.specs.Prelude.{◌≡◌};
-ghost use Rattle.verdict.specs.Step.{placedAs, verdictOn, effectOn, stepOn, pairedIn, pairAfter, whyBy, standOn, firstStanding};
+ghost use Rattle.verdict.specs.Step.{placed_as, verdict_on, effect_on, step_on, paired_in, pair_after, why_by, stand_on, first_standing};
 
 use crate::correction_rules::Objection;
 use crate::verdicts;
@@ -51,7 +51,7 @@ pub struct Standing {
 
 // The report with the publication day and the place of its record.
 fn placed(rec: Record, r: Report) -> Place
-    ensures { result ≡ placedAs rec r }
+    ensures { result ≡ placed_as rec r }
 {
     let day = rec.day;
     Place {
@@ -64,7 +64,7 @@ fn placed(rec: Record, r: Report) -> Place
 
 // The verdict on a record.
 pub fn verdict(n: Listed, e: Entry, rec: Record) -> Verdict
-    ensures { result ≡ verdictOn n e rec }
+    ensures { result ≡ verdict_on n e rec }
 {
     let says = rec.says;
     match says {
@@ -80,7 +80,7 @@ pub fn verdict(n: Listed, e: Entry, rec: Record) -> Verdict
 
 // The entry after a record whose verdict does this.
 pub fn effect(d: Doing, line: Line, e: Entry, rec: Record) -> Entry
-    ensures { result ≡ effectOn d line e rec }
+    ensures { result ≡ effect_on d line e rec }
 {
     let says = rec.says;
     match says {
@@ -98,7 +98,7 @@ pub fn effect(d: Doing, line: Line, e: Entry, rec: Record) -> Entry
 
 // The verdict on a record, and the next entry.
 pub fn step(line: Line, e: Entry, rec: Record) -> Outcome
-    ensures { result ≡ stepOn line e rec }
+    ensures { result ≡ step_on line e rec }
 {
     let v = verdict(Listed::With(line), e, rec);
     let next = effect(verdicts::does(v), line, e, rec);
@@ -110,7 +110,7 @@ pub fn step(line: Line, e: Entry, rec: Record) -> Outcome
 
 // The pair that a confirmed report makes with the open one that it matches.
 fn paired(places: [Place; PLACES], second: Place) -> Why
-    ensures { result ≡ pairedIn places second }
+    ensures { result ≡ paired_in places second }
 {
     let first = entries::places::place_at(
         places,
@@ -121,7 +121,7 @@ fn paired(places: [Place; PLACES], second: Place) -> Why
 
 // The pair after a report whose verdict does this.
 fn pair_after(d: Doing, places: [Place; PLACES], second: Place, before: Why) -> Why
-    ensures { result ≡ pairAfter d places second before }
+    ensures { result ≡ pair_after d places second before }
 {
     match d {
         Doing::Confirms => paired(places, second),
@@ -133,7 +133,7 @@ fn pair_after(d: Doing, places: [Place; PLACES], second: Place, before: Why) -> 
 
 // Why, after a record whose verdict, on the places before it, does this.
 pub fn why_after(d: Doing, owner: Code, places: [Place; PLACES], before: Why, rec: Record) -> Why
-    ensures { result ≡ whyBy d owner places before rec rec.says }
+    ensures { result ≡ why_by d owner places before rec rec.says }
 {
     let says = rec.says;
     match says {
@@ -148,7 +148,7 @@ pub fn why_after(d: Doing, owner: Code, places: [Place; PLACES], before: Why, re
 
 // Where a number stands at first.
 pub fn first(line: Line) -> Standing
-    ensures { result ≡ firstStanding line }
+    ensures { result ≡ first_standing line }
 {
     let e = entry::first(line);
     Standing {
@@ -159,7 +159,7 @@ pub fn first(line: Line) -> Standing
 
 // Where a number stands after a record.
 pub fn stand(line: Line, s: Standing, rec: Record) -> Standing
-    ensures { result ≡ standOn line s rec }
+    ensures { result ≡ stand_on line s rec }
 {
     let e = s.entry;
     let o = step(line, e, rec);

@@ -1,7 +1,7 @@
 // The verdicts, and what each does. `number_of` in specs/verdicts gives each its number in paper 01.
 ghost use Rattle.std.specs.Prelude.{◌≡◌};
 ghost use Rattle.verdict.specs.verdicts.Numbers.{number_of};
-ghost use Rattle.verdict.specs.verdicts.Does.{doesBy};
+ghost use Rattle.verdict.specs.verdicts.Does.{does_by};
 
 // What a report or a correction gets.
 #[derive(Drop)]
@@ -63,7 +63,7 @@ pub enum Doing {
 
 // What a verdict does, by its number.
 pub fn does(v: Verdict) -> Doing
-    ensures { result ≡ doesBy v }
+    ensures { result ≡ does_by v }
 {
     let n = number(v);
     if n == 10 {

@@ -2,13 +2,13 @@
 ghost use Rattle.std.specs.Prelude.{◌≡◌, ◌≤◌, ◌<◌, length, take};
 ghost use mathlib.Core.List.{foldl};
 ghost use Rattle.laws.specs.Lists.{table};
-ghost use Rattle.verdict.specs.Step.{firstStanding};
-ghost use Rattle.store.specs.journals.Files.{fileAt, recordsOf};
-ghost use Rattle.store.specs.journals.Reads.{recordsAt, readFiles};
+ghost use Rattle.verdict.specs.Step.{first_standing};
+ghost use Rattle.store.specs.journals.Files.{file_at, records_of};
+ghost use Rattle.store.specs.journals.Reads.{records_at, read_files};
 ghost use Rattle.model.specs.Model.{worked, before, history};
 ghost use Rattle.rules.specs.Rules.{rules};
-ghost use Rattle.working.specs.Slips.{slipAt, key_of};
-ghost use Rattle.working.specs.Working.{Sound, tableLine, recordIn, standBefore};
+ghost use Rattle.working.specs.Slips.{slip_at, key_of};
+ghost use Rattle.working.specs.Working.{Sound, table_line, record_in, stand_before};
 
 use crate::{gather, work};
 use entries::entry::{Entry, Line};
@@ -27,8 +27,8 @@ fn key_in<'a>(
     place: usize,
 ) -> u64
     requires sound { Sound n files.now regular.now corrections.now }
-    requires k_lt_n { (k < n) × (place < (fileAt files.now k).count) }
-    ensures { result ≡ key_of (slipAt (recordsAt regular.now corrections.now) (fileAt files.now k) (recordsOf (fileAt files.now k).kind (table k (fileAt files.now))) place) }
+    requires k_lt_n { (k < n) × (place < (file_at files.now k).count) }
+    ensures { result ≡ key_of (slip_at (records_at regular.now corrections.now) (file_at files.now k) (records_of (file_at files.now k).kind (table k (file_at files.now))) place) }
 {
     let f = files::file_at(files, k);
     let start = sums::records_of(files, k, f.kind);
@@ -45,7 +45,7 @@ fn stand_before<'a>(
     s: Standing,
     key: u64,
 ) -> Standing
-    ensures { result ≡ standBefore line regular.now corrections.now mark s key }
+    ensures { result ≡ stand_before line regular.now corrections.now mark s key }
 {
     if key / 8192 < mark / 8192 {
         return work::stand_behind(regular, corrections, line, s, key);
@@ -63,7 +63,7 @@ fn fold_before<'a>(
     r: usize,
 ) -> Standing
     requires { r ≤ length keys.now }
-    ensures { result ≡ foldl (standBefore line regular.now corrections.now mark) (firstStanding line) (take r keys.now) }
+    ensures { result ≡ foldl (stand_before line regular.now corrections.now mark) (first_standing line) (take r keys.now) }
 {
     let mut s = step::first(line);
     let mut i = 0;
@@ -84,7 +84,7 @@ fn fold_all_before<'a>(
     r: usize,
 ) -> Standing
     requires { r ≤ 10240 }
-    ensures { result ≡ foldl (standBefore line regular.now corrections.now mark) (firstStanding line) (take r keys.now) }
+    ensures { result ≡ foldl (stand_before line regular.now corrections.now mark) (first_standing line) (take r keys.now) }
 {
     fold_before(regular, corrections, line, mark, keys, r)
 }
@@ -101,8 +101,8 @@ pub fn entry_before<'a>(
     place: usize,
 ) -> Entry
     requires sound { Sound n files.now regular.now corrections.now }
-    requires k_lt_n { (k < n) × (place < (fileAt files.now k).count) }
-    ensures { result ≡ worked rules (tableLine number line) (before rules (recordIn files.now regular.now corrections.now k place) (history rules (take n (readFiles files.now regular.now corrections.now)) number)) }
+    requires k_lt_n { (k < n) × (place < (file_at files.now k).count) }
+    ensures { result ≡ worked rules (table_line number line) (before rules (record_in files.now regular.now corrections.now k place) (history rules (take n (read_files files.now regular.now corrections.now)) number)) }
 {
     let mark = key_in(files, n, regular, corrections, k, place);
     let mut keys = [0u64; 10240];

@@ -1,10 +1,10 @@
 // The keys of the records that name a number: day, class, publisher, place in the file, place in the journal.
 ghost use Rattle.std.specs.Prelude.{◌≡◌, cond, ◌+◌, ◌*◌, ◌≤◌, ◌<◌, eqb, length, take};
-ghost use Rattle.fields.specs.Number.{sameNumber};
+ghost use Rattle.fields.specs.Number.{same_number};
 ghost use Rattle.rules.specs.Records.{number_in};
-ghost use Rattle.store.specs.journals.Files.{fileAt};
-ghost use Rattle.store.specs.journals.Reads.{recordsAt};
-ghost use Rattle.working.specs.Slips.{slipAt, keyBy, key_of, keysIn, keys_of};
+ghost use Rattle.store.specs.journals.Files.{file_at};
+ghost use Rattle.store.specs.journals.Reads.{records_at};
+ghost use Rattle.working.specs.Slips.{slip_at, key_by, key_of, keys_in, keys_of};
 ghost use Rattle.working.specs.Working.{apart, Sound, Stored, InFile, Behind, Gathered};
 
 use fields::number::Number;
@@ -16,7 +16,7 @@ use store::slots::record;
 // The bytes of the record at a place of the journal of a kind.
 pub fn record_at<'a>(regular: &'a [u8], corrections: &'a [u8], kind: u8, place: usize) -> &'a [u8]
     requires { Stored regular.now corrections.now kind place }
-    ensures { result.now ≡ recordsAt regular.now corrections.now kind place }
+    ensures { result.now ≡ records_at regular.now corrections.now kind place }
 {
     if kind == 0 {
         return record::bytes(regular, REPORT_SLOT, place);
@@ -41,7 +41,7 @@ fn names<'a>(
     number: Number,
 ) -> bool
     requires { Stored regular.now corrections.now kind place }
-    ensures { result ≡ sameNumber (number_in kind (recordsAt regular.now corrections.now kind place)) number }
+    ensures { result ≡ same_number (number_in kind (records_at regular.now corrections.now kind place)) number }
 {
     let bytes = record_at(regular, corrections, kind, place);
     if is_apart(rules::records::first_in(kind, bytes), number) {
@@ -53,7 +53,7 @@ fn names<'a>(
 // A key.
 fn key(day: u16, class: u64, publisher: u16, place: usize, index: usize) -> u64
     requires { (class < 16) × (publisher < 1024) × (place < 8192) × (index < 8192) }
-    ensures { result ≡ keyBy day class publisher place index }
+    ensures { result ≡ key_by day class publisher place index }
 {
     let front = (day as u64 * 16 + class) * 1024 + publisher as u64;
     (front * 8192 + place as u64) * 8192 + index as u64
@@ -68,7 +68,7 @@ pub(crate) fn key_at<'a>(
     place: usize,
 ) -> u64
     requires { InFile regular.now corrections.now f start (place + 1) }
-    ensures { result ≡ key_of (slipAt (recordsAt regular.now corrections.now) f start place) }
+    ensures { result ≡ key_of (slip_at (records_at regular.now corrections.now) f start place) }
 {
     let index = start + place;
     let bytes = record_at(regular, corrections, f.kind, index);
@@ -88,7 +88,7 @@ fn gather_file<'a>(
 ) -> usize
     requires in_file { InFile regular.now corrections.now f start f.count }
     requires count_in_bounds { at + f.count ≤ length keys.old }
-    ensures { Behind keys.old at (keysIn (recordsAt regular.now corrections.now) number f start f.count) keys.new result }
+    ensures { Behind keys.old at (keys_in (records_at regular.now corrections.now) number f start f.count) keys.new result }
 {
     let count = f.count as usize;
     let mut r = at;

@@ -1,12 +1,12 @@
 // Where a number stands, worked out afresh.
 ghost use Rattle.std.specs.Prelude.{◌≡◌, cond, ◌++◌, ◌≤◌, eqb, length, take, drop};
 ghost use Rattle.laws.specs.Order.{sorted};
-ghost use Rattle.store.specs.journals.Records.{shownIn};
+ghost use Rattle.store.specs.journals.Records.{shown_in};
 ghost use Rattle.store.specs.declared.journals.records.Journal.TheVariants.{Regular, Correction};
-ghost use Rattle.rules.specs.Records.{saysIn};
-ghost use Rattle.rules.specs.Rules.{recordOf};
-ghost use Rattle.working.specs.Slips.{eventBehind};
-ghost use Rattle.working.specs.Working.{Sound, standBehind, foldedBehind, WorkedAfresh};
+ghost use Rattle.rules.specs.Records.{says_in};
+ghost use Rattle.rules.specs.Rules.{record_of};
+ghost use Rattle.working.specs.Slips.{event_behind};
+ghost use Rattle.working.specs.Working.{Sound, stand_behind, folded_behind, WorkedAfresh};
 
 use crate::gather;
 use calendar::dates::CalendarDays;
@@ -27,7 +27,7 @@ pub struct Worked {
 
 // What the record at a place says, by its class: corrections are of class 2.
 fn says_behind<'a>(regular: &'a [u8], corrections: &'a [u8], class: u64, index: usize) -> Says
-    ensures { result ≡ saysIn (cond (eqb class 2) 1 0) (shownIn (cond (eqb class 2) Correction Regular) regular.now corrections.now 8192 index) }
+    ensures { result ≡ says_in (cond (eqb class 2) 1 0) (shown_in (cond (eqb class 2) Correction Regular) regular.now corrections.now 8192 index) }
 {
     if class == 2 {
         let bytes = records::record_bytes(regular, corrections, Journal::Correction, 8192, index);
@@ -39,7 +39,7 @@ fn says_behind<'a>(regular: &'a [u8], corrections: &'a [u8], class: u64, index: 
 
 // The record behind a key.
 fn record_behind<'a>(regular: &'a [u8], corrections: &'a [u8], key: u64) -> Record
-    ensures { result ≡ recordOf (eventBehind regular.now corrections.now key) }
+    ensures { result ≡ record_of (event_behind regular.now corrections.now key) }
 {
     let index = (key % 8192) as usize;
     let class = key / 8192 / 8192 / 1024 % 16;
@@ -62,7 +62,7 @@ pub fn stand_behind<'a>(
     s: Standing,
     key: u64,
 ) -> Standing
-    ensures { result ≡ standBehind line regular.now corrections.now s key }
+    ensures { result ≡ stand_behind line regular.now corrections.now s key }
 {
     let rec = record_behind(regular, corrections, key);
     step::stand(line, s, rec)
@@ -77,7 +77,7 @@ fn fold<'a>(
     r: usize,
 ) -> Worked
     requires { r ≤ length keys.now }
-    ensures { result ≡ foldedBehind line regular.now corrections.now (take r keys.now) }
+    ensures { result ≡ folded_behind line regular.now corrections.now (take r keys.now) }
 {
     let mut s = step::first(line);
     let mut count: usize = 0;
@@ -99,7 +99,7 @@ pub(crate) fn fold_all<'a>(
     r: usize,
 ) -> Worked
     requires { r ≤ 10240 }
-    ensures { result ≡ foldedBehind line regular.now corrections.now (take r keys.now) }
+    ensures { result ≡ folded_behind line regular.now corrections.now (take r keys.now) }
 {
     fold(regular, corrections, line, keys, r)
 }

@@ -16,33 +16,33 @@ use Rattle.laws.proofs.Lists.{length-keep-end}
 use Rattle.laws.proofs.Tables.{table_more, length-table, map-table}
 use Rattle.fields.specs.declared.number.Number.{Number}
 use Rattle.entries.specs.declared.entry.Entry.{Entry}
-use Rattle.entries.specs.comparing.Same.{sameEntry}
+use Rattle.entries.specs.comparing.Same.{same_entry}
 use Rattle.entries.proofs.comparing.SameLaws.{same-entry-equal, same-entry-refl}
 use Rattle.model.specs.Rules.{TableLine}
-use Rattle.model.specs.Model.{Filed, Store, Reached, entryOver}
+use Rattle.model.specs.Model.{Filed, Store, Reached, entry_over}
 use Rattle.verdict.specs.declared.step.Standing.{Standing}
 use Rattle.rules.specs.Rules.{rules, standings}
 use Rattle.rules.proofs.Promises.{entries-worked-afresh, standing-entry}
-use Rattle.store.specs.journals.Files.{fileCount}
-use Rattle.store.specs.journals.Reads.{readFiles}
-use Rattle.store.specs.numbers.Lines.{lineCount, line_at, lines_of}
-use Rattle.store.specs.entry_slots.Entries.{entryAt}
-use Rattle.store.specs.Reads.{Buffers, Held, tableLine, lent, held, isReadable, reads}
+use Rattle.store.specs.journals.Files.{file_count}
+use Rattle.store.specs.journals.Reads.{read_files}
+use Rattle.store.specs.numbers.Lines.{line_count, line_at, lines_of}
+use Rattle.store.specs.entry_slots.Entries.{entry_at}
+use Rattle.store.specs.Reads.{Buffers, Held, table_line, lent, held, is_readable, reads}
 use Rattle.store.proofs.Checks.{reads-some, reads_none}
-use Rattle.asking.specs.Standing.{linesIn}
+use Rattle.asking.specs.Standing.{lines_in}
 use Rattle.asking.proofs.Standings.{length-first}
 use Rattle.asking.specs.declared.answering.figure.FigureAnswer.{FigureAnswer}
-use Rattle.asking.specs.answering.Figure.{differs, howMany, figureOf, figureAsked, differing}
+use Rattle.asking.specs.answering.Figure.{differs, how_many, figure_of, figure_asked, differing}
 
 -- ---- one entry
-pub differs-found : (files : List Filed) (line : TableLine Number) (held : Entry) (s : Standing) (stored : Entry) (same : Bool) → s ≡ entryOver standings files line → stored ≡ held → same ≡ sameEntry stored s.entry
+pub differs-found : (files : List Filed) (line : TableLine Number) (held : Entry) (s : Standing) (stored : Entry) (same : Bool) → s ≡ entry_over standings files line → stored ≡ held → same ≡ same_entry stored s.entry
     → not same ≡ differs files line held
 unfolding differs
 differs-found files line held s stored same es eh e =
-    ap not (e ∙ (λ j. sameEntry (eh j) ((ap (λ (u : Standing). u.entry) es ∙ standing-entry files line) j)))
+    ap not (e ∙ (λ j. same_entry (eh j) ((ap (λ (u : Standing). u.entry) es ∙ standing-entry files line) j)))
 
-pub other_differs : (files : List Filed) (line : TableLine Number) (held : Entry) (s : Standing) (other : Bool) → s ≡ entryOver standings files line → other ≡ not (sameEntry held s.entry) → other ≡ differs files line held
-other_differs files line held s other es e = e ∙ differs-found files line held s held (sameEntry held s.entry) es refl refl
+pub other_differs : (files : List Filed) (line : TableLine Number) (held : Entry) (s : Standing) (other : Bool) → s ≡ entry_over standings files line → other ≡ not (same_entry held s.entry) → other ≡ differs files line held
+other_differs files line held s other es e = e ∙ differs-found files line held s held (same_entry held s.entry) es refl refl
 
 -- ---- two tables side by side
 zip_end : {A B C : Type 0} (f : A → B → C) (l : List A) (m : List B) (x : A) (y : B) → length l ≡ length m → zip_with f (l ++ (x ∷ [])) (m ++ (y ∷ [])) ≡ zip_with f l m ++ (f x y ∷ [])
@@ -60,7 +60,7 @@ zip-table f (suc n) g h = zip_end f (table n g) (table n h) (g n) (h n) (length-
 -- ---- a turn of the count
 module _ (files : List Filed) (t e : List ℕ) where
   abbrev here : ℕ → Bool
-  here i = differs files (tableLine (line_at t i)) (entryAt e i)
+  here i = differs files (table_line (line_at t i)) (entry_at e i)
 
   pub differing-none : 0 ≡ differing files t e 0
   unfolding differing table keep
@@ -70,38 +70,38 @@ module _ (files : List Filed) (t e : List ℕ) where
   unfolding differing
   differing-more i count m d ed em ec =
       (λ j. ec j + (em ∙ ap (λ (u : Bool). cond u 1 0) ed) j)
-      ∙ sym (ap howMany (table_more i here) ∙ length-keep-end (λ (u : Bool). u) (table i here) (here i))
+      ∙ sym (ap how_many (table_more i here) ∙ length-keep-end (λ (u : Bool). u) (table i here) (here i))
 
-  pub figure-counted : differing files t e (lineCount t) ≡ figureOf (linesIn t) files (table (lineCount t) (entryAt e))
-  unfolding differing figureOf lines_of
+  pub figure-counted : differing files t e (line_count t) ≡ figure_of (lines_in t) files (table (line_count t) (entry_at e))
+  unfolding differing figure_of lines_of
   figure-counted =
-      ap howMany
-      (sym (ap (λ (l : List (TableLine Number)). zip_with (differs files) l (table (lineCount t) (entryAt e))) (map-table tableLine (lineCount t) (line_at t))
-      ∙ zip-table (differs files) (lineCount t) (λ (i : ℕ). tableLine (line_at t i)) (entryAt e)))
+      ap how_many
+      (sym (ap (λ (l : List (TableLine Number)). zip_with (differs files) l (table (line_count t) (entry_at e))) (map-table table_line (line_count t) (line_at t))
+      ∙ zip-table (differs files) (line_count t) (λ (i : ℕ). table_line (line_at t i)) (entry_at e)))
 
 -- ---- the answers
 module _ (t f r c e : List ℕ) where
-  pub figure-unread : isReadable (lent t f r c e) ≡ false → FigureAnswer.Unreadable ≡ figureAsked (reads (lent t f r c e))
-  figure-unread h = ap figureAsked (sym (reads_none (lent t f r c e) h))
+  pub figure-unread : is_readable (lent t f r c e) ≡ false → FigureAnswer.Unreadable ≡ figure_asked (reads (lent t f r c e))
+  figure-unread h = ap figure_asked (sym (reads_none (lent t f r c e) h))
 
-  pub figure-answer : isReadable (lent t f r c e) ≡ true → (n m count : ℕ) → n ≡ fileCount f → m ≡ lineCount t → count ≡ differing (take n (readFiles f r c)) t e m
-      → FigureAnswer.Differ count ≡ figureAsked (reads (lent t f r c e))
+  pub figure-answer : is_readable (lent t f r c e) ≡ true → (n m count : ℕ) → n ≡ file_count f → m ≡ line_count t → count ≡ differing (take n (read_files f r c)) t e m
+      → FigureAnswer.Differ count ≡ figure_asked (reads (lent t f r c e))
   unfolding held
   figure-answer h n m count en em ec =
       ap FigureAnswer.Differ
-      (ec ∙ ap (λ (k : ℕ). differing (take n (readFiles f r c)) t e k) em
-      ∙ ap (λ (fs : List Filed). differing fs t e (lineCount t)) (take_all n (readFiles f r c) (omega (arith, length-first (fileCount f) f r c)))
-      ∙ figure-counted (readFiles f r c) t e)
-      ∙ ap figureAsked (sym (reads-some (lent t f r c e) h))
+      (ec ∙ ap (λ (k : ℕ). differing (take n (read_files f r c)) t e k) em
+      ∙ ap (λ (fs : List Filed). differing fs t e (line_count t)) (take_all n (read_files f r c) (omega (arith, length-first (file_count f) f r c)))
+      ∙ figure-counted (read_files f r c) t e)
+      ∙ ap figure_asked (sym (reads-some (lent t f r c e) h))
 
 -- ---- what the figure shows
 -- two entries are not equal
 abbrev pub unlike : Entry → Entry → Bool
-unlike x y = not (sameEntry y x)
+unlike x y = not (same_entry y x)
 
 -- at how many places two lists of entries are not equal
 abbrev pub changes : List Entry → List Entry → ℕ
-changes before after = howMany (zip_with unlike before after)
+changes before after = how_many (zip_with unlike before after)
 
 zip-worked : (g : TableLine Number → Entry) (lines : List (TableLine Number)) (es : List Entry) → zip_with (λ (line : TableLine Number) (x : Entry). unlike (g line) x) lines es ≡ zip_with unlike (map g lines) es
 unfolding zip_with
@@ -110,23 +110,23 @@ zip-worked g (l ∷ ls) [] = refl
 zip-worked g (l ∷ ls) (y ∷ es) = ap (λ k. unlike (g l) y ∷ k) (zip-worked g ls es)
 
 -- what would the figure have shown if the entries had been wrong: exactly how many were
-pub figure-of-changes : {s : Store rules} → Reached rules s → (es : List Entry) → figureOf s.lines s.files es ≡ changes s.entries es
-unfolding figureOf differs
+pub figure-of-changes : {s : Store rules} → Reached rules s → (es : List Entry) → figure_of s.lines s.files es ≡ changes s.entries es
+unfolding figure_of differs
 figure-of-changes {s} r es =
-    ap howMany (zip-worked (entryOver rules s.files) s.lines es) ∙ ap (λ (l : List Entry). changes l es) (sym (entries-worked-afresh r))
+    ap how_many (zip-worked (entry_over rules s.files) s.lines es) ∙ ap (λ (l : List Entry). changes l es) (sym (entries-worked-afresh r))
 
 no-changes : (es : List Entry) → changes es es ≡ 0
 unfolding zip_with keep
 no-changes [] = refl
 no-changes (y ∷ es) = rw (same-entry-refl y) (no-changes es)
 
-pub figure-nothing : {s : Store rules} → Reached rules s → figureOf s.lines s.files s.entries ≡ 0
+pub figure-nothing : {s : Store rules} → Reached rules s → figure_of s.lines s.files s.entries ≡ 0
 figure-nothing {s} r = figure-of-changes r s.entries ∙ no-changes s.entries
 
 -- a place counts exactly if the two entries there are not equal
 pub changed-at : (x y : Entry) → (unlike x y ≡ false → y ≡ x) × (y ≡ x → unlike x y ≡ false)
-changed-at x y = (λ e. go (sameEntry y x) refl e, λ e. rw (e, same-entry-refl x))
+changed-at x y = (λ e. go (same_entry y x) refl e, λ e. rw (e, same-entry-refl x))
   where
-    go : (b : Bool) → sameEntry y x ≡ b → not b ≡ false → y ≡ x
+    go : (b : Bool) → same_entry y x ≡ b → not b ≡ false → y ≡ x
     go true q h = same-entry-equal y x q
     go false q h = absurd (true≢false h)

@@ -13,7 +13,7 @@ use Rattle.entries.specs.declared.entry.Place.{Place}
 use Rattle.entries.specs.declared.entry.Entry.{Entry}
 use Rattle.entries.specs.declared.entry.Line.{Line}
 use Rattle.entries.specs.declared.entry.Listed.TheVariants.{With}
-use Rattle.entries.specs.Report.{meantBy}
+use Rattle.entries.specs.Report.{meant_by}
 use Rattle.verdict.specs.declared.verdicts.Verdict.{Verdict}
 use Rattle.verdict.specs.declared.verdicts.Doing.{Doing}
 use Rattle.verdict.specs.declared.correction_rules.Objection.{Objection}
@@ -21,18 +21,18 @@ use Rattle.verdict.specs.declared.step.Says.{Says}
 use Rattle.verdict.specs.declared.step.Record.{Record}
 use Rattle.verdict.specs.declared.step.Why.{Why}
 use Rattle.verdict.specs.declared.step.Standing.{Standing}
-use Rattle.verdict.specs.verdicts.Does.{isConfirmed, doesBy}
-use Rattle.verdict.specs.report_rules.Reports.{reportVerdict}
-use Rattle.verdict.specs.correction_rules.Corrections.{objectionTable, objectionVerdict}
-use Rattle.verdict.specs.Step.{placedAs, verdictBy, verdictOn, pairAfter, whyBy, standOn, entryAfter}
+use Rattle.verdict.specs.verdicts.Does.{is_confirmed, does_by}
+use Rattle.verdict.specs.report_rules.Reports.{report_verdict}
+use Rattle.verdict.specs.correction_rules.Corrections.{objection_table, objection_verdict}
+use Rattle.verdict.specs.Step.{placed_as, verdict_by, verdict_on, pair_after, why_by, stand_on, entry_after}
 use Rattle.verdict.proofs.StepLaws.{confirmed-by, confirmed-does}
 use Rattle.model.specs.Rules.{Event}
-use Rattle.rules.specs.Rules.{recordOf}
-use Rattle.asking.specs.answering.Confirmed.{confirms, noneConfirms}
+use Rattle.rules.specs.Rules.{record_of}
+use Rattle.asking.specs.answering.Confirmed.{confirms, none_confirms}
 
 -- where a number stands after records
 abbrev pub standing : Line → Standing → List Event → Standing
-standing line s es = foldl (λ (t : Standing) (e : Event). standOn line t (recordOf e)) s es
+standing line s es = foldl (λ (t : Standing) (e : Event). stand_on line t (record_of e)) s es
 
 -- the last of the records that was confirmed: those before it, those after it
 pub record Latest (line : Line) (s : Standing) (es : List Event) : Type 0 where
@@ -41,13 +41,13 @@ pub record Latest (line : Line) (s : Standing) (es : List Event) : Type 0 where
   pub later : List Event
   pub split : es ≡ earlier ++ (event ∷ later)
   pub confirmed : confirms line (standing line s earlier).entry event ≡ true
-  pub none-later : noneConfirms line (standOn line (standing line s earlier) (recordOf event)).entry later ≡ true
-  pub why : (standing line s es).why ≡ (standOn line (standing line s earlier) (recordOf event)).why
+  pub none-later : none_confirms line (stand_on line (standing line s earlier) (record_of event)).entry later ≡ true
+  pub why : (standing line s es).why ≡ (stand_on line (standing line s earlier) (record_of event)).why
 
-why-by : (v : Verdict) (owner : Code) (ps : List Place) (before : Why) (rec : Record) (says : Says) → isConfirmed v ≡ false → whyBy (doesBy v) owner ps before rec says ≡ before
-why-by v owner ps before rec (Says.Reported p) e = go (doesBy v) refl
+why-by : (v : Verdict) (owner : Code) (ps : List Place) (before : Why) (rec : Record) (says : Says) → is_confirmed v ≡ false → why_by (does_by v) owner ps before rec says ≡ before
+why-by v owner ps before rec (Says.Reported p) e = go (does_by v) refl
   where
-    go : (d : Doing) → doesBy v ≡ d → pairAfter d ps (placedAs rec (meantBy owner p)) before ≡ before
+    go : (d : Doing) → does_by v ≡ d → pair_after d ps (placed_as rec (meant_by owner p)) before ≡ before
     go Doing.Confirms q = absurd (true≢false (sym (confirmed-by v q) ∙ e))
     go Doing.Keeps q = refl
     go Doing.Lapses q = refl
@@ -55,16 +55,16 @@ why-by v owner ps before rec (Says.Reported p) e = go (doesBy v) refl
 why-by v owner ps before rec (Says.Objected o) e = refl
 why-by v owner ps before rec Says.Other e = refl
 
-why-stays : (line : Line) (s : Standing) (e : Event) → confirms line s.entry e ≡ false → (standOn line s (recordOf e)).why ≡ s.why
-unfolding standOn
-why-stays line s e h = why-by (verdictOn (With line) s.entry (recordOf e)) line.owner s.entry.places s.why (recordOf e) (recordOf e).says h
+why-stays : (line : Line) (s : Standing) (e : Event) → confirms line s.entry e ≡ false → (stand_on line s (record_of e)).why ≡ s.why
+unfolding stand_on
+why-stays line s e h = why-by (verdict_on (With line) s.entry (record_of e)) line.owner s.entry.places s.why (record_of e) (record_of e).says h
 
-none_more : (line : Line) (s : Standing) (e : Event) (es : List Event) → confirms line s.entry e ≡ false → noneConfirms line (standOn line s (recordOf e)).entry es ≡ true → noneConfirms line s.entry (e ∷ es) ≡ true
-unfolding standOn entryAfter noneConfirms
+none_more : (line : Line) (s : Standing) (e : Event) (es : List Event) → confirms line s.entry e ≡ false → none_confirms line (stand_on line s (record_of e)).entry es ≡ true → none_confirms line s.entry (e ∷ es) ≡ true
+unfolding stand_on entry_after none_confirms
 none_more line s e es h k = and-true _ _ (ap not h) k
 
-pub latest : (line : Line) (s : Standing) (es : List Event) → ((noneConfirms line s.entry es ≡ true) × ((standing line s es).why ≡ s.why)) ⊎ Latest line s es
-unfolding noneConfirms
+pub latest : (line : Line) (s : Standing) (es : List Event) → ((none_confirms line s.entry es ≡ true) × ((standing line s es).why ≡ s.why)) ⊎ Latest line s es
+unfolding none_confirms
 latest line s [] = inl (refl, refl)
 latest line s (e ∷ es) =
     ⊎_elim (here (confirms line s.entry e) refl)
@@ -77,30 +77,30 @@ latest line s (e ∷ es) =
       none-later = w.none-later;
       why = w.why;
     }))
-    (latest line (standOn line s (recordOf e)) es)
+    (latest line (stand_on line s (record_of e)) es)
   where
-    here : (b : Bool) → confirms line s.entry e ≡ b → ((noneConfirms line (standOn line s (recordOf e)).entry es ≡ true) × ((standing line (standOn line s (recordOf e)) es).why ≡ (standOn line s (recordOf e)).why))
-        → ((noneConfirms line s.entry (e ∷ es) ≡ true) × ((standing line s (e ∷ es)).why ≡ s.why)) ⊎ Latest line s (e ∷ es)
+    here : (b : Bool) → confirms line s.entry e ≡ b → ((none_confirms line (stand_on line s (record_of e)).entry es ≡ true) × ((standing line (stand_on line s (record_of e)) es).why ≡ (stand_on line s (record_of e)).why))
+        → ((none_confirms line s.entry (e ∷ es) ≡ true) × ((standing line s (e ∷ es)).why ≡ s.why)) ⊎ Latest line s (e ∷ es)
     here true c w = inr (record { earlier = []; event = e; later = es; split = refl; confirmed = c; none-later = w.0; why = w.1 })
     here false c w = inl (none_more line s e es c w.0, w.1 ∙ why-stays line s e c)
 
 -- ---- a confirmed record makes a pair
-never-11 : (line : Line) (entry : Entry) (from : Code) (o : Objection) → isConfirmed (objectionVerdict (With line) entry from o) ≡ true → ⊥
+never-11 : (line : Line) (entry : Entry) (from : Code) (o : Objection) → is_confirmed (objection_verdict (With line) entry from o) ≡ true → ⊥
 unfolding any
-never-11 line entry from o h = true≢false (sym (line-applied isConfirmed (objectionTable (With line) entry from o) Verdict.Lapses refl h))
+never-11 line entry from o h = true≢false (sym (line-applied is_confirmed (objection_table (With line) entry from o) Verdict.Lapses refl h))
 
-pair-by : (line : Line) (s : Standing) (e : Event) (says : Says) → isConfirmed (verdictBy (With line) s.entry (recordOf e).publisher (recordOf e).day says) ≡ true
-    → whyBy (doesBy (verdictBy (With line) s.entry (recordOf e).publisher (recordOf e).day says)) line.owner s.entry.places s.why (recordOf e) says ≡ Why.Nothing → ⊥
-pair-by line s e (Says.Reported p) h k = apart _ _ (sym (ap (λ (d : Doing). pairAfter d s.entry.places (placedAs (recordOf e) (meantBy line.owner p)) s.why) (confirmed-does v h)) ∙ k)
+pair-by : (line : Line) (s : Standing) (e : Event) (says : Says) → is_confirmed (verdict_by (With line) s.entry (record_of e).publisher (record_of e).day says) ≡ true
+    → why_by (does_by (verdict_by (With line) s.entry (record_of e).publisher (record_of e).day says)) line.owner s.entry.places s.why (record_of e) says ≡ Why.Nothing → ⊥
+pair-by line s e (Says.Reported p) h k = apart _ _ (sym (ap (λ (d : Doing). pair_after d s.entry.places (placed_as (record_of e) (meant_by line.owner p)) s.why) (confirmed-does v h)) ∙ k)
   where
     v : Verdict
-    v = reportVerdict (With line) s.entry (recordOf e).publisher (recordOf e).day (meantBy line.owner p)
+    v = report_verdict (With line) s.entry (record_of e).publisher (record_of e).day (meant_by line.owner p)
 
     apart : (a b : Place) → Why.Pair a b ≡ Why.Nothing → ⊥
     apart a b q = let z : ◌≡◌ {A = ℕ} 0 1 = cc in absurd (omega arith)
-pair-by line s e (Says.Objected o) h k = never-11 line s.entry (recordOf e).publisher o h
+pair-by line s e (Says.Objected o) h k = never-11 line s.entry (record_of e).publisher o h
 pair-by line s e Says.Other h k = true≢false (sym h)
 
-pub pair_made : (line : Line) (s : Standing) (e : Event) → confirms line s.entry e ≡ true → (standOn line s (recordOf e)).why ≡ Why.Nothing → ⊥
-unfolding standOn
-pair_made line s e h k = pair-by line s e (recordOf e).says h k
+pub pair_made : (line : Line) (s : Standing) (e : Event) → confirms line s.entry e ≡ true → (stand_on line s (record_of e)).why ≡ Why.Nothing → ⊥
+unfolding stand_on
+pair_made line s e h k = pair-by line s e (record_of e).says h k

@@ -9,11 +9,11 @@ use Rattle.laws.specs.Lists.{table}
 use Rattle.fields.specs.declared.number.Number.{Number}
 use Rattle.fields.specs.declared.number.NumberRead.{NumberRead}
 use Rattle.store.specs.journals.Files.{files_of}
-use Rattle.store.specs.journals.Reads.{readFiles}
+use Rattle.store.specs.journals.Reads.{read_files}
 use Rattle.store.specs.declared.journals.records.Journal.{Journal}
-use Rattle.store.specs.numbers.Lines.{lineCount}
-use Rattle.store.specs.entry_slots.Entries.{entryAt}
-use Rattle.store.specs.Reads.{Buffers, Held, lent, held, isReadable, reads}
+use Rattle.store.specs.numbers.Lines.{line_count}
+use Rattle.store.specs.entry_slots.Entries.{entry_at}
+use Rattle.store.specs.Reads.{Buffers, Held, lent, held, is_readable, reads}
 use Rattle.store.proofs.Checks.{Long, long, few-lines, few-files, few-reports, few-corrections, reads-some, reads_none}
 use Rattle.store.proofs.Whole.{whole_long, whole-table, whole-files, files-good}
 use Rattle.asking.specs.declared.answer.Answer.{Answer}
@@ -24,30 +24,30 @@ use Rattle.asking.specs.declared.looks.Look.{Look}
 use Rattle.asking.specs.declared.looks.LookedEntry.{LookedEntry}
 use Rattle.asking.specs.declared.looks.LookedWhy.{LookedWhy}
 use Rattle.asking.specs.declared.looks.LookedRecord.{LookedRecord}
-use Rattle.asking.specs.Showable.{isShowable}
-use Rattle.asking.specs.Standing.{linesIn, hasEntries, entryIn, entryBefore, notHeld}
-use Rattle.asking.specs.Why.{whyIn}
-use Rattle.asking.specs.Record.{askedIn}
-use Rattle.asking.specs.Looks.{notSeen, lookBy, answerBy, entryLook, whyLook, recordLook, entryAnswer, whyAnswer, recordAnswer, entryLooked, beforeLooked, whyLooked, recordLooked}
+use Rattle.asking.specs.Showable.{is_showable}
+use Rattle.asking.specs.Standing.{lines_in, has_entries, entry_in, entry_before, not_held}
+use Rattle.asking.specs.Why.{why_in}
+use Rattle.asking.specs.Record.{asked_in}
+use Rattle.asking.specs.Looks.{not_seen, look_by, answer_by, entry_look, why_look, record_look, entry_answer, why_answer, record_answer, entry_looked, before_looked, why_looked, record_looked}
 use Rattle.asking.proofs.Showing.{Showable, showable-true}
-use Rattle.asking.specs.answering.Whole.{entryAsked, beforeAsked, whyAsked, recordAsked}
+use Rattle.asking.specs.answering.Whole.{entry_asked, before_asked, why_asked, record_asked}
 
 -- ---- a look that shows what an answer shows is turned into that answer
-answer_back : (a : Answer) → answerBy (lookBy a) ≡ a
+answer_back : (a : Answer) → answer_by (look_by a) ≡ a
 answer_back Answer.Shown = refl
 answer_back Answer.UnknownNumber = refl
 answer_back Answer.Unreadable = refl
 
-entry-back : (a : EntryAnswer) → entryAnswer (entryLook a) ≡ a
+entry-back : (a : EntryAnswer) → entry_answer (entry_look a) ≡ a
 entry-back a = λ k. record { answer = answer_back a.answer k; entry = a.entry }
 
-why-back : (a : WhyAnswer) → whyAnswer (whyLook a) ≡ a
+why-back : (a : WhyAnswer) → why_answer (why_look a) ≡ a
 why-back (WhyAnswer.Pair a b) = refl
 why-back WhyAnswer.Nothing = refl
 why-back WhyAnswer.UnknownNumber = refl
 why-back WhyAnswer.Unreadable = refl
 
-record-back : (a : Asked) → recordAnswer (recordLook a) ≡ a
+record-back : (a : Asked) → record_answer (record_look a) ≡ a
 record-back (Asked.Record which place a) = refl
 record-back Asked.Beyond = refl
 record-back Asked.Unreadable = refl
@@ -57,11 +57,11 @@ module _ (t f r c e : List ℕ) where
   abbrev b : Buffers
   b = lent t f r c e
 
-  module _ (whole : isReadable b ≡ true) where
+  module _ (whole : is_readable b ≡ true) where
     room : Long b
     room = long b (whole_long b whole)
 
-    few : lineCount t ≤ 1024
+    few : line_count t ≤ 1024
     few = few-lines t (whole-table b whole)
 
     pub readable-showable : Showable t f r c
@@ -79,64 +79,64 @@ module _ (t f r c e : List ℕ) where
       };
     }
 
-    pub showing : isShowable t f r c ≡ true
+    pub showing : is_showable t f r c ≡ true
     showing = showable-true t f r c readable-showable
 
-    pub entries-too : hasEntries t e ≡ true
-    unfolding hasEntries
-    entries-too = rw (le-leb 14338 _ room.long-table, le-leb 102400 _ room.long-entries, le-leb (lineCount t) 1024 few)
+    pub entries-too : has_entries t e ≡ true
+    unfolding has_entries
+    entries-too = rw (le-leb 14338 _ room.long-table, le-leb 102400 _ room.long-entries, le-leb (line_count t) 1024 few)
 
     read : reads b ≡ some (held b)
     read = reads-some b whole
 
     -- ---- the answers of a store that reads
-    pub entry-asked : (x : Number) (l : LookedEntry) (a : EntryAnswer) → l ≡ entryLooked t e x → a ≡ entryAnswer l → a ≡ entryAsked (reads b) (NumberRead.Number x)
-    unfolding held entryLooked
+    pub entry-asked : (x : Number) (l : LookedEntry) (a : EntryAnswer) → l ≡ entry_looked t e x → a ≡ entry_answer l → a ≡ entry_asked (reads b) (NumberRead.Number x)
+    unfolding held entry_looked
     entry-asked x l a q p =
-        p ∙ ap entryAnswer (q ∙ ap (λ (u : Bool). cond u (entryLook (entryIn (linesIn t) (table (lineCount t) (entryAt e)) x)) (notSeen Look.Unshowable)) entries-too)
-        ∙ entry-back (entryIn (linesIn t) (table (lineCount t) (entryAt e)) x) ∙ ap (λ (h : Option Held). entryAsked h (NumberRead.Number x)) (sym read)
+        p ∙ ap entry_answer (q ∙ ap (λ (u : Bool). cond u (entry_look (entry_in (lines_in t) (table (line_count t) (entry_at e)) x)) (not_seen Look.Unshowable)) entries-too)
+        ∙ entry-back (entry_in (lines_in t) (table (line_count t) (entry_at e)) x) ∙ ap (λ (h : Option Held). entry_asked h (NumberRead.Number x)) (sym read)
 
-    pub before-asked : (n : ℕ) (x : Number) (l : LookedEntry) (a : EntryAnswer) → l ≡ beforeLooked t f r c n x → a ≡ entryAnswer l → a ≡ beforeAsked (reads b) n (NumberRead.Number x)
-    unfolding held beforeLooked
+    pub before-asked : (n : ℕ) (x : Number) (l : LookedEntry) (a : EntryAnswer) → l ≡ before_looked t f r c n x → a ≡ entry_answer l → a ≡ before_asked (reads b) n (NumberRead.Number x)
+    unfolding held before_looked
     before-asked n x l a q p =
-        p ∙ ap entryAnswer (q ∙ ap (λ (u : Bool). cond u (entryLook (entryBefore (linesIn t) (readFiles f r c) n x)) (notSeen Look.Unshowable)) showing)
-        ∙ entry-back (entryBefore (linesIn t) (readFiles f r c) n x) ∙ ap (λ (h : Option Held). beforeAsked h n (NumberRead.Number x)) (sym read)
+        p ∙ ap entry_answer (q ∙ ap (λ (u : Bool). cond u (entry_look (entry_before (lines_in t) (read_files f r c) n x)) (not_seen Look.Unshowable)) showing)
+        ∙ entry-back (entry_before (lines_in t) (read_files f r c) n x) ∙ ap (λ (h : Option Held). before_asked h n (NumberRead.Number x)) (sym read)
 
-    pub why-asked : (x : Number) (l : LookedWhy) (a : WhyAnswer) → l ≡ whyLooked t f r c x → a ≡ whyAnswer l → a ≡ whyAsked (reads b) (NumberRead.Number x)
-    unfolding held whyLooked
+    pub why-asked : (x : Number) (l : LookedWhy) (a : WhyAnswer) → l ≡ why_looked t f r c x → a ≡ why_answer l → a ≡ why_asked (reads b) (NumberRead.Number x)
+    unfolding held why_looked
     why-asked x l a q p =
-        p ∙ ap whyAnswer (q ∙ ap (λ (u : Bool). cond u (whyLook (whyIn (linesIn t) (readFiles f r c) x)) LookedWhy.Unshowable) showing)
-        ∙ why-back (whyIn (linesIn t) (readFiles f r c) x) ∙ ap (λ (h : Option Held). whyAsked h (NumberRead.Number x)) (sym read)
+        p ∙ ap why_answer (q ∙ ap (λ (u : Bool). cond u (why_look (why_in (lines_in t) (read_files f r c) x)) LookedWhy.Unshowable) showing)
+        ∙ why-back (why_in (lines_in t) (read_files f r c) x) ∙ ap (λ (h : Option Held). why_asked h (NumberRead.Number x)) (sym read)
 
-    pub record-asked : (which : Journal) (place : ℕ) (l : LookedRecord) (a : Asked) → l ≡ recordLooked t f r c which place → a ≡ recordAnswer l → a ≡ recordAsked (reads b) which place
-    unfolding held recordLooked
+    pub record-asked : (which : Journal) (place : ℕ) (l : LookedRecord) (a : Asked) → l ≡ record_looked t f r c which place → a ≡ record_answer l → a ≡ record_asked (reads b) which place
+    unfolding held record_looked
     record-asked which place l a q p =
-        p ∙ ap recordAnswer (q ∙ ap (λ (u : Bool). cond u (recordLook (askedIn (linesIn t) (readFiles f r c) which place)) LookedRecord.Unshowable) showing)
-        ∙ record-back (askedIn (linesIn t) (readFiles f r c) which place) ∙ ap (λ (h : Option Held). recordAsked h which place) (sym read)
+        p ∙ ap record_answer (q ∙ ap (λ (u : Bool). cond u (record_look (asked_in (lines_in t) (read_files f r c) which place)) LookedRecord.Unshowable) showing)
+        ∙ record-back (asked_in (lines_in t) (read_files f r c) which place) ∙ ap (λ (h : Option Held). record_asked h which place) (sym read)
 
     -- a malformed number
-    pub entry-fault : notHeld Answer.UnknownNumber ≡ entryAsked (reads b) NumberRead.Fault
-    entry-fault = ap (λ (h : Option Held). entryAsked h NumberRead.Fault) (sym read)
+    pub entry-fault : not_held Answer.UnknownNumber ≡ entry_asked (reads b) NumberRead.Fault
+    entry-fault = ap (λ (h : Option Held). entry_asked h NumberRead.Fault) (sym read)
 
-    pub before-fault : (n : ℕ) → notHeld Answer.UnknownNumber ≡ beforeAsked (reads b) n NumberRead.Fault
-    before-fault n = ap (λ (h : Option Held). beforeAsked h n NumberRead.Fault) (sym read)
+    pub before-fault : (n : ℕ) → not_held Answer.UnknownNumber ≡ before_asked (reads b) n NumberRead.Fault
+    before-fault n = ap (λ (h : Option Held). before_asked h n NumberRead.Fault) (sym read)
 
-    pub why-fault : WhyAnswer.UnknownNumber ≡ whyAsked (reads b) NumberRead.Fault
-    why-fault = ap (λ (h : Option Held). whyAsked h NumberRead.Fault) (sym read)
+    pub why-fault : WhyAnswer.UnknownNumber ≡ why_asked (reads b) NumberRead.Fault
+    why-fault = ap (λ (h : Option Held). why_asked h NumberRead.Fault) (sym read)
 
   -- ---- 44 before all else
-  module _ (not : isReadable b ≡ false) where
+  module _ (not : is_readable b ≡ false) where
     nothing : reads b ≡ none
     nothing = reads_none b not
 
-    pub entry-unread : (x : NumberRead) → notHeld Answer.Unreadable ≡ entryAsked (reads b) x
-    entry-unread x = ap (λ (h : Option Held). entryAsked h x) (sym nothing)
+    pub entry-unread : (x : NumberRead) → not_held Answer.Unreadable ≡ entry_asked (reads b) x
+    entry-unread x = ap (λ (h : Option Held). entry_asked h x) (sym nothing)
 
-    pub before-unread : (n : ℕ) (x : NumberRead) → notHeld Answer.Unreadable ≡ beforeAsked (reads b) n x
-    before-unread n x = ap (λ (h : Option Held). beforeAsked h n x) (sym nothing)
+    pub before-unread : (n : ℕ) (x : NumberRead) → not_held Answer.Unreadable ≡ before_asked (reads b) n x
+    before-unread n x = ap (λ (h : Option Held). before_asked h n x) (sym nothing)
 
-    pub why-unread : (x : NumberRead) → WhyAnswer.Unreadable ≡ whyAsked (reads b) x
-    why-unread x = ap (λ (h : Option Held). whyAsked h x) (sym nothing)
+    pub why-unread : (x : NumberRead) → WhyAnswer.Unreadable ≡ why_asked (reads b) x
+    why-unread x = ap (λ (h : Option Held). why_asked h x) (sym nothing)
 
-    pub record-unread : (which : Journal) (place : ℕ) → Asked.Unreadable ≡ recordAsked (reads b) which place
-    record-unread which place = ap (λ (h : Option Held). recordAsked h which place) (sym nothing)
+    pub record-unread : (which : Journal) (place : ℕ) → Asked.Unreadable ≡ record_asked (reads b) which place
+    record-unread which place = ap (λ (h : Option Held). record_asked h which place) (sym nothing)

@@ -6,36 +6,36 @@ use Rattle.laws.specs.Lists.{table, keep}
 use Rattle.laws.specs.Told.{Told, told}
 use Rattle.fields.specs.declared.number.Number.{Number}
 use Rattle.entries.specs.declared.entry.Entry.{Entry}
-use Rattle.entries.specs.comparing.Same.{sameEntry}
+use Rattle.entries.specs.comparing.Same.{same_entry}
 use Rattle.model.specs.Rules.{TableLine}
-use Rattle.model.specs.Model.{Filed, entryOver}
+use Rattle.model.specs.Model.{Filed, entry_over}
 use Rattle.rules.specs.Rules.{rules}
 use Rattle.store.specs.numbers.Lines.{line_at}
-use Rattle.store.specs.entry_slots.Entries.{entryAt}
-use Rattle.store.specs.Reads.{Held, tableLine}
+use Rattle.store.specs.entry_slots.Entries.{entry_at}
+use Rattle.store.specs.Reads.{Held, table_line}
 use Rattle.asking.specs.declared.answering.figure.FigureAnswer.{FigureAnswer}
 
 -- an entry differs from the one that the line's records lead to
 unfoldable pub differs : List Filed → TableLine Number → Entry → Bool
-differs files line entry = not (sameEntry entry (entryOver rules files line))
+differs files line entry = not (same_entry entry (entry_over rules files line))
 
 -- how many tests hold
-abbrev pub howMany : List Bool → ℕ
-howMany l = length (keep (λ (b : Bool). b) l)
+abbrev pub how_many : List Bool → ℕ
+how_many l = length (keep (λ (b : Bool). b) l)
 
 -- how many entries differ
-unfoldable pub figureOf : List (TableLine Number) → List Filed → List Entry → ℕ
-figureOf lines files entries = howMany (zip_with (differs files) lines entries)
+unfoldable pub figure_of : List (TableLine Number) → List Filed → List Entry → ℕ
+figure_of lines files entries = how_many (zip_with (differs files) lines entries)
 
 -- what its answer tells: 0 with the figure, or 44
-abbrev pub figureTold : FigureAnswer → Told
-figureTold (FigureAnswer.Differ n) = told 0 (n ∷ [])
-figureTold FigureAnswer.Unreadable = told 44 []
+abbrev pub figure_told : FigureAnswer → Told
+figure_told (FigureAnswer.Differ n) = told 0 (n ∷ [])
+figure_told FigureAnswer.Unreadable = told 44 []
 
-abbrev pub figureAsked : Option Held → FigureAnswer
-figureAsked none = FigureAnswer.Unreadable
-figureAsked (some h) = FigureAnswer.Differ (figureOf h.lines h.files h.entries)
+abbrev pub figure_asked : Option Held → FigureAnswer
+figure_asked none = FigureAnswer.Unreadable
+figure_asked (some h) = FigureAnswer.Differ (figure_of h.lines h.files h.entries)
 
 -- ---- as it is counted: how many of the first m entries differ
 unfoldable pub differing : List Filed → List ℕ → List ℕ → ℕ → ℕ
-differing files t e m = howMany (table m (λ (i : ℕ). differs files (tableLine (line_at t i)) (entryAt e i)))
+differing files t e m = how_many (table m (λ (i : ℕ). differs files (table_line (line_at t i)) (entry_at e i)))

@@ -1,7 +1,7 @@
 -- What a whole store answers: 44 before all else, then 12 for a number that is malformed or not in the table. Assumes nothing: these are definitions.
 use Rattle.std.specs.Prelude.{List, ℕ}
 use Rattle.std.proofs.Math.Option.{Option, none, some}
-use Rattle.fields.specs.Number.{digitsFieldOf, number_of}
+use Rattle.fields.specs.Number.{digits_field_of, number_of}
 use Rattle.fields.specs.declared.number.DigitsRead.{DigitsRead}
 use Rattle.fields.specs.declared.number.NumberRead.{NumberRead}
 use Rattle.store.specs.declared.journals.records.Journal.{Journal}
@@ -10,33 +10,33 @@ use Rattle.asking.specs.declared.answer.Answer.{Answer}
 use Rattle.asking.specs.declared.entry.EntryAnswer.{EntryAnswer}
 use Rattle.asking.specs.declared.pairs.WhyAnswer.{WhyAnswer}
 use Rattle.asking.specs.declared.record.Asked.{Asked}
-use Rattle.asking.specs.Standing.{notHeld, entryIn, entryBefore}
-use Rattle.asking.specs.Why.{whyIn}
-use Rattle.asking.specs.Record.{askedIn}
+use Rattle.asking.specs.Standing.{not_held, entry_in, entry_before}
+use Rattle.asking.specs.Why.{why_in}
+use Rattle.asking.specs.Record.{asked_in}
 
 -- the number that two fields give
-abbrev pub secondField : DigitsRead → List ℕ → NumberRead
-secondField (DigitsRead.Digits d) last = number_of d last
-secondField DigitsRead.Fault last = NumberRead.Fault
+abbrev pub second_field : DigitsRead → List ℕ → NumberRead
+second_field (DigitsRead.Digits d) last = number_of d last
+second_field DigitsRead.Fault last = NumberRead.Fault
 
-abbrev pub numberGiven : List ℕ → List ℕ → NumberRead
-numberGiven first last = secondField (digitsFieldOf first) last
+abbrev pub number_given : List ℕ → List ℕ → NumberRead
+number_given first last = second_field (digits_field_of first) last
 
-abbrev pub entryAsked : Option Held → NumberRead → EntryAnswer
-entryAsked none x = notHeld Answer.Unreadable
-entryAsked (some h) (NumberRead.Number x) = entryIn h.lines h.entries x
-entryAsked (some h) NumberRead.Fault = notHeld Answer.UnknownNumber
+abbrev pub entry_asked : Option Held → NumberRead → EntryAnswer
+entry_asked none x = not_held Answer.Unreadable
+entry_asked (some h) (NumberRead.Number x) = entry_in h.lines h.entries x
+entry_asked (some h) NumberRead.Fault = not_held Answer.UnknownNumber
 
-abbrev pub beforeAsked : Option Held → ℕ → NumberRead → EntryAnswer
-beforeAsked none n x = notHeld Answer.Unreadable
-beforeAsked (some h) n (NumberRead.Number x) = entryBefore h.lines h.files n x
-beforeAsked (some h) n NumberRead.Fault = notHeld Answer.UnknownNumber
+abbrev pub before_asked : Option Held → ℕ → NumberRead → EntryAnswer
+before_asked none n x = not_held Answer.Unreadable
+before_asked (some h) n (NumberRead.Number x) = entry_before h.lines h.files n x
+before_asked (some h) n NumberRead.Fault = not_held Answer.UnknownNumber
 
-abbrev pub whyAsked : Option Held → NumberRead → WhyAnswer
-whyAsked none x = WhyAnswer.Unreadable
-whyAsked (some h) (NumberRead.Number x) = whyIn h.lines h.files x
-whyAsked (some h) NumberRead.Fault = WhyAnswer.UnknownNumber
+abbrev pub why_asked : Option Held → NumberRead → WhyAnswer
+why_asked none x = WhyAnswer.Unreadable
+why_asked (some h) (NumberRead.Number x) = why_in h.lines h.files x
+why_asked (some h) NumberRead.Fault = WhyAnswer.UnknownNumber
 
-abbrev pub recordAsked : Option Held → Journal → ℕ → Asked
-recordAsked none which place = Asked.Unreadable
-recordAsked (some h) which place = askedIn h.lines h.files which place
+abbrev pub record_asked : Option Held → Journal → ℕ → Asked
+record_asked none which place = Asked.Unreadable
+record_asked (some h) which place = asked_in h.lines h.files which place

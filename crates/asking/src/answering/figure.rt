@@ -1,12 +1,12 @@
 // The figure: how many stored entries differ from those worked out from the journals.
 ghost use Rattle.std.specs.Prelude.{◌≡◌, ◌+◌, ◌*◌, ◌≤◌, ◌<◌, length, take, cond, not};
-ghost use Rattle.store.specs.journals.Reads.{readFiles};
-ghost use Rattle.store.specs.entry_slots.Entries.{entryAt};
+ghost use Rattle.store.specs.journals.Reads.{read_files};
+ghost use Rattle.store.specs.entry_slots.Entries.{entry_at};
 ghost use Rattle.store.specs.Reads.{lent, reads};
 ghost use Rattle.working.specs.Working.{Sound};
-ghost use Rattle.entries.specs.comparing.Same.{sameEntry};
+ghost use Rattle.entries.specs.comparing.Same.{same_entry};
 ghost use Rattle.working.specs.indexing.Index.{Wanted, Indexed};
-ghost use Rattle.asking.specs.answering.Figure.{differing, figureAsked};
+ghost use Rattle.asking.specs.answering.Figure.{differing, figure_asked};
 
 use store::journals::files;
 use store::numbers::lines;
@@ -24,7 +24,7 @@ pub enum FigureAnswer {
 // Whether the entry of the line i is another one than a standing has.
 fn is_other(entries: &[u8], i: usize, s: Standing) -> bool
     requires { i * 100 + 100 ≤ length entries.now }
-    ensures { result ≡ not (sameEntry (entryAt entries.now i) s.entry) }
+    ensures { result ≡ not (same_entry (entry_at entries.now i) s.entry) }
 {
     let worked = s.entry;
     let stored = store::entry_slots::entry::entry_at(entries, i);
@@ -57,7 +57,7 @@ fn differing_by<'a>(
     requires m_in_bounds { (2 + m * 14 ≤ length table.now) × (m * 100 ≤ length entries.now) × (m ≤ 1024) }
     requires wanted { Wanted wanted.now m }
     requires indexed { Indexed n files.now regular.now corrections.now (take m wanted.now) keys.now places.now c }
-    ensures { result ≡ differing (take n (readFiles files.now regular.now corrections.now)) table.now entries.now m }
+    ensures { result ≡ differing (take n (read_files files.now regular.now corrections.now)) table.now entries.now m }
 {
     let mut count = 0;
     let mut i = 0;
@@ -94,7 +94,7 @@ fn differing_among<'a>(
 ) -> usize
     requires sound { Sound n files.now regular.now corrections.now }
     requires m_in_bounds { (2 + m * 14 ≤ length table.now) × (m * 100 ≤ length entries.now) × (m ≤ 1024) }
-    ensures { result ≡ differing (take n (readFiles files.now regular.now corrections.now)) table.now entries.now m }
+    ensures { result ≡ differing (take n (read_files files.now regular.now corrections.now)) table.now entries.now m }
 {
     let mut wanted = [0u64; 10240];
     let mut keys = [0u64; 10240];
@@ -135,7 +135,7 @@ pub fn figure<'a>(
     corrections: &'a [u8],
     entries: &[u8],
 ) -> FigureAnswer
-    ensures { result ≡ figureAsked (reads (lent table.now files.now regular.now corrections.now entries.now)) }
+    ensures { result ≡ figure_asked (reads (lent table.now files.now regular.now corrections.now entries.now)) }
 {
     if !readable::readable(table, files, regular, corrections, entries) {
         return FigureAnswer::Unreadable;

@@ -1,8 +1,8 @@
 // The questions to a whole store: whether it reads is judged first, and 44 comes before all else. A number is given by its two fields.
 ghost use Rattle.std.specs.Prelude.{◌≡◌};
 ghost use Rattle.store.specs.Reads.{lent, reads};
-ghost use Rattle.asking.specs.answering.Whole.{numberGiven, entryAsked, beforeAsked, whyAsked, recordAsked};
-ghost use Rattle.asking.specs.Looks.{answerBy, entryAnswer, whyAnswer, recordAnswer};
+ghost use Rattle.asking.specs.answering.Whole.{number_given, entry_asked, before_asked, why_asked, record_asked};
+ghost use Rattle.asking.specs.Looks.{answer_by, entry_answer, why_answer, record_answer};
 
 use crate::answer::Answer;
 use crate::entry::EntryAnswer;
@@ -16,7 +16,7 @@ use store::readable;
 
 // The number that two fields give.
 pub fn given(first: &[u8], last: &[u8]) -> NumberRead
-    ensures { result ≡ numberGiven first.now last.now }
+    ensures { result ≡ number_given first.now last.now }
 {
     let read = Digits::read(first);
     match read {
@@ -27,7 +27,7 @@ pub fn given(first: &[u8], last: &[u8]) -> NumberRead
 
 // ---- a look at a store that reads, turned into its answer
 fn answer_by(look: Look) -> Answer
-    ensures { result ≡ answerBy look }
+    ensures { result ≡ answer_by look }
 {
     match look {
         Look::Shown => Answer::Shown,
@@ -37,7 +37,7 @@ fn answer_by(look: Look) -> Answer
 }
 
 fn entry_answer(looked: LookedEntry) -> EntryAnswer
-    ensures { result ≡ entryAnswer looked }
+    ensures { result ≡ entry_answer looked }
 {
     let look = looked.look;
     let entry = looked.entry;
@@ -49,7 +49,7 @@ fn entry_answer(looked: LookedEntry) -> EntryAnswer
 }
 
 fn why_answer(looked: LookedWhy) -> WhyAnswer
-    ensures { result ≡ whyAnswer looked }
+    ensures { result ≡ why_answer looked }
 {
     match looked {
         LookedWhy::Pair(first, second) => WhyAnswer::Pair(first, second),
@@ -60,7 +60,7 @@ fn why_answer(looked: LookedWhy) -> WhyAnswer
 }
 
 fn record_answer(looked: LookedRecord) -> Asked
-    ensures { result ≡ recordAnswer looked }
+    ensures { result ≡ record_answer looked }
 {
     match looked {
         LookedRecord::Record(which, place, shown) => Asked::Record(which, place, shown),
@@ -79,7 +79,7 @@ pub fn entry<'a>(
     entries: &[u8],
     number: NumberRead,
 ) -> EntryAnswer
-    ensures { result ≡ entryAsked (reads (lent table.now files.now regular.now corrections.now entries.now)) number }
+    ensures { result ≡ entry_asked (reads (lent table.now files.now regular.now corrections.now entries.now)) number }
 {
     if !readable::readable(table, files, regular, corrections, entries) {
         return entry::not_held(Answer::Unreadable);
@@ -100,7 +100,7 @@ pub fn before<'a>(
     n: usize,
     number: NumberRead,
 ) -> EntryAnswer
-    ensures { result ≡ beforeAsked (reads (lent table.now files.now regular.now corrections.now entries.now)) n number }
+    ensures { result ≡ before_asked (reads (lent table.now files.now regular.now corrections.now entries.now)) n number }
 {
     if !readable::readable(table, files, regular, corrections, entries) {
         return entry::not_held(Answer::Unreadable);
@@ -123,7 +123,7 @@ pub fn why<'a>(
     entries: &[u8],
     number: NumberRead,
 ) -> WhyAnswer
-    ensures { result ≡ whyAsked (reads (lent table.now files.now regular.now corrections.now entries.now)) number }
+    ensures { result ≡ why_asked (reads (lent table.now files.now regular.now corrections.now entries.now)) number }
 {
     if !readable::readable(table, files, regular, corrections, entries) {
         return WhyAnswer::Unreadable;
@@ -144,7 +144,7 @@ pub fn record<'a>(
     which: Journal,
     place: usize,
 ) -> Asked
-    ensures { result ≡ recordAsked (reads (lent table.now files.now regular.now corrections.now entries.now)) which place }
+    ensures { result ≡ record_asked (reads (lent table.now files.now regular.now corrections.now entries.now)) which place }
 {
     if !readable::readable(table, files, regular, corrections, entries) {
         return Asked::Unreadable;

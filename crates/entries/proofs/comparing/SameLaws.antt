@@ -11,54 +11,54 @@ use Rattle.entries.specs.declared.entry.Place.{Place}
 use Rattle.entries.specs.declared.entry.Entry.{Entry}
 use Rattle.entries.specs.declared.entry.Last.{Last}
 use Rattle.entries.specs.declared.entry.Last.TheVariants.{Never, On}
-use Rattle.entries.specs.Report.{kindNo, sameKind, sameCode, sameDay, matches}
-use Rattle.entries.proofs.SameLaws.{same_kind, same_code, same-day, matches-equal, matches-refl}
-use Rattle.entries.specs.comparing.Same.{sameTaken, samePlace, sameLast, sameEntry}
+use Rattle.entries.specs.Report.{kind_no, same_kind, same_code, same_day, matches}
+use Rattle.entries.proofs.SameLaws.{same_kind_lem, same_code_lem, same-day, matches-equal, matches-refl}
+use Rattle.entries.specs.comparing.Same.{same_taken, same_place, same_last, same_entry}
 
-same-place-equal : (p q : Place) → samePlace p q ≡ true → p ≡ q
-unfolding samePlace
+same-place-equal : (p q : Place) → same_place p q ≡ true → p ≡ q
+unfolding same_place
 same-place-equal p q e =
-    let t = sameTaken p q in
-    let k = sameKind p.report.kind q.report.kind in
+    let t = same_taken p q in
+    let k = same_kind p.report.kind q.report.kind in
     let m = matches p.report q.report in
-    let d = sameDay p.day q.day in
+    let d = same_day p.day q.day in
     let a = eqb p.at q.at in
     let tkmd = and_left (t && k && m && d) a e in
     let tkm = and_left (t && k && m) d tkmd in
     let tk = and_left (t && k) m tkm in
     let c = matches-equal p.report q.report (and_right (t && k) m tkm) in
-    let kinds = same_kind p.report.kind q.report.kind (and_right t k tk) in
+    let kinds = same_kind_lem p.report.kind q.report.kind (and_right t k tk) in
     let taken = both_true p.taken q.taken (and_left t k tk) in
     let days = same-day p.day q.day (and_right (t && k && m) d tkmd) in
     let ats = eqb-true p.at q.at (and_right (t && k && m && d) a e) in
     λ i. record { taken = taken i; report = record { kind = kinds i; date = c.date i; losing = c.losing i; gaining = c.gaining i }; day = days i; at = ats i }
 
-same-place-refl : (p : Place) → samePlace p p ≡ true
-unfolding samePlace
-same-place-refl p = rw (both_refl p.taken, eqb_refl (kindNo p.report.kind), matches-refl p.report, eqb_refl p.day.0, eqb_refl p.at)
+same-place-refl : (p : Place) → same_place p p ≡ true
+unfolding same_place
+same-place-refl p = rw (both_refl p.taken, eqb_refl (kind_no p.report.kind), matches-refl p.report, eqb_refl p.day.0, eqb_refl p.at)
 
-same-last-equal : (l m : Last) → sameLast l m ≡ true → l ≡ m
+same-last-equal : (l m : Last) → same_last l m ≡ true → l ≡ m
 same-last-equal Never Never e = refl
 same-last-equal Never (On t) e = cc
 same-last-equal (On d) Never e = cc
 same-last-equal (On d) (On t) e = ap On (same-day d t e)
 
-same-last-refl : (l : Last) → sameLast l l ≡ true
+same-last-refl : (l : Last) → same_last l l ≡ true
 same-last-refl Never = refl
 same-last-refl (On d) = eqb_refl d.0
 
-pub same-entry-equal : (e f : Entry) → sameEntry e f ≡ true → e ≡ f
-unfolding sameEntry
+pub same-entry-equal : (e f : Entry) → same_entry e f ≡ true → e ≡ f
+unfolding same_entry
 same-entry-equal e f h =
-    let a = sameCode e.holder f.holder in
-    let b = sameLast e.last f.last in
-    let c = same_lists samePlace e.places f.places in
+    let a = same_code e.holder f.holder in
+    let b = same_last e.last f.last in
+    let c = same_lists same_place e.places f.places in
     let ab = and_left (a && b) c h in
-    let holders = same_code e.holder f.holder (and_left a b ab) in
+    let holders = same_code_lem e.holder f.holder (and_left a b ab) in
     let lasts = same-last-equal e.last f.last (and_right a b ab) in
-    let places = same-equal samePlace same-place-equal e.places f.places (and_right (a && b) c h) in
+    let places = same-equal same_place same-place-equal e.places f.places (and_right (a && b) c h) in
     λ i. record { holder = holders i; last = lasts i; places = places i }
 
-pub same-entry-refl : (e : Entry) → sameEntry e e ≡ true
-unfolding sameEntry
-same-entry-refl e = rw (eqb_refl e.holder.0, same-last-refl e.last, same_refl samePlace same-place-refl e.places)
+pub same-entry-refl : (e : Entry) → same_entry e e ≡ true
+unfolding same_entry
+same-entry-refl e = rw (eqb_refl e.holder.0, same-last-refl e.last, same_refl same_place same-place-refl e.places)

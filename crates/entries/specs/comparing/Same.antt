@@ -5,19 +5,19 @@ use Rattle.entries.specs.declared.entry.Place.{Place}
 use Rattle.entries.specs.declared.entry.Entry.{Entry}
 use Rattle.entries.specs.declared.entry.Last.{Last}
 use Rattle.entries.specs.declared.entry.Last.TheVariants.{Never, On}
-use Rattle.entries.specs.Report.{sameKind, sameCode, sameDay, matches}
+use Rattle.entries.specs.Report.{same_kind, same_code, same_day, matches}
 
-abbrev pub sameTaken : Place → Place → Bool
-sameTaken p q = (p.taken && q.taken) || (not p.taken && not q.taken)
+abbrev pub same_taken : Place → Place → Bool
+same_taken p q = (p.taken && q.taken) || (not p.taken && not q.taken)
 
-unfoldable pub samePlace : Place → Place → Bool
-samePlace p q = sameTaken p q && sameKind p.report.kind q.report.kind && matches p.report q.report && sameDay p.day q.day && eqb p.at q.at
+unfoldable pub same_place : Place → Place → Bool
+same_place p q = same_taken p q && same_kind p.report.kind q.report.kind && matches p.report q.report && same_day p.day q.day && eqb p.at q.at
 
-abbrev pub sameLast : Last → Last → Bool
-sameLast Never Never = true
-sameLast Never (On t) = false
-sameLast (On d) Never = false
-sameLast (On d) (On t) = sameDay d t
+abbrev pub same_last : Last → Last → Bool
+same_last Never Never = true
+same_last Never (On t) = false
+same_last (On d) Never = false
+same_last (On d) (On t) = same_day d t
 
-unfoldable pub sameEntry : Entry → Entry → Bool
-sameEntry e f = sameCode e.holder f.holder && sameLast e.last f.last && same_lists samePlace e.places f.places
+unfoldable pub same_entry : Entry → Entry → Bool
+same_entry e f = same_code e.holder f.holder && same_last e.last f.last && same_lists same_place e.places f.places

@@ -12,76 +12,76 @@ use lib.Dec.{ltb, leb}
 use borrow.Author.Tests.{ltb-true, leb-true}
 use Rattle.laws.specs.Lists.{any}
 use Rattle.laws.proofs.Tests.{and_left, and_right}
-use Rattle.calendar.specs.Dates.{inCalendar}
+use Rattle.calendar.specs.Dates.{in_calendar}
 use Rattle.fields.specs.Code.{code_of}
 use Rattle.fields.specs.declared.code.Code.{Code}
 use Rattle.fields.specs.declared.code.CodeRead.{CodeRead}
 use Rattle.fields.proofs.CodeLaws.{code-back}
-use Rattle.files.specs.Judged.{judgedFile}
+use Rattle.files.specs.Judged.{judged_file}
 use Rattle.files.specs.declared.judge.Judged.{Judged}
 use Rattle.model.specs.Model.{Filed, alike}
-use Rattle.store.specs.journals.Files.{fileCount, files_of, sameFile, recordsOf}
+use Rattle.store.specs.journals.Files.{file_count, files_of, same_file, records_of}
 use Rattle.store.specs.declared.journals.files.File.{File}
-use Rattle.store.specs.Reads.{Buffers, held, isReadable}
+use Rattle.store.specs.Reads.{Buffers, held, is_readable}
 use Rattle.filing.specs.declared.entering.kind.Filable.{Filable}
-use Rattle.filing.specs.entering.Entering.{kindNumber, fileKind, most, filedAs, fileIn, Enterable}
+use Rattle.filing.specs.entering.Entering.{kind_number, file_kind, most, filed_as, file_in, Enterable}
 use Rattle.filing.specs.declared.checking.answer.Answer.{Answer}
 use Rattle.filing.specs.declared.checking.check.Checked.{Checked}
 use Rattle.filing.specs.declared.checking.check.Checked.TheVariants.{Refused, Passed}
-use Rattle.filing.specs.checking.Answers.{answerNumber}
-use Rattle.filing.specs.checking.Checks.{hasRoom, roomChecked, textChecked, sought, dayChecked, checked}
-use Rattle.filing.specs.checking.Filing.{withinLimits, Decision, judgedTo, newTo, publishedTo, decide, decisionOf}
+use Rattle.filing.specs.checking.Answers.{answer_number}
+use Rattle.filing.specs.checking.Checks.{has_room, room_checked, text_checked, sought, day_checked, checked}
+use Rattle.filing.specs.checking.Filing.{within_limits, Decision, judged_to, new_to, published_to, decide, decision_of}
 use Rattle.filing.specs.checking.Filing.Decision.{Refuse, Accept}
 use Rattle.filing.proofs.checking.Stored.{already-alike}
 use Rattle.filing.proofs.checking.Limits.{room-limits}
 
 -- the file that is looked for and the file that is filed: neither's count of records is looked at
 sought-same : (kind : Filable) (publisher day : ℕ) (text : List ℕ) (fs : List File)
-    → any (sameFile (sought kind publisher day)) fs ≡ any (sameFile (fileIn (filedAs kind publisher day text))) fs
-unfolding any sameFile fileIn filedAs
+    → any (same_file (sought kind publisher day)) fs ≡ any (same_file (file_in (filed_as kind publisher day text))) fs
+unfolding any same_file file_in filed_as
 sought-same kind publisher day text [] = refl
-sought-same kind publisher day text (f ∷ fs) = ap (λ (t : Bool). sameFile (sought kind publisher day) f || t) (sought-same kind publisher day text fs)
+sought-same kind publisher day text (f ∷ fs) = ap (λ (t : Bool). same_file (sought kind publisher day) f || t) (sought-same kind publisher day text fs)
 
-module _ (b : Buffers) (e : isReadable b ≡ true) (kind : Filable) (day : ℕ) (text : List ℕ) where
+module _ (b : Buffers) (e : is_readable b ≡ true) (kind : Filable) (day : ℕ) (text : List ℕ) where
   -- ---- what the checks come to is what is decided
   module _ (c : Code) where
     abbrev file : Filed
-    file = filedAs kind c.0 day text
+    file = filed_as kind c.0 day text
 
-    room-decided : (s t : Bool) (m : ℕ) → s ≡ t → cond s (Accept file) (Refuse Answer.Full) ≡ decisionOf kind day text (roomChecked t c m)
+    room-decided : (s t : Bool) (m : ℕ) → s ≡ t → cond s (Accept file) (Refuse Answer.Full) ≡ decision_of kind day text (room_checked t c m)
     room-decided true t m q = rw (← q)
     room-decided false t m q = rw (← q)
 
-    text-decided : (j : Judged) → judgedFile (fileKind kind) text ≡ j → judgedTo (held b).files file j ≡ decisionOf kind day text (textChecked (hasRoom b.files kind) c j)
+    text-decided : (j : Judged) → judged_file (file_kind kind) text ≡ j → judged_to (held b).files file j ≡ decision_of kind day text (text_checked (has_room b.files kind) c j)
     text-decided (Judged.Fault place cause) q = refl
-    text-decided (Judged.Records m) q = room-decided (withinLimits ((held b).files ++ (file ∷ []))) (hasRoom b.files kind m) m (room-limits b e c.0 day text m kind q)
+    text-decided (Judged.Records m) q = room-decided (within_limits ((held b).files ++ (file ∷ []))) (has_room b.files kind m) m (room-limits b e c.0 day text m kind q)
 
-    alike-decided : any (alike file) (held b).files ≡ any (sameFile (sought kind c.0 day)) (files_of b.files)
+    alike-decided : any (alike file) (held b).files ≡ any (same_file (sought kind c.0 day)) (files_of b.files)
     unfolding held
     alike-decided = already-alike file b.files b.regular b.corrections ∙ sym (sought-same kind c.0 day text (files_of b.files))
 
-    new-decided : (s t : Bool) → s ≡ t → (u : Checked) (d : Decision) → d ≡ decisionOf kind day text u
-        → cond s (Refuse Answer.FiledAlready) d ≡ decisionOf kind day text (cond t (Refused Answer.FiledAlready) u)
+    new-decided : (s t : Bool) → s ≡ t → (u : Checked) (d : Decision) → d ≡ decision_of kind day text u
+        → cond s (Refuse Answer.FiledAlready) d ≡ decision_of kind day text (cond t (Refused Answer.FiledAlready) u)
     new-decided true t q u d p = rw (← q)
     new-decided false t q u d p = rw (← q) p
 
-    day-decided : (t : Bool) (u : Checked) (d : Decision) → d ≡ decisionOf kind day text u
-        → cond t d (Refuse Answer.NoDay) ≡ decisionOf kind day text (cond t u (Refused Answer.NoDay))
+    day-decided : (t : Bool) (u : Checked) (d : Decision) → d ≡ decision_of kind day text u
+        → cond t d (Refuse Answer.NoDay) ≡ decision_of kind day text (cond t u (Refused Answer.NoDay))
     day-decided true u d p = p
     day-decided false u d p = refl
 
-  published-decided : (r : CodeRead) → publishedTo (held b).files kind r day text ≡ decisionOf kind day text (checked b.files kind r day (judgedFile (fileKind kind) text))
-  unfolding dayChecked newTo
+  published-decided : (r : CodeRead) → published_to (held b).files kind r day text ≡ decision_of kind day text (checked b.files kind r day (judged_file (file_kind kind) text))
+  unfolding day_checked new_to
   published-decided CodeRead.Fault = refl
   published-decided (CodeRead.Code c) =
-      let j : Judged = judgedFile (fileKind kind) text in
-      let rest : Checked = textChecked (hasRoom b.files kind) c j in
-      let there : Bool = any (sameFile (sought kind c.0 day)) (files_of b.files) in
-      day-decided c (inCalendar day) (cond there (Refused Answer.FiledAlready) rest) (newTo (held b).files (file c) j)
-      (new-decided c (any (alike (file c)) (held b).files) there (alike-decided c) rest (judgedTo (held b).files (file c) j) (text-decided c j refl))
+      let j : Judged = judged_file (file_kind kind) text in
+      let rest : Checked = text_checked (has_room b.files kind) c j in
+      let there : Bool = any (same_file (sought kind c.0 day)) (files_of b.files) in
+      day-decided c (in_calendar day) (cond there (Refused Answer.FiledAlready) rest) (new_to (held b).files (file c) j)
+      (new-decided c (any (alike (file c)) (held b).files) there (alike-decided c) rest (judged_to (held b).files (file c) j) (text-decided c j refl))
 
   -- this is what the checks come to where the buffers read as a store; else the answer is 44 (`decided-unreadable`)
-  pub decided : (publisher : List ℕ) → decide b kind publisher day text ≡ decisionOf kind day text (checked b.files kind (code_of publisher) day (judgedFile (fileKind kind) text))
+  pub decided : (publisher : List ℕ) → decide b kind publisher day text ≡ decision_of kind day text (checked b.files kind (code_of publisher) day (judged_file (file_kind kind) text))
   unfolding decide
   decided publisher = rw e (published-decided (code_of publisher))
 
@@ -94,18 +94,18 @@ module _ (b : Buffers) (e : isReadable b ≡ true) (kind : Filable) (day : ℕ) 
     -- what the checks have found out on the way
     record Found (r : CodeRead) (j : Judged) : Type 0 where
       pub code : r ≡ CodeRead.Code c
-      pub date : inCalendar day ≡ true
-      pub new : any (sameFile (sought kind c.0 day)) (files_of b.files) ≡ false
+      pub date : in_calendar day ≡ true
+      pub new : any (same_file (sought kind c.0 day)) (files_of b.files) ≡ false
       pub records : j ≡ Judged.Records m
-      pub room : hasRoom b.files kind m ≡ true
+      pub room : has_room b.files kind m ≡ true
 
-    room-found : (d : Code) (n : ℕ) (t : Bool) → roomChecked t d n ≡ Passed c m → (t ≡ true) × (d ≡ c) × (n ≡ m)
+    room-found : (d : Code) (n : ℕ) (t : Bool) → room_checked t d n ≡ Passed c m → (t ≡ true) × (d ≡ c) × (n ≡ m)
     room-found d n true q = (refl, cc, cc)
     room-found d n false q = never Answer.Full q
 
-    text-found : (d : Code) (j : Judged) → textChecked (hasRoom b.files kind) d j ≡ Passed c m → (d ≡ c) × (j ≡ Judged.Records m) × (hasRoom b.files kind m ≡ true)
+    text-found : (d : Code) (j : Judged) → text_checked (has_room b.files kind) d j ≡ Passed c m → (d ≡ c) × (j ≡ Judged.Records m) × (has_room b.files kind m ≡ true)
     text-found d (Judged.Fault place cause) q = never (Answer.Fault place cause) q
-    text-found d (Judged.Records n) q = let w = room-found d n (hasRoom b.files kind n) q in (w.1, ap Judged.Records w.2, rw w.2 at w.0)
+    text-found d (Judged.Records n) q = let w = room-found d n (has_room b.files kind n) q in (w.1, ap Judged.Records w.2, rw w.2 at w.0)
 
     new-found : (t : Bool) (u : Checked) → cond t (Refused Answer.FiledAlready) u ≡ Passed c m → (t ≡ false) × (u ≡ Passed c m)
     new-found true u q = never Answer.FiledAlready q
@@ -116,46 +116,46 @@ module _ (b : Buffers) (e : isReadable b ≡ true) (kind : Filable) (day : ℕ) 
     day-found false u q = never Answer.NoDay q
 
     found : (r : CodeRead) (j : Judged) → checked b.files kind r day j ≡ Passed c m → Found r j
-    unfolding dayChecked
+    unfolding day_checked
     found CodeRead.Fault j q = never Answer.NoCode q
     found (CodeRead.Code d) j q =
-        let rest : Checked = textChecked (hasRoom b.files kind) d j in
-        let there : Bool = any (sameFile (sought kind d.0 day)) (files_of b.files) in
-        let w = day-found (inCalendar day) (cond there (Refused Answer.FiledAlready) rest) q in
+        let rest : Checked = text_checked (has_room b.files kind) d j in
+        let there : Bool = any (same_file (sought kind d.0 day)) (files_of b.files) in
+        let w = day-found (in_calendar day) (cond there (Refused Answer.FiledAlready) rest) q in
         let n = new-found there rest w.1 in
         let t = text-found d j n.1 in
         record {
           code = ap CodeRead.Code t.0;
           date = w.0;
-          new = ap (λ (x : Code). any (sameFile (sought kind x.0 day)) (files_of b.files)) (sym t.0) ∙ n.0;
+          new = ap (λ (x : Code). any (same_file (sought kind x.0 day)) (files_of b.files)) (sym t.0) ∙ n.0;
           records = t.1;
           room = t.2;
         }
 
-    pub passed-enterable : (publisher : List ℕ) → checked b.files kind (code_of publisher) day (judgedFile (fileKind kind) text) ≡ Passed c m → Enterable b kind c.0 day text m
-    unfolding hasRoom
+    pub passed-enterable : (publisher : List ℕ) → checked b.files kind (code_of publisher) day (judged_file (file_kind kind) text) ≡ Passed c m → Enterable b kind c.0 day text m
+    unfolding has_room
     passed-enterable publisher q =
-        let w = found (code_of publisher) (judgedFile (fileKind kind) text) q in
-        let slot? : Bool = ltb (fileCount b.files) 1024 in
-        let room? : Bool = leb (recordsOf (kindNumber kind) (files_of b.files) + m) (most kind) in
+        let w = found (code_of publisher) (judged_file (file_kind kind) text) q in
+        let slot? : Bool = ltb (file_count b.files) 1024 in
+        let room? : Bool = leb (records_of (kind_number kind) (files_of b.files) + m) (most kind) in
         record {
           readable = e;
           judged = w.records;
           code = leb-true c.0 999 (code-back publisher c w.code).1;
           date = w.date;
           new = sym (sought-same kind c.0 day text (files_of b.files)) ∙ w.new;
-          slot = ltb-true (fileCount b.files) 1024 (and_left slot? room? w.room);
-          room = leb-true (recordsOf (kindNumber kind) (files_of b.files) + m) (most kind) (and_right slot? room? w.room);
+          slot = ltb-true (file_count b.files) 1024 (and_left slot? room? w.room);
+          room = leb-true (records_of (kind_number kind) (files_of b.files) + m) (most kind) (and_right slot? room? w.room);
         }
 
-pub decided-unreadable : (b : Buffers) (kind : Filable) (publisher : List ℕ) (day : ℕ) (text : List ℕ) → isReadable b ≡ false → decide b kind publisher day text ≡ Refuse Answer.Unreadable
+pub decided-unreadable : (b : Buffers) (kind : Filable) (publisher : List ℕ) (day : ℕ) (text : List ℕ) → is_readable b ≡ false → decide b kind publisher day text ≡ Refuse Answer.Unreadable
 unfolding decide
 decided-unreadable b kind publisher day text e = rw e
 
 -- ---- a refusal is a refusal
 -- one of the paper's numbers 1 to 5
 abbrev refuses : Checked → Bool
-refuses (Refused a) = ltb 0 (answerNumber a) && leb (answerNumber a) 5
+refuses (Refused a) = ltb 0 (answer_number a) && leb (answer_number a) 5
 refuses (Passed c m) = true
 
 module _ (files : List ℕ) (kind : Filable) (day : ℕ) where
@@ -163,23 +163,23 @@ module _ (files : List ℕ) (kind : Filable) (day : ℕ) where
   refuses-cond true u v p q = p
   refuses-cond false u v p q = q
 
-  refuses-text : (c : Code) (j : Judged) → refuses (textChecked (hasRoom files kind) c j) ≡ true
+  refuses-text : (c : Code) (j : Judged) → refuses (text_checked (has_room files kind) c j) ≡ true
   refuses-text c (Judged.Fault place cause) = refl
-  refuses-text c (Judged.Records m) = refuses-cond (hasRoom files kind m) (Passed c m) (Refused Answer.Full) refl refl
+  refuses-text c (Judged.Records m) = refuses-cond (has_room files kind m) (Passed c m) (Refused Answer.Full) refl refl
 
   refuses-all : (r : CodeRead) (j : Judged) → refuses (checked files kind r day j) ≡ true
-  unfolding dayChecked
+  unfolding day_checked
   refuses-all CodeRead.Fault j = refl
   refuses-all (CodeRead.Code c) j =
-      let rest : Checked = textChecked (hasRoom files kind) c j in
-      let there : Bool = any (sameFile (sought kind c.0 day)) (files_of files) in
-      refuses-cond (inCalendar day) (cond there (Refused Answer.FiledAlready) rest) (Refused Answer.NoDay)
+      let rest : Checked = text_checked (has_room files kind) c j in
+      let there : Bool = any (same_file (sought kind c.0 day)) (files_of files) in
+      refuses-cond (in_calendar day) (cond there (Refused Answer.FiledAlready) rest) (Refused Answer.NoDay)
       (refuses-cond there (Refused Answer.FiledAlready) rest refl (refuses-text c j)) refl
 
-  pub refused-number : (r : CodeRead) (j : Judged) (a : Answer) → checked files kind r day j ≡ Refused a → (0 < answerNumber a) × (answerNumber a ≤ 5)
+  pub refused-number : (r : CodeRead) (j : Judged) (a : Answer) → checked files kind r day j ≡ Refused a → (0 < answer_number a) × (answer_number a ≤ 5)
   refused-number r j a q =
-      let w : (ltb 0 (answerNumber a) && leb (answerNumber a) 5) ≡ true = ap refuses (sym q) ∙ refuses-all r j in
-      (ltb-true 0 (answerNumber a) (and_left (ltb 0 (answerNumber a)) (leb (answerNumber a) 5) w), leb-true (answerNumber a) 5 (and_right (ltb 0 (answerNumber a)) (leb (answerNumber a) 5) w))
+      let w : (ltb 0 (answer_number a) && leb (answer_number a) 5) ≡ true = ap refuses (sym q) ∙ refuses-all r j in
+      (ltb-true 0 (answer_number a) (and_left (ltb 0 (answer_number a)) (leb (answer_number a) 5) w), leb-true (answer_number a) 5 (and_right (ltb 0 (answer_number a)) (leb (answer_number a) 5) w))
 
   pub refused-not-filed : (r : CodeRead) (j : Judged) (a : Answer) → checked files kind r day j ≡ Refused a → (count : ℕ) → a ≡ Answer.Filed count → ⊥
-  refused-not-filed r j a q count p = let z : answerNumber a ≡ 0 = ap answerNumber p in omega (arith, (refused-number r j a q).0)
+  refused-not-filed r j a q count p = let z : answer_number a ≡ 0 = ap answer_number p in omega (arith, (refused-number r j a q).0)

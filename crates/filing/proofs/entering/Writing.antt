@@ -15,21 +15,21 @@ use Rattle.laws.specs.Slots.{slot_of}
 use Rattle.laws.specs.Split.{split, between, end_of, EndsAt}
 use Rattle.laws.proofs.Split.{ends_at}
 use Rattle.laws.proofs.Tables.{all-at, all_weaker}
-use Rattle.files.specs.Cursor.{lineStart}
+use Rattle.files.specs.Cursor.{line_start}
 use Rattle.files.proofs.Cursor.{line-at, line-is, lines-enough}
 use Rattle.files.proofs.FileTrip.{file-written}
-use Rattle.files.specs.Judged.{judgedFile, recordsOf}
+use Rattle.files.specs.Judged.{judged_file, records_of}
 use Rattle.files.specs.declared.judge.Judged.TheVariants.{Records}
-use Rattle.layout.specs.Report.{reportOf}
-use Rattle.layout.specs.Correction.{correctionOf, isReport}
+use Rattle.layout.specs.Report.{report_of}
+use Rattle.layout.specs.Correction.{correction_of, is_report}
 use Rattle.layout.specs.declared.report.ReportRead.{ReportRead}
 use Rattle.layout.specs.declared.correction.CorrectionRead.{CorrectionRead}
 use Rattle.layout.proofs.ReportLaws.{report-record}
 use Rattle.layout.proofs.CorrectionTrip.{correction-record}
-use Rattle.records.specs.Record.{isCorrection, isRecord}
+use Rattle.records.specs.Record.{is_correction, is_record}
 use Rattle.filing.specs.declared.entering.kind.Filable.{Filable}
 use Rattle.filing.specs.declared.entering.kind.Filable.TheVariants.{Default, Correction}
-use Rattle.filing.specs.entering.Entering.{fileKind, journalWith, shorter, first_lines, Lines}
+use Rattle.filing.specs.entering.Entering.{file_kind, journal_with, shorter, first_lines, Lines}
 use Rattle.filing.proofs.entering.Journals.{is-shorter, journal-none, journal-more}
 
 -- what is known in a turn, at the line i
@@ -37,12 +37,12 @@ pub record Line (width : ℕ) (text : List ℕ) (m i at e : ℕ) : Type 0 where
   pub from : at ≤ e
   pub to : e ≤ length text
   pub narrow : length (between text at e) < width
-  pub next : e + 1 ≡ lineStart text (i + 1)
+  pub next : e + 1 ≡ line_start text (i + 1)
   pub first : drop i (first_lines m text) ≡ between text at e ∷ drop (i + 1) (first_lines m text)
 
-module _ (width : ℕ) (text : List ℕ) (m : ℕ) (w : Lines width text m) (i at e : ℕ) (h : i < m) (p : at ≡ lineStart text i) (q : e ≡ end_of 13 text at) where
+module _ (width : ℕ) (text : List ℕ) (m : ℕ) (w : Lines width text m) (i at e : ℕ) (h : i < m) (p : at ≡ line_start text i) (q : e ≡ end_of 13 text at) where
   ends : EndsAt 13 text at e
-  ends = rw (q, p) (ends_at 13 text (lineStart text i) (line-at text i (omega (arith, w.enough))).inside)
+  ends = rw (q, p) (ends_at 13 text (line_start text i) (line-at text i (omega (arith, w.enough))).inside)
 
   same : between text at e ≡ get_or (split 13 text) i []
   same = rw (q, p) (line-is text i (omega (arith, w.enough)))
@@ -54,7 +54,7 @@ module _ (width : ℕ) (text : List ℕ) (m : ℕ) (w : Lines width text m) (i a
   count = length-take-le m (split 13 text) w.enough
 
   pub line-here : Line width text m i at e
-  unfolding lineStart
+  unfolding line_start
   line-here = record {
     from = ends.from;
     to = ends.to;
@@ -63,8 +63,8 @@ module _ (width : ℕ) (text : List ℕ) (m : ℕ) (w : Lines width text m) (i a
     first = drop-cons (first_lines m text) i [] (omega (arith, count)) ∙ rw (add-one, taken, same);
   }
 
-pub start : (text : List ℕ) → ◌≡◌ {A = ℕ} 0 (lineStart text 0)
-unfolding lineStart
+pub start : (text : List ℕ) → ◌≡◌ {A = ℕ} 0 (line_start text 0)
+unfolding line_start
 start text = refl
 
 -- there is room for one more
@@ -78,59 +78,59 @@ pub places-fit : (width k n : ℕ) → 0 < width → k * width ≤ n → k ≤ n
 places-fit width k n some room = omega (arith, mul-le-mul_left k some, mul-one k)
 
 -- before the first turn, in each turn, and behind the last
-pub lines_none : (width : ℕ) (j : List ℕ) (from m : ℕ) (text : List ℕ) → journalWith width j (from + 0) (drop 0 (first_lines m text)) ≡ journalWith width j from (first_lines m text)
-lines_none width j from m text = ap (λ (k : ℕ). journalWith width j k (first_lines m text)) (add-zero from)
+pub lines_none : (width : ℕ) (j : List ℕ) (from m : ℕ) (text : List ℕ) → journal_with width j (from + 0) (drop 0 (first_lines m text)) ≡ journal_with width j from (first_lines m text)
+lines_none width j from m text = ap (λ (k : ℕ). journal_with width j k (first_lines m text)) (add-zero from)
 
 pub lines_next : (width : ℕ) (j₀ j j₁ : List ℕ) (from m i at e : ℕ) (text : List ℕ) → Line width text m i at e
     → j₁ ≡ overlay j ((from + i) * width) (slot_of width (between text at e))
-    → journalWith width j (from + i) (drop i (first_lines m text)) ≡ journalWith width j₀ from (first_lines m text)
-    → journalWith width j₁ (from + (i + 1)) (drop (i + 1) (first_lines m text)) ≡ journalWith width j₀ from (first_lines m text)
+    → journal_with width j (from + i) (drop i (first_lines m text)) ≡ journal_with width j₀ from (first_lines m text)
+    → journal_with width j₁ (from + (i + 1)) (drop (i + 1) (first_lines m text)) ≡ journal_with width j₀ from (first_lines m text)
 lines_next width j₀ j j₁ from m i at e text l written inv =
     let k : from + (i + 1) ≡ from + i + 1 = omega arith in
-    (λ x. journalWith width (written x) (k x) (drop (i + 1) (first_lines m text)))
+    (λ x. journal_with width (written x) (k x) (drop (i + 1) (first_lines m text)))
     ∙ sym (journal-more width j (from + i) (between text at e) (drop (i + 1) (first_lines m text)) l.narrow)
-    ∙ ap (journalWith width j (from + i)) (sym l.first)
+    ∙ ap (journal_with width j (from + i)) (sym l.first)
     ∙ inv
 
 pub lines-done : (width : ℕ) (j₀ j : List ℕ) (from m : ℕ) (text : List ℕ) → Lines width text m
-    → journalWith width j (from + m) (drop m (first_lines m text)) ≡ journalWith width j₀ from (first_lines m text)
-    → j ≡ journalWith width j₀ from (first_lines m text)
+    → journal_with width j (from + m) (drop m (first_lines m text)) ≡ journal_with width j₀ from (first_lines m text)
+    → j ≡ journal_with width j₀ from (first_lines m text)
 lines-done width j₀ j from m text w inv =
     let none : drop m (first_lines m text) ≡ [] = drop_of_length-le (first_lines m text) {i = m} (omega (arith, length-take-le m (split 13 text) w.enough)) in
-    sym (ap (journalWith width j (from + m)) none ∙ journal-none width j (from + m)) ∙ inv
+    sym (ap (journal_with width j (from + m)) none ∙ journal-none width j (from + m)) ∙ inv
 
 -- ---- the lines of a file that was judged
 -- how wide a record's slot is in the journal of a kind
-abbrev pub slotWidth : Filable → ℕ
-slotWidth Default = 45
-slotWidth Correction = 98
+abbrev pub slot_width : Filable → ℕ
+slot_width Default = 45
+slot_width Correction = 98
 
-report-short : (l : List ℕ) (r : ReportRead) → reportOf l ≡ r → isReport r ≡ true → length l < 45
+report-short : (l : List ℕ) (r : ReportRead) → report_of l ≡ r → is_report r ≡ true → length l < 45
 report-short l (ReportRead.Report x) q e = omega (arith, report-record l x q)
 report-short l ReportRead.Fault q e = absurd (let z : ◌≡◌ {A = ℕ} 0 1 = cc in omega arith)
 
-correction-short : (l : List ℕ) (c : CorrectionRead) → correctionOf l ≡ c → isCorrection c ≡ true → length l < 98
+correction-short : (l : List ℕ) (c : CorrectionRead) → correction_of l ≡ c → is_correction c ≡ true → length l < 98
 correction-short l (CorrectionRead.Correction x) q e = omega (arith, correction-record l x q)
 correction-short l CorrectionRead.Fault q e = absurd (let z : ◌≡◌ {A = ℕ} 0 1 = cc in omega arith)
 
-pub record-short : (kind : Filable) (l : List ℕ) → isRecord (fileKind kind) l ≡ true → shorter (slotWidth kind) l ≡ true
-unfolding isRecord shorter
-record-short Default l e = lt-ltb (length l) 45 (report-short l (reportOf l) refl e)
-record-short Correction l e = lt-ltb (length l) 98 (correction-short l (correctionOf l) refl e)
+pub record-short : (kind : Filable) (l : List ℕ) → is_record (file_kind kind) l ≡ true → shorter (slot_width kind) l ≡ true
+unfolding is_record shorter
+record-short Default l e = lt-ltb (length l) 45 (report-short l (report_of l) refl e)
+record-short Correction l e = lt-ltb (length l) 98 (correction-short l (correction_of l) refl e)
 
-module _ (kind : Filable) (text : List ℕ) (m : ℕ) (e : judgedFile (fileKind kind) text ≡ Records m) where
-  pub records-lines : recordsOf (fileKind kind) text ≡ first_lines m text
-  unfolding recordsOf
+module _ (kind : Filable) (text : List ℕ) (m : ℕ) (e : judged_file (file_kind kind) text ≡ Records m) where
+  pub records-lines : records_of (file_kind kind) text ≡ first_lines m text
+  unfolding records_of
   records-lines = rw e
 
-  pub records-count : length (recordsOf (fileKind kind) text) ≡ m
-  records-count = (file-written (fileKind kind) text m e).1
+  pub records-count : length (records_of (file_kind kind) text) ≡ m
+  records-count = (file-written (file_kind kind) text m e).1
 
-  pub records-good : all (isRecord (fileKind kind)) (recordsOf (fileKind kind) text) ≡ true
-  records-good = (file-written (fileKind kind) text m e).0.records
+  pub records-good : all (is_record (file_kind kind)) (records_of (file_kind kind) text) ≡ true
+  records-good = (file-written (file_kind kind) text m e).0.records
 
-  pub records-short : all (shorter (slotWidth kind)) (recordsOf (fileKind kind) text) ≡ true
-  records-short = all_weaker (isRecord (fileKind kind)) (shorter (slotWidth kind)) (record-short kind) (recordsOf (fileKind kind) text) records-good
+  pub records-short : all (shorter (slot_width kind)) (records_of (file_kind kind) text) ≡ true
+  records-short = all_weaker (is_record (file_kind kind)) (shorter (slot_width kind)) (record-short kind) (records_of (file_kind kind) text) records-good
 
-  pub judged-lines : Lines (slotWidth kind) text m
-  judged-lines = record { enough = lines-enough (fileKind kind) text m e; short = rw (← records-lines) records-short }
+  pub judged-lines : Lines (slot_width kind) text m
+  judged-lines = record { enough = lines-enough (file_kind kind) text m e; short = rw (← records-lines) records-short }

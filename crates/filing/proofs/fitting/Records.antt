@@ -10,53 +10,53 @@ use Rattle.fields.specs.declared.gaining.Gaining.{Gaining}
 use Rattle.fields.specs.declared.gaining.Gaining.TheVariants.{Code as To, Owner}
 use Rattle.fields.specs.declared.code.MaybeCode.{MaybeCode}
 use Rattle.fields.specs.declared.date.MaybeDate.{MaybeDate}
-use Rattle.fields.specs.Code.{maybeCodeFits}
-use Rattle.fields.specs.Date.{maybeDateFits}
-use Rattle.fields.specs.Gaining.{gainingField}
-use Rattle.fields.specs.CorrectionCode.{isObjection}
-use Rattle.fields.specs.Number.{is_empty, numberFits}
+use Rattle.fields.specs.Code.{maybe_code_fits}
+use Rattle.fields.specs.Date.{maybe_date_fits}
+use Rattle.fields.specs.Gaining.{gaining_field}
+use Rattle.fields.specs.CorrectionCode.{is_objection}
+use Rattle.fields.specs.Number.{is_empty, number_fits}
 use Rattle.layout.specs.declared.report.Report.{Report}
 use Rattle.layout.specs.declared.report.ReportRead.{ReportRead}
 use Rattle.layout.specs.declared.correction.CorrectionRead.{CorrectionRead}
-use Rattle.layout.specs.Part.{partFits}
-use Rattle.layout.specs.Report.{reportOf, whole_of, reportFits, isNamed}
-use Rattle.layout.specs.Correction.{correctionOf}
+use Rattle.layout.specs.Part.{part_fits}
+use Rattle.layout.specs.Report.{report_of, whole_of, report_fits, is_named}
+use Rattle.layout.specs.Correction.{correction_of}
 use Rattle.layout.proofs.ReportLaws.{report-back}
 use Rattle.verdict.specs.declared.step.Says.TheVariants.{Other}
-use Rattle.rules.specs.Records.{publishedBy, reported, objected, corrected, saysIn}
+use Rattle.rules.specs.Records.{published_by, reported, objected, corrected, says_in}
 use Rattle.filing.proofs.fitting.Steps.{FineGaining, FinePublished, FineSays}
 
-gaining-fine : (g : Gaining) → maybeCodeFits (gainingField g) ≡ true → FineGaining g
+gaining-fine : (g : Gaining) → maybe_code_fits (gaining_field g) ≡ true → FineGaining g
 gaining-fine (To c) e = leb-true c.0 999 e
 gaining-fine Owner e = tt
 
-module _ (r : Report) (e : reportFits r ≡ true) where
+module _ (r : Report) (e : report_fits r ≡ true) where
   abbrev codes : Bool
-  codes = maybeCodeFits (gainingField r.gaining) && maybeCodeFits (MaybeCode.Code r.losing)
+  codes = maybe_code_fits (gaining_field r.gaining) && maybe_code_fits (MaybeCode.Code r.losing)
 
   abbrev days : Bool
-  days = maybeDateFits (MaybeDate.Date r.date)
+  days = maybe_date_fits (MaybeDate.Date r.date)
 
   fields_fit : (days && codes) ≡ true
-  unfolding reportFits partFits
+  unfolding report_fits part_fits
   fields_fit =
-      and_right (numberFits r.number) (days && codes)
-      (and_left (numberFits r.number && (days && codes)) (not (is_empty r.number.first) && isNamed (gainingField r.gaining) r.kind) e)
+      and_right (number_fits r.number) (days && codes)
+      (and_left (number_fits r.number && (days && codes)) (not (is_empty r.number.first) && is_named (gaining_field r.gaining) r.kind) e)
 
   codes-fit : codes ≡ true
   codes-fit = and_right days codes fields_fit
 
-  published-fine : FinePublished (publishedBy r)
+  published-fine : FinePublished (published_by r)
   published-fine = record {
     date-in = leb-true r.date.0 18992 (and_left days codes fields_fit);
-    losing-in = leb-true r.losing.0 999 (and_right (maybeCodeFits (gainingField r.gaining)) (maybeCodeFits (MaybeCode.Code r.losing)) codes-fit);
-    gaining-in = gaining-fine r.gaining (and_left (maybeCodeFits (gainingField r.gaining)) (maybeCodeFits (MaybeCode.Code r.losing)) codes-fit);
+    losing-in = leb-true r.losing.0 999 (and_right (maybe_code_fits (gaining_field r.gaining)) (maybe_code_fits (MaybeCode.Code r.losing)) codes-fit);
+    gaining-in = gaining-fine r.gaining (and_left (maybe_code_fits (gaining_field r.gaining)) (maybe_code_fits (MaybeCode.Code r.losing)) codes-fit);
   }
 
-report-fine : (s : List ℕ) → FineSays (reported (reportOf s))
-report-fine s = go (reportOf s) refl
+report-fine : (s : List ℕ) → FineSays (reported (report_of s))
+report-fine s = go (report_of s) refl
   where
-    go : (t : ReportRead) → reportOf s ≡ t → FineSays (reported t)
+    go : (t : ReportRead) → report_of s ≡ t → FineSays (reported t)
     go (ReportRead.Report r) e = published-fine r (report-back s r e).1
     go ReportRead.Fault e = tt
 
@@ -65,7 +65,7 @@ objection-fine code (ReportRead.Report r) = tt
 objection-fine code ReportRead.Fault = tt
 
 correction-fine : (t : CorrectionRead) → FineSays (corrected t)
-correction-fine (CorrectionRead.Correction c) = go (isObjection c.code)
+correction-fine (CorrectionRead.Correction c) = go (is_objection c.code)
   where
     go : (b : Bool) → FineSays (cond b (objected c.code.0 (whole_of c.u)) Other)
     go true = objection-fine c.code.0 (whole_of c.u)
@@ -73,8 +73,8 @@ correction-fine (CorrectionRead.Correction c) = go (isObjection c.code)
 correction-fine CorrectionRead.Fault = tt
 
 -- the kinds of file: 0 default, 1 correction
-pub says-fine : (kind : ℕ) (bytes : List ℕ) → FineSays (saysIn kind bytes)
-unfolding saysIn
+pub says-fine : (kind : ℕ) (bytes : List ℕ) → FineSays (says_in kind bytes)
+unfolding says_in
 says-fine zero bytes = report-fine bytes
-says-fine (suc zero) bytes = correction-fine (correctionOf bytes)
+says-fine (suc zero) bytes = correction-fine (correction_of bytes)
 says-fine (suc (suc kind)) bytes = tt

@@ -2,15 +2,15 @@
 use Rattle.std.specs.Prelude.{Bool, cond, ◌&&◌, ℕ, eqb, leb, length}
 use mathlib.Core.List.{List, [], ◌∷◌, ◌++◌, flat_map}
 use Rattle.laws.specs.Lists.{any, keep, total}
-use Rattle.calendar.specs.Dates.{inCalendar}
+use Rattle.calendar.specs.Dates.{in_calendar}
 use Rattle.fields.specs.Code.{code_of}
 use Rattle.fields.specs.declared.code.CodeRead.{CodeRead}
-use Rattle.files.specs.Judged.{judgedFile}
+use Rattle.files.specs.Judged.{judged_file}
 use Rattle.files.specs.declared.judge.Judged.{Judged}
 use Rattle.model.specs.Model.{Filed, alike}
-use Rattle.store.specs.Reads.{Buffers, held, isReadable}
+use Rattle.store.specs.Reads.{Buffers, held, is_readable}
 use Rattle.filing.specs.declared.entering.kind.Filable.{Filable}
-use Rattle.filing.specs.entering.Entering.{fileKind, filedAs}
+use Rattle.filing.specs.entering.Entering.{file_kind, filed_as}
 use Rattle.filing.specs.declared.checking.answer.Answer.{Answer}
 use Rattle.filing.specs.declared.checking.answer.Answer.TheVariants.{Unreadable, NoCode, NoDay, FiledAlready, Full}
 use Rattle.filing.specs.declared.checking.check.Checked.{Checked}
@@ -25,8 +25,8 @@ stored kind files = flat_map (λ (f : Filed). f.records) (keep (λ (f : Filed). 
 unfoldable pub within : ℕ → ℕ → List (List ℕ) → Bool
 within records bytes l = leb (length l) records && leb (total length l) bytes
 
-unfoldable pub withinLimits : List Filed → Bool
-withinLimits files = leb (length files) 1024 && (within 8192 1048576 (stored 0 files) && within 2048 262144 (stored 1 files))
+unfoldable pub within_limits : List Filed → Bool
+within_limits files = leb (length files) 1024 && (within 8192 1048576 (stored 0 files) && within 2048 262144 (stored 1 files))
 
 -- ---- the checks, in the paper's order
 pub data Decision : Type 0 where
@@ -34,24 +34,24 @@ pub data Decision : Type 0 where
   Accept : Filed → Decision
 
 -- 4, then 5
-abbrev pub judgedTo : List Filed → Filed → Judged → Decision
-judgedTo files f (Judged.Fault place cause) = Refuse (Answer.Fault place cause)
-judgedTo files f (Judged.Records m) = cond (withinLimits (files ++ (f ∷ []))) (Accept f) (Refuse Full)
+abbrev pub judged_to : List Filed → Filed → Judged → Decision
+judged_to files f (Judged.Fault place cause) = Refuse (Answer.Fault place cause)
+judged_to files f (Judged.Records m) = cond (within_limits (files ++ (f ∷ []))) (Accept f) (Refuse Full)
 
 -- 3
-unfoldable pub newTo : List Filed → Filed → Judged → Decision
-newTo files f text = cond (any (alike f) files) (Refuse FiledAlready) (judgedTo files f text)
+unfoldable pub new_to : List Filed → Filed → Judged → Decision
+new_to files f text = cond (any (alike f) files) (Refuse FiledAlready) (judged_to files f text)
 
 -- 1, then 2
-abbrev pub publishedTo : List Filed → Filable → CodeRead → ℕ → List ℕ → Decision
-publishedTo files kind CodeRead.Fault day text = Refuse NoCode
-publishedTo files kind (CodeRead.Code c) day text = cond (inCalendar day) (newTo files (filedAs kind c.0 day text) (judgedFile (fileKind kind) text)) (Refuse NoDay)
+abbrev pub published_to : List Filed → Filable → CodeRead → ℕ → List ℕ → Decision
+published_to files kind CodeRead.Fault day text = Refuse NoCode
+published_to files kind (CodeRead.Code c) day text = cond (in_calendar day) (new_to files (filed_as kind c.0 day text) (judged_file (file_kind kind) text)) (Refuse NoDay)
 
 -- 44
 unfoldable pub decide : Buffers → Filable → List ℕ → ℕ → List ℕ → Decision
-decide b kind publisher day text = cond (isReadable b) (publishedTo (held b).files kind (code_of publisher) day text) (Refuse Unreadable)
+decide b kind publisher day text = cond (is_readable b) (published_to (held b).files kind (code_of publisher) day text) (Refuse Unreadable)
 
 -- ---- the same, as the code checks it over the list of files: what it comes to stands for a decision
-abbrev pub decisionOf : Filable → ℕ → List ℕ → Checked → Decision
-decisionOf kind day text (Refused a) = Refuse a
-decisionOf kind day text (Passed c m) = Accept (filedAs kind c.0 day text)
+abbrev pub decision_of : Filable → ℕ → List ℕ → Checked → Decision
+decision_of kind day text (Refused a) = Refuse a
+decision_of kind day text (Passed c m) = Accept (filed_as kind c.0 day text)

@@ -6,26 +6,26 @@ use Rattle.laws.specs.Overlay.{overlay}
 use Rattle.laws.specs.Slots.{slot_of}
 use Rattle.laws.specs.Split.{split}
 use Rattle.laws.specs.Words.{low_first}
-use Rattle.calendar.specs.Dates.{inCalendar}
+use Rattle.calendar.specs.Dates.{in_calendar}
 use Rattle.model.specs.Model.{Filed}
 use Rattle.records.specs.declared.names.kind.FileKind.{FileKind}
-use Rattle.files.specs.Judged.{judgedFile, recordsOf as textsOf}
+use Rattle.files.specs.Judged.{judged_file, records_of as texts_of}
 use Rattle.files.specs.declared.judge.Judged.TheVariants.{Records}
-use Rattle.store.specs.journals.Files.{fileCount, files_of, fileSlot, sameFile, recordsOf}
+use Rattle.store.specs.journals.Files.{file_count, files_of, file_slot, same_file, records_of}
 use Rattle.store.specs.declared.journals.files.File.{File}
-use Rattle.store.specs.Reads.{Buffers, lent, isReadable}
+use Rattle.store.specs.Reads.{Buffers, lent, is_readable}
 use Rattle.filing.specs.declared.entering.kind.Filable.{Filable}
 use Rattle.filing.specs.declared.entering.kind.Filable.TheVariants.{Default, Correction}
 
 -- ---- the kinds that are filed
 -- the number of a kind in the list of files; the kind among all kinds of file
-abbrev pub kindNumber : Filable → ℕ
-kindNumber Default = 0
-kindNumber Correction = 1
+abbrev pub kind_number : Filable → ℕ
+kind_number Default = 0
+kind_number Correction = 1
 
-abbrev pub fileKind : Filable → FileKind
-fileKind Default = FileKind.Default
-fileKind Correction = FileKind.Correction
+abbrev pub file_kind : Filable → FileKind
+file_kind Default = FileKind.Default
+file_kind Correction = FileKind.Correction
 
 -- how many records its journal takes
 abbrev pub most : Filable → ℕ
@@ -34,29 +34,29 @@ most Correction = 2048
 
 -- ---- the file
 -- as the model has it: its records as published
-unfoldable pub filedAs : Filable → ℕ → ℕ → List ℕ → Filed
-filedAs kind publisher day text = record { kind = kindNumber kind; publisher = publisher; day = day; records = textsOf (fileKind kind) text }
+unfoldable pub filed_as : Filable → ℕ → ℕ → List ℕ → Filed
+filed_as kind publisher day text = record { kind = kind_number kind; publisher = publisher; day = day; records = texts_of (file_kind kind) text }
 
 -- and as the list of files tells of it
-unfoldable pub fileIn : Filed → File
-fileIn f = record { kind = f.kind; publisher = f.publisher; day = f.day; count = length f.records }
+unfoldable pub file_in : Filed → File
+file_in f = record { kind = f.kind; publisher = f.publisher; day = f.day; count = length f.records }
 
 -- ---- the buffers
 -- one file more in the list: the count, and a slot behind the others
-unfoldable pub filesWith : List ℕ → File → List ℕ
-filesWith files f = overlay (overlay files 0 (low_first 2 (fileCount files + 1))) (2 + fileCount files * 8) (fileSlot f)
+unfoldable pub files_with : List ℕ → File → List ℕ
+files_with files f = overlay (overlay files 0 (low_first 2 (file_count files + 1))) (2 + file_count files * 8) (file_slot f)
 
 -- a journal with records behind its first n
-unfoldable pub journalWith : ℕ → List ℕ → ℕ → List (List ℕ) → List ℕ
-journalWith width journal n records = overlay journal (n * width) (flat_map (slot_of width) records)
+unfoldable pub journal_with : ℕ → List ℕ → ℕ → List (List ℕ) → List ℕ
+journal_with width journal n records = overlay journal (n * width) (flat_map (slot_of width) records)
 
 -- the buffers with one file more: its records behind the stored ones of their journal; every other byte stays
 unfoldable pub entered : Filed → Buffers → Buffers
 entered f b = record {
   table = b.table;
-  files = filesWith b.files (fileIn f);
-  regular = cond (eqb f.kind 0) (journalWith 45 b.regular (recordsOf 0 (files_of b.files)) f.records) b.regular;
-  corrections = cond (eqb f.kind 1) (journalWith 98 b.corrections (recordsOf 1 (files_of b.files)) f.records) b.corrections;
+  files = files_with b.files (file_in f);
+  regular = cond (eqb f.kind 0) (journal_with 45 b.regular (records_of 0 (files_of b.files)) f.records) b.regular;
+  corrections = cond (eqb f.kind 1) (journal_with 98 b.corrections (records_of 1 (files_of b.files)) f.records) b.corrections;
   entries = b.entries;
 }
 
@@ -64,20 +64,20 @@ entered f b = record {
 -- what the checks of filing have found: the buffers read as a store, the text is a file of its kind with m records, publisher and day are in
 -- range, none alike is filed, and there is room
 pub record Enterable (b : Buffers) (kind : Filable) (publisher day : ℕ) (text : List ℕ) (m : ℕ) : Type 0 where
-  pub readable : isReadable b ≡ true
-  pub judged : judgedFile (fileKind kind) text ≡ Records m
+  pub readable : is_readable b ≡ true
+  pub judged : judged_file (file_kind kind) text ≡ Records m
   pub code : publisher ≤ 999
-  pub date : inCalendar day ≡ true
-  pub new : any (sameFile (fileIn (filedAs kind publisher day text))) (files_of b.files) ≡ false
-  pub slot : fileCount b.files < 1024
-  pub room : recordsOf (kindNumber kind) (files_of b.files) + m ≤ most kind
+  pub date : in_calendar day ≡ true
+  pub new : any (same_file (file_in (filed_as kind publisher day text))) (files_of b.files) ≡ false
+  pub slot : file_count b.files < 1024
+  pub room : records_of (kind_number kind) (files_of b.files) + m ≤ most kind
 
 -- ---- as the code enters it
 -- the part of `Enterable` that it needs, of the three buffers that it writes
 pub record Ready (files regular corrections : List ℕ) (kind : Filable) (text : List ℕ) (m : ℕ) : Type 0 where
-  pub judged : judgedFile (fileKind kind) text ≡ Records m
-  pub slot : fileCount files < 1024
-  pub room : recordsOf (kindNumber kind) (files_of files) + m ≤ most kind
+  pub judged : judged_file (file_kind kind) text ≡ Records m
+  pub slot : file_count files < 1024
+  pub room : records_of (kind_number kind) (files_of files) + m ≤ most kind
   pub long-files : 8194 ≤ length files
   pub long-regular : 368640 ≤ length regular
   pub long-corrections : 200704 ≤ length corrections
@@ -98,10 +98,10 @@ pub record Lines (width : ℕ) (text : List ℕ) (m : ℕ) : Type 0 where
   pub short : all (shorter width) (first_lines m text) ≡ true
 
 -- the two journals with records behind the first n of their kind's journal
-abbrev pub regularWith : Filable → List ℕ → ℕ → List (List ℕ) → List ℕ
-regularWith Default journal n records = journalWith 45 journal n records
-regularWith Correction journal n records = journal
+abbrev pub regular_with : Filable → List ℕ → ℕ → List (List ℕ) → List ℕ
+regular_with Default journal n records = journal_with 45 journal n records
+regular_with Correction journal n records = journal
 
-abbrev pub correctionsWith : Filable → List ℕ → ℕ → List (List ℕ) → List ℕ
-correctionsWith Default journal n records = journal
-correctionsWith Correction journal n records = journalWith 98 journal n records
+abbrev pub corrections_with : Filable → List ℕ → ℕ → List (List ℕ) → List ℕ
+corrections_with Default journal n records = journal
+corrections_with Correction journal n records = journal_with 98 journal n records

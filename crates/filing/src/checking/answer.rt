@@ -1,6 +1,6 @@
 // What filing answers.
 ghost use Rattle.std.specs.Prelude.{◌≡◌};
-ghost use Rattle.filing.specs.checking.Answers.{answerNumber};
+ghost use Rattle.filing.specs.checking.Answers.{answer_number};
 
 use faults::cause::{Cause, FaultPlace};
 
@@ -20,7 +20,7 @@ pub enum Answer {
 
 // The paper's number of an answer.
 pub fn number(a: Answer) -> u8
-    ensures { result ≡ answerNumber a }
+    ensures { result ≡ answer_number a }
 {
     match a {
         Answer::Filed(_) => 0,

@@ -2,11 +2,11 @@
 ghost use Rattle.std.specs.Prelude.{◌≡◌, true, ◌≤◌, length};
 ghost use Rattle.laws.specs.Lists.{any};
 ghost use Rattle.fields.specs.Code.{code_of};
-ghost use Rattle.files.specs.Judged.{judgedFile};
-ghost use Rattle.store.specs.journals.Files.{files_of, sameFile};
-ghost use Rattle.filing.specs.entering.Entering.{fileKind};
-ghost use Rattle.store.specs.Reads.{goodFiles};
-ghost use Rattle.filing.specs.checking.Checks.{hasRoom, roomChecked, textChecked, dayChecked, checked};
+ghost use Rattle.files.specs.Judged.{judged_file};
+ghost use Rattle.store.specs.journals.Files.{files_of, same_file};
+ghost use Rattle.filing.specs.entering.Entering.{file_kind};
+ghost use Rattle.store.specs.Reads.{good_files};
+ghost use Rattle.filing.specs.checking.Checks.{has_room, room_checked, text_checked, day_checked, checked};
 
 use crate::checking::answer::Answer;
 use crate::entering::kind::Filable;
@@ -27,15 +27,15 @@ pub enum Checked {
 
 // Whether two files are of one kind, publisher and day; the day first, which tells most apart.
 fn same_file(f: File, g: File) -> bool
-    ensures { result ≡ sameFile f g }
+    ensures { result ≡ same_file f g }
 {
     ((f.day == g.day) & (f.publisher == g.publisher)) & (f.kind == g.kind)
 }
 
 // Whether a file alike is filed.
 fn filed_already(files: &[u8], sought: File) -> bool
-    requires { (8194 ≤ length files.now) × (goodFiles files.now ≡ true) }
-    ensures { result ≡ any (sameFile sought) (files_of files.now) }
+    requires { (8194 ≤ length files.now) × (good_files files.now ≡ true) }
+    ensures { result ≡ any (same_file sought) (files_of files.now) }
 {
     let n = list::file_count(files);
     let mut k = 0;
@@ -51,8 +51,8 @@ fn filed_already(files: &[u8], sought: File) -> bool
 
 // Whether there is room for one more file with m records.
 fn has_room(files: &[u8], kind: Filable, m: usize) -> bool
-    requires { (8194 ≤ length files.now) × (goodFiles files.now ≡ true) }
-    ensures { result ≡ hasRoom files.now kind m }
+    requires { (8194 ≤ length files.now) × (good_files files.now ≡ true) }
+    ensures { result ≡ has_room files.now kind m }
 {
     let n = list::file_count(files);
     if list::FILES <= n {
@@ -64,8 +64,8 @@ fn has_room(files: &[u8], kind: Filable, m: usize) -> bool
 
 // The last check: the room for the records of a file that keeps to its layouts.
 fn check_room(files: &[u8], kind: Filable, code: Code, m: usize) -> Checked
-    requires { (8194 ≤ length files.now) × (goodFiles files.now ≡ true) }
-    ensures { result ≡ roomChecked (hasRoom files.now kind m) code m }
+    requires { (8194 ≤ length files.now) × (good_files files.now ≡ true) }
+    ensures { result ≡ room_checked (has_room files.now kind m) code m }
 {
     if has_room(files, kind, m) {
         return Checked::Passed(code, m);
@@ -75,8 +75,8 @@ fn check_room(files: &[u8], kind: Filable, code: Code, m: usize) -> Checked
 
 // The checks of the text: its layouts, then the room for its records.
 fn check_text(files: &[u8], kind: Filable, code: Code, text: &[u8]) -> Checked
-    requires { (8194 ≤ length files.now) × (goodFiles files.now ≡ true) }
-    ensures { result ≡ textChecked (hasRoom files.now kind) code (judgedFile (fileKind kind) text.now) }
+    requires { (8194 ≤ length files.now) × (good_files files.now ≡ true) }
+    ensures { result ≡ text_checked (has_room files.now kind) code (judged_file (file_kind kind) text.now) }
 {
     match judge::judge(kind.file_kind(), text) {
         Judged::Fault(place, cause) => Checked::Refused(Answer::Fault(place, cause)),
@@ -86,8 +86,8 @@ fn check_text(files: &[u8], kind: Filable, code: Code, text: &[u8]) -> Checked
 
 // The checks of a file with a publisher that is a network code.
 fn check_day(files: &[u8], kind: Filable, code: Code, day: CalendarDays, text: &[u8]) -> Checked
-    requires { (8194 ≤ length files.now) × (goodFiles files.now ≡ true) }
-    ensures { result ≡ dayChecked files.now kind code day.0 (judgedFile (fileKind kind) text.now) }
+    requires { (8194 ≤ length files.now) × (good_files files.now ≡ true) }
+    ensures { result ≡ day_checked files.now kind code day.0 (judged_file (file_kind kind) text.now) }
 {
     if !dates::in_calendar(day) {
         return Checked::Refused(Answer::NoDay);
@@ -112,8 +112,8 @@ pub fn check(
     day: CalendarDays,
     text: &[u8],
 ) -> Checked
-    requires { (8194 ≤ length files.now) × (goodFiles files.now ≡ true) }
-    ensures { result ≡ checked files.now kind (code_of publisher.now) day.0 (judgedFile (fileKind kind) text.now) }
+    requires { (8194 ≤ length files.now) × (good_files files.now ≡ true) }
+    ensures { result ≡ checked files.now kind (code_of publisher.now) day.0 (judged_file (file_kind kind) text.now) }
 {
     let CodeRead::Code(code) = Code::read(publisher) else {
         return Checked::Refused(Answer::NoCode);

@@ -1,9 +1,9 @@
 // Entering a file: its records behind the stored ones of their journal, and a slot in the list of files.
 ghost use Rattle.std.specs.Prelude.{◌≡◌, ◌+◌, ◌*◌, ◌≤◌, ◌<◌, length};
-ghost use Rattle.files.specs.Judged.{judgedFile, recordsOf};
+ghost use Rattle.files.specs.Judged.{judged_file, records_of};
 ghost use Rattle.files.specs.declared.judge.Judged.TheVariants.{Records};
-ghost use Rattle.store.specs.journals.Files.{fileCount};
-ghost use Rattle.filing.specs.entering.Entering.{fileKind, most, filedAs, filesWith, journalWith, regularWith, correctionsWith, first_lines, Lines, Ready, Joined};
+ghost use Rattle.store.specs.journals.Files.{file_count};
+ghost use Rattle.filing.specs.entering.Entering.{file_kind, most, filed_as, files_with, journal_with, regular_with, corrections_with, first_lines, Lines, Ready, Joined};
 
 use crate::entering::kind::Filable;
 use calendar::dates::CalendarDays;
@@ -17,7 +17,7 @@ use store::slots::record;
 // Writes the first m lines of a text into a journal, from the slot `from` on.
 fn put_lines(journal: &mut [u8], width: usize, from: usize, text: &[u8], m: usize)
     requires { Lines width text.now m × (((from + m) * width ≤ length journal.old) × (width ≤ 256)) }
-    ensures { journal.new ≡ journalWith width journal.old from (first_lines m text.now) }
+    ensures { journal.new ≡ journal_with width journal.old from (first_lines m text.now) }
 {
     let mut at: usize = 0;
     let mut i: usize = 0;
@@ -38,8 +38,8 @@ fn put_records(
     text: &[u8],
     m: usize,
 )
-    requires { (judgedFile (fileKind kind) text.now ≡ Records m) × ((from + m ≤ most kind) × ((368640 ≤ length regular.old) × (200704 ≤ length corrections.old))) }
-    ensures { (regular.new ≡ regularWith kind regular.old from (recordsOf (fileKind kind) text.now)) × (corrections.new ≡ correctionsWith kind corrections.old from (recordsOf (fileKind kind) text.now)) }
+    requires { (judged_file (file_kind kind) text.now ≡ Records m) × ((from + m ≤ most kind) × ((368640 ≤ length regular.old) × (200704 ≤ length corrections.old))) }
+    ensures { (regular.new ≡ regular_with kind regular.old from (records_of (file_kind kind) text.now)) × (corrections.new ≡ corrections_with kind corrections.old from (records_of (file_kind kind) text.now)) }
 {
     match kind {
         Filable::Default => put_lines(regular, REPORT_SLOT, from, text, m),
@@ -49,8 +49,8 @@ fn put_records(
 
 // Writes one file more into the list of n files.
 fn add_file(files: &mut [u8], n: usize, f: File)
-    requires { (n ≡ fileCount files.old) × ((n < 1024) × (8194 ≤ length files.old)) }
-    ensures { files.new ≡ filesWith files.old f }
+    requires { (n ≡ file_count files.old) × ((n < 1024) × (8194 ≤ length files.old)) }
+    ensures { files.new ≡ files_with files.old f }
 {
     store::journals::files::put_count(files, (n + 1) as u16);
     store::journals::files::put_file(files, n, f);
@@ -68,7 +68,7 @@ pub fn enter(
     m: usize,
 )
     requires { Ready files.old regular.old corrections.old kind text.now m }
-    ensures { Joined (filedAs kind publisher.0 day.0 text.now) files.old regular.old corrections.old files.new regular.new corrections.new }
+    ensures { Joined (filed_as kind publisher.0 day.0 text.now) files.old regular.old corrections.old files.new regular.new corrections.new }
 {
     let n = store::journals::files::file_count(files);
     let number = kind.number();

@@ -1,6 +1,6 @@
 // The kinds of file that are filed, each with a journal of its own.
 ghost use Rattle.std.specs.Prelude.{◌≡◌};
-ghost use Rattle.filing.specs.entering.Entering.{kindNumber, fileKind, most};
+ghost use Rattle.filing.specs.entering.Entering.{kind_number, file_kind, most};
 
 use records::names::kind::FileKind;
 
@@ -13,7 +13,7 @@ pub enum Filable {
 impl Filable {
     // Its number in the list of files.
     pub fn number(self) -> u8
-        ensures { result ≡ kindNumber self }
+        ensures { result ≡ kind_number self }
     {
         match self {
             Filable::Default => 0,
@@ -23,7 +23,7 @@ impl Filable {
 
     // The kind among all kinds of file.
     pub fn file_kind(self) -> FileKind
-        ensures { result ≡ fileKind self }
+        ensures { result ≡ file_kind self }
     {
         match self {
             Filable::Default => FileKind::Default,

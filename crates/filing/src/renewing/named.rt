@@ -3,9 +3,9 @@
 ghost use Rattle.std.specs.Prelude.{◌≡◌, ◌+◌, ◌%◌, ◌≤◌, ◌<◌, length, take, drop};
 ghost use Rattle.laws.specs.Lists.{table, any};
 ghost use Rattle.order.specs.groups.Groups.{tag};
-ghost use Rattle.store.specs.journals.Reads.{recordsAt};
+ghost use Rattle.store.specs.journals.Reads.{records_at};
 ghost use Rattle.working.specs.Working.{InFile};
-ghost use Rattle.filing.specs.renewing.Turns.{filedFrom, numberFrom, namedTo, earlier, frontFrom, Tagged};
+ghost use Rattle.filing.specs.renewing.Turns.{filed_from, number_from, named_to, earlier, front_from, Tagged};
 
 use fields::number::Number;
 use store::journals::files::File;
@@ -22,7 +22,7 @@ pub(crate) fn number_at<'a>(
 ) -> Number
     requires in_file { InFile regular.now corrections.now f start f.count }
     requires place_lt_count { place < f.count }
-    ensures { result ≡ numberFrom (filedFrom (recordsAt regular.now corrections.now) f start) place }
+    ensures { result ≡ number_from (filed_from (records_at regular.now corrections.now) f start) place }
 {
     let bytes = gather::record_at(regular, corrections, f.kind, start + place);
     rules::records::number_in(f.kind, bytes)
@@ -32,7 +32,7 @@ pub(crate) fn number_at<'a>(
 fn tag_at<'a>(regular: &'a [u8], corrections: &'a [u8], f: File, start: usize, place: usize) -> u64
     requires in_file { InFile regular.now corrections.now f start f.count }
     requires place_lt_count { place < f.count }
-    ensures { result ≡ tag (frontFrom (filedFrom (recordsAt regular.now corrections.now) f start) place) place }
+    ensures { result ≡ tag (front_from (filed_from (records_at regular.now corrections.now) f start) place) place }
 {
     let number = number_at(regular, corrections, f, start, place);
     let first = number.first;
@@ -50,7 +50,7 @@ fn lay_tags<'a>(
 )
     requires in_file { InFile regular.now corrections.now f start f.count }
     requires count_value { (count ≡ f.count) × (count ≤ length wanted.old) }
-    ensures { take count wanted.new ≡ table count (λ i. tag (frontFrom (filedFrom (recordsAt regular.now corrections.now) f start) i) i) }
+    ensures { take count wanted.new ≡ table count (λ i. tag (front_from (filed_from (records_at regular.now corrections.now) f start) i) i) }
 {
     let mut i = 0;
     while i < count {
@@ -70,7 +70,7 @@ fn lay_all_tags<'a>(
 )
     requires in_file { InFile regular.now corrections.now f start f.count }
     requires count_value { (count ≡ f.count) × (count ≤ 10240) }
-    ensures { take count wanted.new ≡ table count (λ i. tag (frontFrom (filedFrom (recordsAt regular.now corrections.now) f start) i) i) }
+    ensures { take count wanted.new ≡ table count (λ i. tag (front_from (filed_from (records_at regular.now corrections.now) f start) i) i) }
 {
     lay_tags(regular, corrections, f, start, count, wanted);
 }
@@ -84,7 +84,7 @@ pub(crate) fn tag_file<'a>(
     wanted: &mut [u64; 10240],
 ) -> usize
     requires { InFile regular.now corrections.now f start f.count }
-    ensures { Tagged (filedFrom (recordsAt regular.now corrections.now) f start) wanted.new result }
+    ensures { Tagged (filed_from (records_at regular.now corrections.now) f start) wanted.new result }
 {
     let count = f.count as usize;
     lay_all_tags(regular, corrections, f, start, count, wanted);
@@ -104,7 +104,7 @@ fn is_earlier<'a>(
 ) -> bool
     requires in_file { InFile regular.now corrections.now f start f.count }
     requires j_le_count { j ≤ f.count }
-    ensures { result ≡ earlier (filedFrom (recordsAt regular.now corrections.now) f start) j number (tag % 16384) }
+    ensures { result ≡ earlier (filed_from (records_at regular.now corrections.now) f start) j number (tag % 16384) }
 {
     let place = (tag % PLACES) as usize;
     if place < j {
@@ -128,7 +128,7 @@ fn named_among<'a>(
 ) -> bool
     requires in_file { InFile regular.now corrections.now f start f.count }
     requires j_le_count { (j ≤ f.count) × (w ≤ length wanted.now) × (from + m ≤ w) }
-    ensures { result ≡ any (λ g. earlier (filedFrom (recordsAt regular.now corrections.now) f start) j number (g % 16384)) (take m (drop from (take w wanted.now))) }
+    ensures { result ≡ any (λ g. earlier (filed_from (records_at regular.now corrections.now) f start) j number (g % 16384)) (take m (drop from (take w wanted.now))) }
 {
     let mut i = 0;
     while i < m {
@@ -155,7 +155,7 @@ fn named_among_all<'a>(
 ) -> bool
     requires in_file { InFile regular.now corrections.now f start f.count }
     requires j_le_count { (j ≤ f.count) × (w ≤ 10240) × (from + m ≤ w) }
-    ensures { result ≡ any (λ g. earlier (filedFrom (recordsAt regular.now corrections.now) f start) j number (g % 16384)) (take m (drop from (take w wanted.now))) }
+    ensures { result ≡ any (λ g. earlier (filed_from (records_at regular.now corrections.now) f start) j number (g % 16384)) (take m (drop from (take w wanted.now))) }
 {
     named_among(
         regular,
@@ -184,8 +184,8 @@ pub(crate) fn named_before<'a>(
 ) -> bool
     requires in_file { InFile regular.now corrections.now f start f.count }
     requires j_le_count { j ≤ f.count }
-    requires tagged { Tagged (filedFrom (recordsAt regular.now corrections.now) f start) wanted.now w }
-    ensures { result ≡ namedTo (filedFrom (recordsAt regular.now corrections.now) f start) j number }
+    requires tagged { Tagged (filed_from (records_at regular.now corrections.now) f start) wanted.now w }
+    ensures { result ≡ named_to (filed_from (records_at regular.now corrections.now) f start) j number }
 {
     let first = number.first;
     let front = first.0 % FRONTS;

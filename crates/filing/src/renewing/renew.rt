@@ -1,14 +1,14 @@
 // The entries of the numbers that the last file names.
 ghost use Rattle.std.specs.Prelude.{◌≡◌, true, map, ◌<◌};
 ghost use Rattle.model.specs.Model.{count_of};
-ghost use Rattle.store.specs.journals.Files.{fileCount};
-ghost use Rattle.store.specs.journals.Reads.{recordsAt, readFiles};
+ghost use Rattle.store.specs.journals.Files.{file_count};
+ghost use Rattle.store.specs.journals.Reads.{records_at, read_files};
 ghost use Rattle.store.specs.numbers.Lines.{lines_of};
-ghost use Rattle.store.specs.Reads.{lent, isReadable, tableLine};
+ghost use Rattle.store.specs.Reads.{lent, is_readable, table_line};
 ghost use Rattle.rules.specs.Rules.{rules};
 ghost use Rattle.working.specs.Working.{InFile};
-ghost use Rattle.filing.specs.renewing.Turns.{filedFrom, Tagged, Workable, Ready, Staged};
-ghost use Rattle.filing.specs.fitting.Renewing.{lastFiled, renewedEntries};
+ghost use Rattle.filing.specs.renewing.Turns.{filed_from, Tagged, Workable, Ready, Staged};
+ghost use Rattle.filing.specs.fitting.Renewing.{last_filed, renewed_entries};
 
 use crate::renewing::{named, turn};
 use store::journals::files::File;
@@ -35,8 +35,8 @@ fn renew_records<'a>(
     requires workable { Workable n lines.now files.now regular.now corrections.now entries.old }
     requires ready { Ready n files.now regular.now corrections.now wanted.now w keys.now places.now c }
     requires in_file { InFile regular.now corrections.now f start f.count }
-    requires tagged { Tagged (filedFrom (recordsAt regular.now corrections.now) f start) wanted.now w }
-    ensures { Staged (readFiles files.now regular.now corrections.now) (filedFrom (recordsAt regular.now corrections.now) f start) f.count lines.now entries.old entries.new result }
+    requires tagged { Tagged (filed_from (records_at regular.now corrections.now) f start) wanted.now w }
+    ensures { Staged (read_files files.now regular.now corrections.now) (filed_from (records_at regular.now corrections.now) f start) f.count lines.now entries.old entries.new result }
 {
     let count = f.count as usize;
     let mut sum = 0;
@@ -77,7 +77,7 @@ fn renew_file<'a>(
 ) -> usize
     requires workable { Workable n lines.now files.now regular.now corrections.now entries.old }
     requires in_file { InFile regular.now corrections.now f start f.count }
-    ensures { Staged (readFiles files.now regular.now corrections.now) (filedFrom (recordsAt regular.now corrections.now) f start) f.count lines.now entries.old entries.new result }
+    ensures { Staged (read_files files.now regular.now corrections.now) (filed_from (records_at regular.now corrections.now) f start) f.count lines.now entries.old entries.new result }
 {
     let mut wanted = [0u64; 10240];
     let mut keys = [0u64; 10240];
@@ -121,10 +121,10 @@ pub fn renew<'a>(
     corrections: &'a [u8],
     entries: &mut [u8],
 ) -> usize
-    requires entries_value { isReadable (lent table.now files.now regular.now corrections.now entries.old) ≡ true }
-    requires files_nonzero { 0 < fileCount files.now }
-    ensures value { result ≡ count_of rules (readFiles files.now regular.now corrections.now) (lastFiled (readFiles files.now regular.now corrections.now)) }
-    ensures entries_after { entries.new ≡ renewedEntries (readFiles files.now regular.now corrections.now) (lastFiled (readFiles files.now regular.now corrections.now)) (map tableLine (lines_of table.now)) entries.old }
+    requires entries_value { is_readable (lent table.now files.now regular.now corrections.now entries.old) ≡ true }
+    requires files_nonzero { 0 < file_count files.now }
+    ensures value { result ≡ count_of rules (read_files files.now regular.now corrections.now) (last_filed (read_files files.now regular.now corrections.now)) }
+    ensures entries_after { entries.new ≡ renewed_entries (read_files files.now regular.now corrections.now) (last_filed (read_files files.now regular.now corrections.now)) (map table_line (lines_of table.now)) entries.old }
 {
     let n = file_list::file_count(files);
     let last = n - 1;

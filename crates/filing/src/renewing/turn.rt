@@ -1,11 +1,11 @@
 // One record of a file: its number worked out afresh, where no earlier record of the file names it.
 ghost use Rattle.std.specs.Prelude.{◌≡◌, ◌<◌, length, take};
 ghost use Rattle.model.specs.Model.{history};
-ghost use Rattle.store.specs.journals.Reads.{recordsAt, readFiles};
-ghost use Rattle.store.specs.numbers.Lines.{lineCount};
+ghost use Rattle.store.specs.journals.Reads.{records_at, read_files};
+ghost use Rattle.store.specs.numbers.Lines.{line_count};
 ghost use Rattle.rules.specs.Rules.{rules};
 ghost use Rattle.working.specs.Working.{Sound, InFile};
-ghost use Rattle.filing.specs.renewing.Turns.{filedFrom, Tagged, Workable, Ready, LineRenewed, NumberRenewed, RecordRenewed};
+ghost use Rattle.filing.specs.renewing.Turns.{filed_from, Tagged, Workable, Ready, LineRenewed, NumberRenewed, RecordRenewed};
 
 use crate::renewing::named;
 use entries::entry::Line;
@@ -31,7 +31,7 @@ fn count_all<'a>(
 ) -> usize
     requires sound { Sound n files.now regular.now corrections.now }
     requires ready { Ready n files.now regular.now corrections.now wanted.now w keys.now places.now c }
-    ensures { result ≡ length (history rules (take n (readFiles files.now regular.now corrections.now)) number) }
+    ensures { result ≡ length (history rules (take n (read_files files.now regular.now corrections.now)) number) }
 {
     find::gather_indexed(
         files,
@@ -66,8 +66,8 @@ fn renew_line<'a>(
 ) -> usize
     requires workable { Workable n lines.now files.now regular.now corrections.now entries.old }
     requires ready { Ready n files.now regular.now corrections.now wanted.now w keys.now places.now c }
-    requires k_bound { k < lineCount lines.now }
-    ensures { LineRenewed (readFiles files.now regular.now corrections.now) lines.now entries.old entries.new k result }
+    requires k_bound { k < line_count lines.now }
+    ensures { LineRenewed (read_files files.now regular.now corrections.now) lines.now entries.old entries.new k result }
 {
     let l = lines::line_at(lines, k);
     let number = l.number;
@@ -112,7 +112,7 @@ fn renew_number<'a>(
 ) -> usize
     requires workable { Workable n lines.now files.now regular.now corrections.now entries.old }
     requires ready { Ready n files.now regular.now corrections.now wanted.now w keys.now places.now c }
-    ensures { NumberRenewed (readFiles files.now regular.now corrections.now) number lines.now entries.old entries.new result }
+    ensures { NumberRenewed (read_files files.now regular.now corrections.now) number lines.now entries.old entries.new result }
 {
     let count = lines::line_count(lines);
     let k = store::numbers::find::line_of(lines, count, number);
@@ -170,8 +170,8 @@ pub(crate) fn renew_record<'a>(
     requires ready { Ready n files.now regular.now corrections.now wanted.now w keys.now places.now c }
     requires in_file { InFile regular.now corrections.now f start f.count }
     requires j_lt_count { j < f.count }
-    requires tagged { Tagged (filedFrom (recordsAt regular.now corrections.now) f start) wanted.now w }
-    ensures { RecordRenewed (readFiles files.now regular.now corrections.now) (filedFrom (recordsAt regular.now corrections.now) f start) j lines.now entries.old entries.new result }
+    requires tagged { Tagged (filed_from (records_at regular.now corrections.now) f start) wanted.now w }
+    ensures { RecordRenewed (read_files files.now regular.now corrections.now) (filed_from (records_at regular.now corrections.now) f start) j lines.now entries.old entries.new result }
 {
     let number = named::number_at(regular, corrections, f, start, j);
     if named::named_before(regular, corrections, f, start, j, number, wanted, w) {

@@ -17,13 +17,13 @@ use Rattle.laws.specs.Lists.{keep}
 use Rattle.laws.specs.Order.{sorted, Below, Ordered}
 use Rattle.laws.proofs.Tests.{le-or-lt}
 use Rattle.laws.proofs.Lists.{keep-yes, keep-no, keep-none, keep_all, keep_append, keep-passes, keep-both, keep-at-most}
-use Rattle.laws.proofs.Order.{keep-inOrder, inOrder-parts, inOrder-ordered, length-inOrder, mem-inOrder}
+use Rattle.laws.proofs.Order.{keep-in_order, in_order-parts, in_order-ordered, length-in_order, mem-in_order}
 use Rattle.laws.proofs.ByKey.{by_number}
 use Rattle.order.specs.groups.Groups.{below}
 
 -- what is the same once sorted is in order
 pub sorted-ordered : (l : List ℕ) → sorted l ≡ l → Ordered leb l
-sorted-ordered l e = rw e at (inOrder-ordered leb by_number l)
+sorted-ordered l e = rw e at (in_order-ordered leb by_number l)
 
 pub below-most : (key : ℕ) (l : List ℕ) → below key l ≤ length l
 unfolding below
@@ -73,21 +73,21 @@ amid a b x = ltb x b && not (ltb x a)
 module _ (a b : ℕ) (h : a ≤ b) (l : List ℕ) where
   -- the numbers in order are those below a, then the others
   parts : sorted l ≡ sorted (keep (λ (x : ℕ). ltb x a) l) ++ sorted (keep (λ (x : ℕ). not (ltb x a)) l)
-  parts = inOrder-parts leb by_number (λ (x : ℕ). ltb x a) (λ x y e f. lt-leb x y (omega (arith, ltb-false x a e, ltb-true y a f))) l
+  parts = in_order-parts leb by_number (λ (x : ℕ). ltb x a) (λ x y e f. lt-leb x y (omega (arith, ltb-false x a e, ltb-true y a f))) l
 
   below-low : below a (sorted l) ≡ length (sorted (keep (λ (x : ℕ). ltb x a) l))
   unfolding below
-  below-low = ap length (keep-inOrder leb by_number (λ (x : ℕ). ltb x a) l)
+  below-low = ap length (keep-in_order leb by_number (λ (x : ℕ). ltb x a) l)
 
   -- those below a are below b
   low-low : keep (λ (x : ℕ). ltb x b) (sorted (keep (λ (x : ℕ). ltb x a) l)) ≡ sorted (keep (λ (x : ℕ). ltb x a) l)
   low-low =
       keep_all (λ (x : ℕ). ltb x b) (sorted (keep (λ (x : ℕ). ltb x a) l))
-      (λ y m. lt-ltb y b (omega (arith, ltb-true y a (keep-passes (λ (x : ℕ). ltb x a) l (mem-inOrder leb (keep (λ (x : ℕ). ltb x a) l) m)))))
+      (λ y m. lt-ltb y b (omega (arith, ltb-true y a (keep-passes (λ (x : ℕ). ltb x a) l (mem-in_order leb (keep (λ (x : ℕ). ltb x a) l) m)))))
 
   high : keep (λ (x : ℕ). ltb x b) (sorted (keep (λ (x : ℕ). not (ltb x a)) l)) ≡ sorted (keep (amid a b) l)
   high =
-      keep-inOrder leb by_number (λ (x : ℕ). ltb x b) (keep (λ (x : ℕ). not (ltb x a)) l)
+      keep-in_order leb by_number (λ (x : ℕ). ltb x b) (keep (λ (x : ℕ). not (ltb x a)) l)
       ∙ ap sorted (keep-both (λ (x : ℕ). ltb x b) (λ (x : ℕ). not (ltb x a)) l)
 
   below-sorted : below b (sorted l) ≡ below a (sorted l) + length (sorted (keep (amid a b) l))
@@ -96,15 +96,15 @@ module _ (a b : ℕ) (h : a ≤ b) (l : List ℕ) where
       ap (λ (r : List ℕ). length (keep (λ (x : ℕ). ltb x b) r)) parts
       ∙ ap length (keep_append (λ (x : ℕ). ltb x b) (sorted (keep (λ (x : ℕ). ltb x a) l)) (sorted (keep (λ (x : ℕ). not (ltb x a)) l)))
       ∙ length-append (keep (λ (x : ℕ). ltb x b) (sorted (keep (λ (x : ℕ). ltb x a) l))) (keep (λ (x : ℕ). ltb x b) (sorted (keep (λ (x : ℕ). not (ltb x a)) l)))
-      ∙ ap₂ (λ (s t : List ℕ). length s + length t) (low-low ∙ sym (keep-inOrder leb by_number (λ (x : ℕ). ltb x a) l)) high
+      ∙ ap₂ (λ (s t : List ℕ). length s + length t) (low-low ∙ sym (keep-in_order leb by_number (λ (x : ℕ). ltb x a) l)) high
 
   pub below-rise : below b (sorted l) ≡ below a (sorted l) + length (keep (amid a b) l)
-  below-rise = below-sorted ∙ ap (λ (n : ℕ). below a (sorted l) + n) (length-inOrder leb (keep (amid a b) l))
+  below-rise = below-sorted ∙ ap (λ (n : ℕ). below a (sorted l) + n) (length-in_order leb (keep (amid a b) l))
 
   -- of those from a on: first those below b
   rest-parts : sorted (keep (λ (x : ℕ). not (ltb x a)) l) ≡ sorted (keep (amid a b) l) ++ sorted (keep (λ (x : ℕ). not (ltb x b)) (keep (λ (x : ℕ). not (ltb x a)) l))
   rest-parts =
-      inOrder-parts leb by_number (λ (x : ℕ). ltb x b) (λ x y e f. lt-leb x y (omega (arith, ltb-false x b e, ltb-true y b f))) (keep (λ (x : ℕ). not (ltb x a)) l)
+      in_order-parts leb by_number (λ (x : ℕ). ltb x b) (λ x y e f. lt-leb x y (omega (arith, ltb-false x b e, ltb-true y b f))) (keep (λ (x : ℕ). not (ltb x a)) l)
       ∙ ap (λ (r : List ℕ). sorted r ++ sorted (keep (λ (x : ℕ). not (ltb x b)) (keep (λ (x : ℕ). not (ltb x a)) l))) (keep-both (λ (x : ℕ). ltb x b) (λ (x : ℕ). not (ltb x a)) l)
 
   pub between : take (below b (sorted l) - below a (sorted l)) (drop (below a (sorted l)) (sorted l)) ≡ sorted (keep (amid a b) l)

@@ -19,7 +19,7 @@ use Rattle.laws.specs.Order.{sorted, Below, Ordered}
 use Rattle.laws.proofs.Tests.{le-or-lt}
 use Rattle.laws.proofs.Lists.{keep-map, keep-passes, mem-keep, mem_below}
 use Rattle.laws.proofs.Tables.{table-self, map-table}
-use Rattle.laws.proofs.Order.{keep-inOrder, inOrder-ordered, inOrder-of-ordered}
+use Rattle.laws.proofs.Order.{keep-in_order, in_order-ordered, in_order-of-ordered}
 use Rattle.laws.proofs.ByKey.{by_number}
 use Rattle.order.specs.groups.Groups.{below, tag, tags, group}
 use Rattle.order.proofs.groups.Below.{amid, below-rise, between}
@@ -43,7 +43,7 @@ from0-ordered (suc n) = ordered_end (from0 n) n (from0-ordered n) (λ x m. let w
 -- and those that pass a test are
 kept-ordered : (q : ℕ → Bool) (n : ℕ) → Ordered leb (keep q (from0 n))
 kept-ordered q n =
-    rw (sym (keep-inOrder leb by_number q (from0 n)) ∙ ap (keep q) (inOrder-of-ordered leb (from0 n) (from0-ordered n))) at (inOrder-ordered leb by_number (keep q (from0 n)))
+    rw (sym (keep-in_order leb by_number q (from0 n)) ∙ ap (keep q) (in_order-of-ordered leb (from0 n) (from0-ordered n))) at (in_order-ordered leb by_number (keep q (from0 n)))
 
 -- ---- with one number in front they stay in order
 mem-map : {z : ℕ} (f : ℕ → ℕ) (l : List ℕ) → Memᴰ z (map f l) → (x : ℕ) × Memᴰ x l × (z ≡ f x)
@@ -94,7 +94,7 @@ module _ (φ : ℕ → ℕ) (l : List ℕ) (short : length l ≤ 16384) (F : ℕ
   group-is =
       between (tag F 0) (tag (suc F) 0) (omega arith) (table (length l) (λ (i : ℕ). tag (φ (get_or l i 0)) i))
       ∙ ap sorted tagged
-      ∙ inOrder-of-ordered leb (map (tag F) places) (ordered-tag F places (kept-ordered (λ (i : ℕ). eqb (φ (get_or l i 0)) F) (length l)))
+      ∙ in_order-of-ordered leb (map (tag F) places) (ordered-tag F places (kept-ordered (λ (i : ℕ). eqb (φ (get_or l i 0)) F) (length l)))
 
   -- the elements at these places
   elements : map (λ (i : ℕ). get_or l i 0) places ≡ keep (λ (k : ℕ). eqb (φ k) F) l

@@ -1,15 +1,15 @@
 -- `phases::filable_by` meets its contract. Assumes nothing.
 use borrow.Author.Tests.{eq-eqb, ne_eqb}
-use Rattle.phases.specs.Phases.{filableBy}
+use Rattle.phases.specs.Phases.{filable_by}
 use Rattle.phases.proofs.filable_by.Statement.{statement}
 use Rattle.phases.proofs.filable_by.Tie as tie
 
 returns : tie.Need-returns
-unfolding filableBy
+unfolding filable_by
 returns c = rw (eq-eqb c.before.args.kind 0 c.if1.true)
 
 returns-2 : tie.Need-returns-2
-unfolding filableBy
+unfolding filable_by
 returns-2 c = rw (ne_eqb c.before.args.kind 0 c.if1.false)
 
 pub filable-by-spec : {M : Type 1} → statement M

@@ -21,7 +21,7 @@ use Rattle.filing.specs.declared.checking.answer.Answer.{Answer}
 use Rattle.filing.specs.Effect.{Files}
 use Rattle.model.specs.Model.{Filed}
 use Rattle.verdict.specs.declared.step.Standing.{Standing}
-use Rattle.store.specs.numbers.Lines.{lineCount}
+use Rattle.store.specs.numbers.Lines.{line_count}
 use Rattle.working.specs.Working.{WorkedAfresh}
 use Rattle.filing.specs.renewing.Turns.{count_to, RecordRenewed}
 use Rattle.filing.specs.entering.Entering.{Joined}
@@ -84,7 +84,7 @@ working-settles n files regular corrections number line x y p q = pair_settles _
 -- renewing the number of one record of a file: the entries, and how many records more are counted
 pub renewing-settles : (all : List Filed) (f : Filed) (j : ℕ) (lines before : List ℕ) → Settles (λ (o : List ℕ × ℕ). RecordRenewed all f j lines before o.0 o.1)
 renewing-settles all f j lines before x y p q =
-    let entries : x.0 ≡ y.0 = same-slots 100 x.0 y.0 (lineCount lines) (λ k h. p.redone.slots k h ∙ sym (q.redone.slots k h)) (p.redone.rest ∙ sym q.redone.rest) in
+    let entries : x.0 ≡ y.0 = same-slots 100 x.0 y.0 (line_count lines) (λ k h. p.redone.slots k h ∙ sym (q.redone.slots k h)) (p.redone.rest ∙ sym q.redone.rest) in
     let count : x.1 ≡ y.1 = omega (arith, p.counted, q.counted) in
     λ i. (entries i, count i)
 

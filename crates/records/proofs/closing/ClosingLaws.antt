@@ -12,62 +12,62 @@ use mathlib.Core.List.{List, [], ◌∷◌, ◌++◌}
 use lib.ListN.{length, take, drop, length-append, take-append-drop}
 use lib.Seq.{take_all}
 use borrow.Author.Tests.{ne_eqb}
-use Rattle.laws.specs.Digits.{isDigit, digits, size_of}
+use Rattle.laws.specs.Digits.{is_digit, digits, size_of}
 use Rattle.laws.specs.Lists.{same_lists}
 use Rattle.laws.specs.Lists.{all}
-use Rattle.laws.specs.Split.{isNot, lacks}
+use Rattle.laws.specs.Split.{is_not, lacks}
 use Rattle.laws.proofs.Tables.{all_append, all_weaker}
-use Rattle.laws.proofs.Digits.{digit_low, all_digits, length_digits, size_small}
+use Rattle.laws.proofs.Digits.{digit_low, all_digits_lem, length_digits, size_small}
 use Rattle.laws.specs.Overlay.{Laid}
 use Rattle.laws.proofs.Same.{numbers-refl, numbers-equal, same-long}
 use Rattle.laws.proofs.Overlay.{laid_then}
-use Rattle.records.specs.closing.Closing.{closingWord, decimal, closingText, begins}
+use Rattle.records.specs.closing.Closing.{closing_word, decimal, closing_text, begins}
 
-pub length-closing : (n : ℕ) → length (closingText n) ≡ size_of n n + 15
-unfolding closingText decimal
+pub length-closing : (n : ℕ) → length (closing_text n) ≡ size_of n n + 15
+unfolding closing_text decimal
 length-closing n =
-    length-append closingWord (digits (suc (size_of n n)) n ++ (44 ∷ []))
+    length-append closing_word (digits (suc (size_of n n)) n ++ (44 ∷ []))
     ∙ omega (arith, length-append (digits (suc (size_of n n)) n) (44 ∷ []), length_digits (suc (size_of n n)) n)
 
 -- a machine's number has at most twenty digits
 pub short-closing : (n : ℕ) → n < 2 ^ 64 → size_of n n ≤ 19
 short-closing n h = size_small 19 n n (omega arith)
 
-pub begins-closing : (n : ℕ) → begins (closingText n) ≡ true
-unfolding begins closingText
-begins-closing n = numbers-refl closingWord
+pub begins-closing : (n : ℕ) → begins (closing_text n) ≡ true
+unfolding begins closing_text
+begins-closing n = numbers-refl closing_word
 
 -- the word, the number and the comma, laid one behind the other
-pub laid-closing : {o o₁ o₂ o₃ : List ℕ} {at a b e : ℕ} (n k : ℕ) → k ≡ size_of n n → Laid o at closingWord o₁ a → Laid o₁ a (digits (k + 1) n) o₂ b → Laid o₂ b (44 ∷ []) o₃ e → Laid o at (closingText n) o₃ e
-unfolding closingText decimal
+pub laid-closing : {o o₁ o₂ o₃ : List ℕ} {at a b e : ℕ} (n k : ℕ) → k ≡ size_of n n → Laid o at closing_word o₁ a → Laid o₁ a (digits (k + 1) n) o₂ b → Laid o₂ b (44 ∷ []) o₃ e → Laid o at (closing_text n) o₃ e
+unfolding closing_text decimal
 laid-closing n k e p q r =
     let d : k + 1 ≡ suc (size_of n n) = omega arith in
     laid_then (laid_then p (rw d at q)) r
 
 pub begins-short : (l : List ℕ) → length l < 13 → false ≡ begins l
 unfolding begins
-begins-short l h = sym (same-long eqb (take 13 l) closingWord (λ e. omega (arith, length-take-le-all 13 l h, e)))
+begins-short l h = sym (same-long eqb (take 13 l) closing_word (λ e. omega (arith, length-take-le-all 13 l h, e)))
   where
     length-take-le-all : (n : ℕ) (l : List ℕ) → length l < n → length (take n l) ≡ length l
     length-take-le-all n l h = ap length (take_all n l (omega arith))
 
-digit-no-end : (b : ℕ) → isDigit b ≡ true → isNot 13 b ≡ true
-unfolding isNot
+digit-no-end : (b : ℕ) → is_digit b ≡ true → is_not 13 b ≡ true
+unfolding is_not
 digit-no-end b p = ap not (ne_eqb b 13 (λ e. omega (arith, digit_low b p)))
 
-pub lacks-closing : (n : ℕ) → lacks 13 (closingText n) ≡ true
-unfolding closingText decimal all isNot
+pub lacks-closing : (n : ℕ) → lacks 13 (closing_text n) ≡ true
+unfolding closing_text decimal all is_not
 lacks-closing n =
-    all_append (isNot 13) (decimal n) (44 ∷ [])
-    ∙ rw (all_weaker isDigit (isNot 13) digit-no-end (decimal n) (all_digits (suc (size_of n n)) n))
+    all_append (is_not 13) (decimal n) (44 ∷ [])
+    ∙ rw (all_weaker is_digit (is_not 13) digit-no-end (decimal n) (all_digits_lem (suc (size_of n n)) n))
 
 -- a line without an 'e' (101) does not begin so
 pub begins-not : (l : List ℕ) → lacks 101 l ≡ true → begins l ≡ false
-unfolding begins all isNot
-begins-not l h = go (same_lists eqb (take 13 l) closingWord) refl
+unfolding begins all is_not
+begins-not l h = go (same_lists eqb (take 13 l) closing_word) refl
   where
-    go : (t : Bool) → same_lists eqb (take 13 l) closingWord ≡ t → t ≡ false
+    go : (t : Bool) → same_lists eqb (take 13 l) closing_word ≡ t → t ≡ false
     go true e =
-        let whole : l ≡ closingWord ++ drop 13 l = sym (take-append-drop 13 l) ∙ ap (λ (f : List ℕ). f ++ drop 13 l) (numbers-equal (take 13 l) closingWord e) in
+        let whole : l ≡ closing_word ++ drop 13 l = sym (take-append-drop 13 l) ∙ ap (λ (f : List ℕ). f ++ drop 13 l) (numbers-equal (take 13 l) closing_word e) in
         sym h ∙ ap (lacks 101) whole
     go false e = refl

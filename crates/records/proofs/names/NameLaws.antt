@@ -15,16 +15,16 @@ use Rattle.laws.proofs.Tests.{and_left, and_right}
 use Rattle.laws.proofs.Same.{numbers-equal, same-long}
 use Rattle.laws.proofs.Digits.{length_digits}
 use Rattle.laws.proofs.Overlay.{overlay-append, overlay-comm}
-use Rattle.calendar.specs.Answers.{fullYear, dateOf}
+use Rattle.calendar.specs.Answers.{full_year, date_of}
 use Rattle.calendar.specs.declared.dates.Date.{Date}
 use Rattle.calendar.specs.declared.dates.Dated.TheVariants.{At, Beyond}
 use Rattle.calendar.specs.declared.dates.Found.{Found}
 use Rattle.records.specs.declared.names.kind.KindRead.{KindRead}
-use Rattle.records.specs.names.Kind.{kind_of, letterOf}
+use Rattle.records.specs.names.Kind.{kind_of, letter_of}
 use Rattle.records.specs.declared.names.name.Name.{Name}
 use Rattle.records.specs.declared.names.written.Written.{Written}
 use Rattle.records.specs.names.Written.{Wrote}
-use Rattle.records.specs.names.Name.{ending, framed, dayOfSix, sixOf, spelling, nameText, nameAnswer}
+use Rattle.records.specs.names.Name.{ending, framed, day_of_six, six_of, spelling, name_text, name_answer}
 
 -- ---- the frame
 pub framed-ending : (s : List ℕ) → framed s ≡ true → drop 8 s ≡ ending
@@ -58,8 +58,8 @@ framed-tests s h =
     sym (rw (a, b, c, d, e, f) (simp and-true))
 
 -- ---- the day
-pub six-long : (n : ℕ) → 999999 < n → Found.Fault ≡ dayOfSix n
-unfolding dayOfSix fullYear
+pub six-long : (n : ℕ) → 999999 < n → Found.Fault ≡ day_of_six n
+unfolding day_of_six full_year
 six-long n h =
     let big : 100 ≤ n / 10000 = omega arith in
     rw (le-ltb (n / 10000) 50 (omega arith), le-ltb (n / 10000) 98 (omega arith), lt-leb (n / 10000) 99 (omega arith))
@@ -87,15 +87,15 @@ pub wrote_one : {w : Written} {text before a b : List ℕ} {r s : Written} → W
 wrote_one p q = (p.bytes ∙ sym q.bytes, p.answer ∙ sym q.answer)
 
 module _ (m : Name) (before : List ℕ) where
-  pub wrote_none : dateOf m.day.0 ≡ Beyond → Wrote (nameAnswer m (length before)) (nameText m) before before (Written.Fault 0)
-  unfolding nameAnswer nameText
+  pub wrote_none : date_of m.day.0 ≡ Beyond → Wrote (name_answer m (length before)) (name_text m) before before (Written.Fault 0)
+  unfolding name_answer name_text
   wrote_none e = record { answer = rw e; bytes = rw e }
 
-  pub wrote-short : (x : Date) → dateOf m.day.0 ≡ At x → length before < 12 → Wrote (nameAnswer m (length before)) (nameText m) before before Written.Long
-  unfolding nameAnswer nameText
+  pub wrote-short : (x : Date) → date_of m.day.0 ≡ At x → length before < 12 → Wrote (name_answer m (length before)) (name_text m) before before Written.Long
+  unfolding name_answer name_text
   wrote-short x e h = record { answer = rw (e, lt-leb 12 (length before) h); bytes = rw (e, lt-leb 12 (length before) h) }
 
-  pub wrote-name : (x : Date) (after : List ℕ) → dateOf m.day.0 ≡ At x → 12 ≤ length before → after ≡ overlay before 0 (spelling (letterOf m.kind) (sixOf x))
-      → Wrote (nameAnswer m (length before)) (nameText m) before after (Written.Length 12)
-  unfolding nameAnswer nameText
+  pub wrote-name : (x : Date) (after : List ℕ) → date_of m.day.0 ≡ At x → 12 ≤ length before → after ≡ overlay before 0 (spelling (letter_of m.kind) (six_of x))
+      → Wrote (name_answer m (length before)) (name_text m) before after (Written.Length 12)
+  unfolding name_answer name_text
   wrote-name x after e h p = record { answer = rw (e, le-leb 12 (length before) h); bytes = rw (e, le-leb 12 (length before) h) p }

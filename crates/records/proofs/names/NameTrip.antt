@@ -13,16 +13,16 @@ use lib.ListN.{length, get_or, take, drop, length-drop, take-append-drop}
 use lib.Seq.{take_at, drop_at, take-suc, take-add, drop-drop, drop-cons, length-take-le}
 use borrow.Author.Tests.{leb-true, le-leb, lt-ltb, le-ltb, lt-leb, ltb-true, eqb-true}
 use Rattle.laws.specs.Lists.{same_lists}
-use Rattle.laws.specs.Digits.{digits, spelt, allDigits}
+use Rattle.laws.specs.Digits.{digits, spelt, all_digits}
 use Rattle.laws.proofs.Tests.{and_left, and_right, le-or-lt}
 use Rattle.laws.proofs.Same.{numbers-refl}
-use Rattle.laws.proofs.Digits.{length_digits, all_digits, width-trip, width_back, width-below}
-use Rattle.text.specs.Spelt.{digitsOf}
+use Rattle.laws.proofs.Digits.{length_digits, all_digits_lem, width-trip, width_back, width-below}
+use Rattle.text.specs.Spelt.{digits_of}
 use Rattle.text.specs.declared.Spelt.{Spelt}
 use Rattle.text.specs.declared.Spelt.TheVariants.{Value}
 use Rattle.text.proofs.Spelling.{value_of, value-inv}
-use Rattle.calendar.specs.Dates.{inCalendar, valid, monthDays, dayNumber, yearOf, yearStart}
-use Rattle.calendar.specs.Answers.{dayOf, dateOf, dateIn, fullYear}
+use Rattle.calendar.specs.Dates.{in_calendar, valid, month_days, day_number, year_of, year_start}
+use Rattle.calendar.specs.Answers.{day_of, date_of, date_in, full_year}
 use Rattle.calendar.specs.declared.dates.CalendarDays.{CalendarDays}
 use Rattle.calendar.specs.declared.dates.Date.{Date}
 use Rattle.calendar.specs.declared.dates.Dated.{Dated}
@@ -31,7 +31,7 @@ use Rattle.calendar.specs.declared.dates.Found.{Found}
 use Rattle.calendar.specs.declared.dates.Found.TheVariants.{Day}
 use Rattle.calendar.specs.declared.dates.FullYear.{FullYear}
 use Rattle.calendar.specs.declared.dates.FullYear.TheVariants.{Year}
-use Rattle.calendar.proofs.DateLaws.{monthDays-none, monthDays-le}
+use Rattle.calendar.proofs.DateLaws.{month_days-none, month_days-le}
 use Rattle.calendar.proofs.Dating.{date-back, day-back}
 use Rattle.records.specs.declared.names.kind.FileKind.{FileKind}
 use Rattle.records.specs.declared.names.kind.FileKind.TheVariants.{Default, Correction, Request, Response}
@@ -39,28 +39,28 @@ use Rattle.records.specs.declared.names.kind.KindRead.{KindRead}
 use Rattle.records.specs.declared.names.kind.KindRead.TheVariants.{Kind}
 use Rattle.records.specs.declared.names.name.Name.{Name}
 use Rattle.records.specs.declared.names.name.NameRead.{NameRead}
-use Rattle.records.specs.names.Kind.{letterOf, kind_of}
-use Rattle.records.specs.names.Name.{ending, framed, onKind, onDigits, onDay, dayIn, dayOfSix, name_of, sixOf, spelling, name_at, nameText}
+use Rattle.records.specs.names.Kind.{letter_of, kind_of}
+use Rattle.records.specs.names.Name.{ending, framed, on_kind, on_digits, on_day, day_in, day_of_six, name_of, six_of, spelling, name_at, name_text}
 use Rattle.records.proofs.names.NameLaws.{framed-first, framed-ending, framed-length}
 
 -- ---- the letter
-letter-read : (k : FileKind) → kind_of (letterOf k) ≡ Kind k
+letter-read : (k : FileKind) → kind_of (letter_of k) ≡ Kind k
 unfolding kind_of
 letter-read Default = refl
 letter-read Correction = refl
 letter-read Request = refl
 letter-read Response = refl
 
-letter-written : (b : ℕ) (k : FileKind) → kind_of b ≡ Kind k → letterOf k ≡ b
+letter-written : (b : ℕ) (k : FileKind) → kind_of b ≡ Kind k → letter_of k ≡ b
 unfolding kind_of
 letter-written b k e = go (eqb b 68) refl (eqb b 75) refl (eqb b 81) refl (eqb b 82) refl e
   where
     go : (s : Bool) → eqb b 68 ≡ s → (t : Bool) → eqb b 75 ≡ t → (u : Bool) → eqb b 81 ≡ u → (v : Bool) → eqb b 82 ≡ v
-        → cond s (Kind Default) (cond t (Kind Correction) (cond u (Kind Request) (cond v (Kind Response) KindRead.Fault))) ≡ Kind k → letterOf k ≡ b
-    go true p t q u r v w e = let i : Default ≡ k = cc in ap letterOf (sym i) ∙ sym (eqb-true b 68 p)
-    go false p true q u r v w e = let i : Correction ≡ k = cc in ap letterOf (sym i) ∙ sym (eqb-true b 75 q)
-    go false p false q true r v w e = let i : Request ≡ k = cc in ap letterOf (sym i) ∙ sym (eqb-true b 81 r)
-    go false p false q false r true w e = let i : Response ≡ k = cc in ap letterOf (sym i) ∙ sym (eqb-true b 82 w)
+        → cond s (Kind Default) (cond t (Kind Correction) (cond u (Kind Request) (cond v (Kind Response) KindRead.Fault))) ≡ Kind k → letter_of k ≡ b
+    go true p t q u r v w e = let i : Default ≡ k = cc in ap letter_of (sym i) ∙ sym (eqb-true b 68 p)
+    go false p true q u r v w e = let i : Correction ≡ k = cc in ap letter_of (sym i) ∙ sym (eqb-true b 75 q)
+    go false p false q true r v w e = let i : Request ≡ k = cc in ap letter_of (sym i) ∙ sym (eqb-true b 81 r)
+    go false p false q false r true w e = let i : Response ≡ k = cc in ap letter_of (sym i) ∙ sym (eqb-true b 82 w)
     go false p false q false r false w e = absurd (let z : ◌≡◌ {A = ℕ} 0 1 = cc in omega arith)
 
 -- ---- a date in six digits
@@ -70,15 +70,15 @@ record Small (x : Date) : Type 0 where
   pub month : x.month < 100
   pub day : x.day < 100
 
-day-valid : (x : Date) (d : CalendarDays) → dayOf x ≡ Day d → valid x.year x.month x.day ≡ true
-unfolding dayOf
+day-valid : (x : Date) (d : CalendarDays) → day_of x ≡ Day d → valid x.year x.month x.day ≡ true
+unfolding day_of
 day-valid x d e = go (valid x.year x.month x.day) e
   where
-    go : (t : Bool) → cond t (Day (record { 0 = dayNumber x.year x.month x.day })) Found.Fault ≡ Day d → t ≡ true
+    go : (t : Bool) → cond t (Day (record { 0 = day_number x.year x.month x.day })) Found.Fault ≡ Day d → t ≡ true
     go true e = refl
     go false e = absurd (let z : ◌≡◌ {A = ℕ} 0 1 = cc in omega arith)
 
-small : (x : Date) (d : CalendarDays) → dayOf x ≡ Day d → Small x
+small : (x : Date) (d : CalendarDays) → day_of x ≡ Day d → Small x
 unfolding valid
 small x d e =
     let v = day-valid x d e in
@@ -87,16 +87,16 @@ small x d e =
     let from : 1998 ≤ x.year = leb-true _ _ (and_left (leb 1998 x.year) _ v) in
     let to : x.year ≤ 2049 = leb-true _ _ (and_left (leb x.year 2049) _ a) in
     let one : 1 ≤ x.day = leb-true _ _ (and_left (leb 1 x.day) _ b) in
-    let most : x.day ≤ monthDays x.year x.month = leb-true _ _ (and_right (leb 1 x.day) _ b) in
+    let most : x.day ≤ month_days x.year x.month = leb-true _ _ (and_right (leb 1 x.day) _ b) in
     record {
       from = from;
       to = to;
-      month = ⊎_elim (λ (h : 13 ≤ x.month). absurd (omega (arith, monthDays-none x.year x.month h))) (λ (h : x.month < 13). omega arith) (le-or-lt 13 x.month);
-      day = omega (arith, monthDays-le x.year x.month);
+      month = ⊎_elim (λ (h : 13 ≤ x.month). absurd (omega (arith, month_days-none x.year x.month h))) (λ (h : x.month < 13). omega arith) (le-or-lt 13 x.month);
+      day = omega (arith, month_days-le x.year x.month);
     }
 
-year-read : (y : ℕ) → 1998 ≤ y → y ≤ 2049 → fullYear (y % 100) ≡ Year y
-unfolding fullYear
+year-read : (y : ℕ) → 1998 ≤ y → y ≤ 2049 → full_year (y % 100) ≡ Year y
+unfolding full_year
 year-read y a b = ⊎_elim new old (le-or-lt 2000 y)
   where
     new : 2000 ≤ y → cond (ltb (y % 100) 50) (Year (2000 + y % 100)) (cond (ltb (y % 100) 98) FullYear.Fault (cond (leb (y % 100) 99) (Year (1900 + y % 100)) FullYear.Fault)) ≡ Year y
@@ -110,8 +110,8 @@ year-read y a b = ⊎_elim new old (le-or-lt 2000 y)
         rw (le-ltb (y % 100) 50 (omega arith), le-ltb (y % 100) 98 (omega arith), le-leb (y % 100) 99 (omega arith), e)
 
 -- two digits that tell a year are its last two
-year-written : (t y : ℕ) → fullYear t ≡ Year y → (y % 100 ≡ t) × (t < 100)
-unfolding fullYear
+year-written : (t y : ℕ) → full_year t ≡ Year y → (y % 100 ≡ t) × (t < 100)
+unfolding full_year
 year-written t y e = go (ltb t 50) refl (ltb t 98) (leb t 99) refl e
   where
     go : (a : Bool) → ltb t 50 ≡ a → (b c : Bool) → leb t 99 ≡ c → cond a (Year (2000 + t)) (cond b FullYear.Fault (cond c (Year (1900 + t)) FullYear.Fault)) ≡ Year y → (y % 100 ≡ t) × (t < 100)
@@ -120,12 +120,12 @@ year-written t y e = go (ltb t 50) refl (ltb t 98) (leb t 99) refl e
     go false p false true q e = let i : 1900 + t ≡ y = cc in (omega (arith, leb-true t 99 q), omega (arith, leb-true t 99 q))
     go false p false false q e = absurd (let z : ◌≡◌ {A = ℕ} 0 1 = cc in omega arith)
 
-six-below : (x : Date) → Small x → sixOf x < 10 ^ 6
-unfolding sixOf
+six-below : (x : Date) → Small x → six_of x < 10 ^ 6
+unfolding six_of
 six-below x s = omega arith
 
-six-read : (x : Date) (d : CalendarDays) → dayOf x ≡ Day d → dayOfSix (sixOf x) ≡ Day d
-unfolding dayOfSix sixOf
+six-read : (x : Date) (d : CalendarDays) → day_of x ≡ Day d → day_of_six (six_of x) ≡ Day d
+unfolding day_of_six six_of
 six-read x d e =
     let s = small x d e in
     let n : ℕ = x.year % 100 * 10000 + x.month * 100 + x.day in
@@ -135,21 +135,21 @@ six-read x d e =
     rw (y, year-read x.year s.from s.to, m, t) e
 
 -- the date that six digits tell has these six digits
-six-written : (n : ℕ) (d : CalendarDays) → dayOfSix n ≡ Day d → (x : Date) × (dayOf x ≡ Day d) × (sixOf x ≡ n)
-unfolding dayOfSix sixOf
-six-written n d e = go (fullYear (n / 10000)) refl e
+six-written : (n : ℕ) (d : CalendarDays) → day_of_six n ≡ Day d → (x : Date) × (day_of x ≡ Day d) × (six_of x ≡ n)
+unfolding day_of_six six_of
+six-written n d e = go (full_year (n / 10000)) refl e
   where
-    go : (f : FullYear) → fullYear (n / 10000) ≡ f → dayIn f n ≡ Day d → (x : Date) × (dayOf x ≡ Day d) × (x.year % 100 * 10000 + x.month * 100 + x.day ≡ n)
+    go : (f : FullYear) → full_year (n / 10000) ≡ f → day_in f n ≡ Day d → (x : Date) × (day_of x ≡ Day d) × (x.year % 100 * 10000 + x.month * 100 + x.day ≡ n)
     go (Year y) p e =
         let w = year-written (n / 10000) y p in
         (record { year = y; month = n / 100 % 100; day = n % 100 }, e, omega (arith, w.0, w.1))
     go FullYear.Fault p e = absurd (let z : ◌≡◌ {A = ℕ} 0 1 = cc in omega arith)
 
 -- ---- a day of the calendar has a date
-dated-inside : (n : ℕ) → inCalendar n ≡ true → dateOf n ≡ Beyond → ⊥
-unfolding dateOf
+dated-inside : (n : ℕ) → in_calendar n ≡ true → date_of n ≡ Beyond → ⊥
+unfolding date_of
 dated-inside n h e =
-    let f : cond (inCalendar n) (At (dateIn (yearOf n) (n - yearStart (yearOf n)))) Beyond ≡ Beyond = e in
+    let f : cond (in_calendar n) (At (date_in (year_of n) (n - year_start (year_of n)))) Beyond ≡ Beyond = e in
     let z : ◌≡◌ {A = ℕ} 0 1 = cc in
     omega arith
 
@@ -167,25 +167,25 @@ module _ (letter n : ℕ) where
   unfolding spelling
   spelling-letter = refl
 
-  spelling-value : n < 10 ^ 6 → digitsOf false (take 6 (drop 2 (spelling letter n))) ≡ Value n
+  spelling-value : n < 10 ^ 6 → digits_of false (take 6 (drop 2 (spelling letter n))) ≡ Value n
   spelling-value h =
-      ap (digitsOf false) spelling-digits
-      ∙ value_of false (digits 6 n) (omega (arith, length_digits 6 n)) (all_digits 6 n)
+      ap (digits_of false) spelling-digits
+      ∙ value_of false (digits 6 n) (omega (arith, length_digits 6 n)) (all_digits_lem 6 n)
       ∙ ap Value (width-trip 6 n h)
 
-read-spelling : (m : Name) (x : Date) → dayOf x ≡ Day m.day → name_of (spelling (letterOf m.kind) (sixOf x)) ≡ NameRead.Name m
+read-spelling : (m : Name) (x : Date) → day_of x ≡ Day m.day → name_of (spelling (letter_of m.kind) (six_of x)) ≡ NameRead.Name m
 unfolding name_of
 read-spelling m x e =
-    let l : ℕ = letterOf m.kind in
-    let n : ℕ = sixOf x in
+    let l : ℕ = letter_of m.kind in
+    let n : ℕ = six_of x in
     rw
     (spelling-framed l n, spelling-letter l n, letter-read m.kind, spelling-value l n (six-below x (small x m.day e)), six-read x m.day e)
 
-pub name-read : (m : Name) → inCalendar m.day.0 ≡ true → name_of (nameText m) ≡ NameRead.Name m
-unfolding nameText
-name-read m h = go (dateOf m.day.0) refl
+pub name-read : (m : Name) → in_calendar m.day.0 ≡ true → name_of (name_text m) ≡ NameRead.Name m
+unfolding name_text
+name-read m h = go (date_of m.day.0) refl
   where
-    go : (t : Dated) → dateOf m.day.0 ≡ t → name_of (name_at m.kind t) ≡ NameRead.Name m
+    go : (t : Dated) → date_of m.day.0 ≡ t → name_of (name_at m.kind t) ≡ NameRead.Name m
     go (At x) e = read-spelling m x (day-back m.day.0 x e)
     go Beyond e = absurd (dated-inside m.day.0 h e)
 
@@ -194,23 +194,23 @@ record Read (s : List ℕ) (m : Name) : Type 0 where
   pub frame : framed s ≡ true
   pub letter : kind_of (get_or s 1 0) ≡ Kind m.kind
   pub number : ℕ
-  pub spelt : digitsOf false (take 6 (drop 2 s)) ≡ Value number
-  pub day : dayOfSix number ≡ Day m.day
+  pub spelt : digits_of false (take 6 (drop 2 s)) ≡ Value number
+  pub day : day_of_six number ≡ Day m.day
 
 read-parts : (s : List ℕ) (m : Name) → name_of s ≡ NameRead.Name m → Read s m
 unfolding name_of
-read-parts s m e = go (framed s) refl (kind_of (get_or s 1 0)) refl (digitsOf false (take 6 (drop 2 s))) refl e
+read-parts s m e = go (framed s) refl (kind_of (get_or s 1 0)) refl (digits_of false (take 6 (drop 2 s))) refl e
   where
-    last : (k : FileKind) (n : ℕ) (f : Found) → framed s ≡ true → kind_of (get_or s 1 0) ≡ Kind k → digitsOf false (take 6 (drop 2 s)) ≡ Value n → dayOfSix n ≡ f
-        → onDay f (λ d. NameRead.Name (record { kind = k; day = d })) ≡ NameRead.Name m → Read s m
+    last : (k : FileKind) (n : ℕ) (f : Found) → framed s ≡ true → kind_of (get_or s 1 0) ≡ Kind k → digits_of false (take 6 (drop 2 s)) ≡ Value n → day_of_six n ≡ f
+        → on_day f (λ d. NameRead.Name (record { kind = k; day = d })) ≡ NameRead.Name m → Read s m
     last k n (Day d) a b c p e =
         let i : ◌≡◌ {A = Name} (record { kind = k; day = d }) m = cc in
         record { frame = a; letter = b ∙ ap (λ (x : Name). Kind x.kind) i; number = n; spelt = c; day = p ∙ ap (λ (x : Name). Day x.day) i }
     last k n Found.Fault a b c p e = absurd (let z : ◌≡◌ {A = ℕ} 0 1 = cc in omega arith)
 
-    go : (t : Bool) → framed s ≡ t → (k : KindRead) → kind_of (get_or s 1 0) ≡ k → (v : Spelt) → digitsOf false (take 6 (drop 2 s)) ≡ v
-        → cond t (onKind k λ k. onDigits v λ n. onDay (dayOfSix n) λ d. NameRead.Name (record { kind = k; day = d })) NameRead.Fault ≡ NameRead.Name m → Read s m
-    go true a (Kind k) b (Value n) c e = last k n (dayOfSix n) a b c refl e
+    go : (t : Bool) → framed s ≡ t → (k : KindRead) → kind_of (get_or s 1 0) ≡ k → (v : Spelt) → digits_of false (take 6 (drop 2 s)) ≡ v
+        → cond t (on_kind k λ k. on_digits v λ n. on_day (day_of_six n) λ d. NameRead.Name (record { kind = k; day = d })) NameRead.Fault ≡ NameRead.Name m → Read s m
+    go true a (Kind k) b (Value n) c e = last k n (day_of_six n) a b c refl e
     go true a (Kind k) b Spelt.Fault c e = absurd (let z : ◌≡◌ {A = ℕ} 0 1 = cc in omega arith)
     go true a KindRead.Fault b v c e = absurd (let z : ◌≡◌ {A = ℕ} 0 1 = cc in omega arith)
     go false a k b v c e = absurd (let z : ◌≡◌ {A = ℕ} 0 1 = cc in omega arith)
@@ -221,8 +221,8 @@ twelve s h =
     sym (take-append-drop 1 s)
     ∙ ap (λ (r : List ℕ). take 1 s ++ r) (drop-cons s 1 0 (omega arith) ∙ ap (λ (r : List ℕ). get_or s 1 0 ∷ r) (sym (take-append-drop 6 (drop 2 s)) ∙ ap (λ (r : List ℕ). take 6 (drop 2 s) ++ r) (drop-drop 6 2 s)))
 
-pub name-written : (s : List ℕ) (m : Name) → name_of s ≡ NameRead.Name m → nameText m ≡ s
-unfolding nameText spelling
+pub name-written : (s : List ℕ) (m : Name) → name_of s ≡ NameRead.Name m → name_text m ≡ s
+unfolding name_text spelling
 name-written s m e =
     let r = read-parts s m e in
     let x = six-written r.number m.day r.day in

@@ -6,18 +6,18 @@ use Rattle.records.specs.declared.names.kind.KindRead.{KindRead}
 use Rattle.records.specs.declared.names.kind.KindRead.TheVariants.{Kind, Fault}
 
 -- D, K, Q, R
-abbrev pub letterOf : FileKind → ℕ
-letterOf Default = 68
-letterOf Correction = 75
-letterOf Request = 81
-letterOf Response = 82
+abbrev pub letter_of : FileKind → ℕ
+letter_of Default = 68
+letter_of Correction = 75
+letter_of Request = 81
+letter_of Response = 82
 
 unfoldable pub kind_of : ℕ → KindRead
 kind_of b = cond (eqb b 68) (Kind Default) (cond (eqb b 75) (Kind Correction) (cond (eqb b 81) (Kind Request) (cond (eqb b 82) (Kind Response) Fault)))
 
 -- whether the kind's tables ask for a closing record
-abbrev pub hasClosing : FileKind → Bool
-hasClosing Default = true
-hasClosing Correction = true
-hasClosing Request = false
-hasClosing Response = true
+abbrev pub has_closing : FileKind → Bool
+has_closing Default = true
+has_closing Correction = true
+has_closing Request = false
+has_closing Response = true

@@ -2,10 +2,10 @@
 use Rattle.std.specs.Prelude.{ℕ, ◌+◌, ◌*◌, ◌/◌, ◌%◌, Bool, false, cond, ◌&&◌, List, [], ◌∷◌, ◌++◌, eqb, leb, length, get_or, take, drop}
 use Rattle.laws.specs.Lists.{same_lists}
 use Rattle.laws.specs.Digits.{digits}
-use Rattle.text.specs.Spelt.{digitsOf}
+use Rattle.text.specs.Spelt.{digits_of}
 use Rattle.text.specs.declared.Spelt.{Spelt}
 use Rattle.text.specs.declared.Spelt.TheVariants.{Value}
-use Rattle.calendar.specs.Answers.{dayOf, dateOf, fullYear}
+use Rattle.calendar.specs.Answers.{day_of, date_of, full_year}
 use Rattle.calendar.specs.declared.dates.CalendarDays.{CalendarDays}
 use Rattle.calendar.specs.declared.dates.Date.{Date}
 use Rattle.calendar.specs.declared.dates.Dated.{Dated}
@@ -21,7 +21,7 @@ use Rattle.records.specs.declared.names.name.Name.{Name}
 use Rattle.records.specs.declared.names.name.NameRead.{NameRead}
 use Rattle.records.specs.declared.names.written.Written.{Written}
 use Rattle.records.specs.declared.names.written.Written.TheVariants.{Length, Long}
-use Rattle.records.specs.names.Kind.{kind_of, letterOf}
+use Rattle.records.specs.names.Kind.{kind_of, letter_of}
 
 -- ".txt"
 abbrev pub ending : List ℕ
@@ -31,37 +31,37 @@ ending = 46 ∷ 116 ∷ 120 ∷ 116 ∷ []
 unfoldable pub framed : List ℕ → Bool
 framed s = same_lists eqb (take 1 s) (49 ∷ []) && same_lists eqb (drop 8 s) ending
 
-abbrev pub onKind : KindRead → (FileKind → NameRead) → NameRead
-onKind (Kind k) next = next k
-onKind KindRead.Fault next = NameRead.Fault
+abbrev pub on_kind : KindRead → (FileKind → NameRead) → NameRead
+on_kind (Kind k) next = next k
+on_kind KindRead.Fault next = NameRead.Fault
 
-abbrev pub onDigits : Spelt → (ℕ → NameRead) → NameRead
-onDigits (Value n) next = next n
-onDigits Spelt.Fault next = NameRead.Fault
+abbrev pub on_digits : Spelt → (ℕ → NameRead) → NameRead
+on_digits (Value n) next = next n
+on_digits Spelt.Fault next = NameRead.Fault
 
-abbrev pub onDay : Found → (CalendarDays → NameRead) → NameRead
-onDay (Day d) next = next d
-onDay Found.Fault next = NameRead.Fault
+abbrev pub on_day : Found → (CalendarDays → NameRead) → NameRead
+on_day (Day d) next = next d
+on_day Found.Fault next = NameRead.Fault
 
 -- the day of month and day of a year, mmdd as one number
-abbrev pub dayIn : FullYear → ℕ → Found
-dayIn (Year y) n = dayOf (record { year = y; month = n / 100 % 100; day = n % 100 })
-dayIn FullYear.Fault n = Found.Fault
+abbrev pub day_in : FullYear → ℕ → Found
+day_in (Year y) n = day_of (record { year = y; month = n / 100 % 100; day = n % 100 })
+day_in FullYear.Fault n = Found.Fault
 
 -- the day of yymmdd as one number
-unfoldable pub dayOfSix : ℕ → Found
-dayOfSix n = dayIn (fullYear (n / 10000)) n
+unfoldable pub day_of_six : ℕ → Found
+day_of_six n = day_in (full_year (n / 10000)) n
 
 -- the kind and the day that a name tells
 unfoldable pub name_of : List ℕ → NameRead
 name_of s =
     cond (framed s)
-    (onKind (kind_of (get_or s 1 0)) λ k. onDigits (digitsOf false (take 6 (drop 2 s))) λ n. onDay (dayOfSix n) λ d. NameRead.Name (record { kind = k; day = d }))
+    (on_kind (kind_of (get_or s 1 0)) λ k. on_digits (digits_of false (take 6 (drop 2 s))) λ n. on_day (day_of_six n) λ d. NameRead.Name (record { kind = k; day = d }))
     NameRead.Fault
 
 -- yymmdd of a date as one number
-unfoldable pub sixOf : Date → ℕ
-sixOf x = x.year % 100 * 10000 + x.month * 100 + x.day
+unfoldable pub six_of : Date → ℕ
+six_of x = x.year % 100 * 10000 + x.month * 100 + x.day
 
 -- the bytes of a name: "1", the kind's letter, six digits, ".txt"
 unfoldable pub spelling : ℕ → ℕ → List ℕ
@@ -69,16 +69,16 @@ spelling letter n = 49 ∷ letter ∷ (digits 6 n ++ ending)
 
 -- the name of a kind and a date; a day past the calendar's end has none
 abbrev pub name_at : FileKind → Dated → List ℕ
-name_at k (At x) = spelling (letterOf k) (sixOf x)
+name_at k (At x) = spelling (letter_of k) (six_of x)
 name_at k Beyond = []
 
-unfoldable pub nameText : Name → List ℕ
-nameText m = name_at m.kind (dateOf m.day.0)
+unfoldable pub name_text : Name → List ℕ
+name_text m = name_at m.kind (date_of m.day.0)
 
 -- what the writer of a name answers, to a buffer of `room` bytes
-abbrev pub answerAt : Dated → ℕ → Written
-answerAt (At x) room = cond (leb 12 room) (Length 12) Long
-answerAt Beyond room = Written.Fault 0
+abbrev pub answer_at : Dated → ℕ → Written
+answer_at (At x) room = cond (leb 12 room) (Length 12) Long
+answer_at Beyond room = Written.Fault 0
 
-unfoldable pub nameAnswer : Name → ℕ → Written
-nameAnswer m room = answerAt (dateOf m.day.0) room
+unfoldable pub name_answer : Name → ℕ → Written
+name_answer m room = answer_at (date_of m.day.0) room

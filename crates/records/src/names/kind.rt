@@ -1,6 +1,6 @@
 // The kinds of files. Default and correction files are filed; request and response files are only read and written.
 ghost use Rattle.std.specs.Prelude.{◌≡◌};
-ghost use Rattle.records.specs.names.Kind.{kind_of, letterOf, hasClosing};
+ghost use Rattle.records.specs.names.Kind.{kind_of, letter_of, has_closing};
 
 #[derive(Drop)]
 pub enum FileKind {
@@ -31,7 +31,7 @@ impl FileKind {
     }
 
     pub fn letter(self) -> u8
-        ensures { result ≡ letterOf self }
+        ensures { result ≡ letter_of self }
     {
         match self {
             FileKind::Default => 68,
@@ -43,7 +43,7 @@ impl FileKind {
 
     // Whether the kind's tables ask for a closing record.
     pub fn has_closing(self) -> bool
-        ensures { result ≡ hasClosing self }
+        ensures { result ≡ has_closing self }
     {
         match self {
             FileKind::Default => true,

@@ -1,7 +1,7 @@
 // A file's name: `1`, the kind's letter, yymmdd, `.txt`.
 ghost use Rattle.std.specs.Prelude.{◌≡◌, ◌≤◌, length};
 ghost use Rattle.laws.specs.Overlay.{overlay};
-ghost use Rattle.records.specs.names.Name.{framed, dayOfSix, name_of, sixOf, spelling, nameText, nameAnswer};
+ghost use Rattle.records.specs.names.Name.{framed, day_of_six, name_of, six_of, spelling, name_text, name_answer};
 ghost use Rattle.records.specs.names.Written.{Wrote};
 
 use crate::names::kind::{FileKind, KindRead};
@@ -33,7 +33,7 @@ fn is_framed(s: &[u8]) -> bool
 
 // The day that yymmdd, as one number, names.
 fn day_of_six(n: u64) -> Found
-    ensures { result ≡ dayOfSix n }
+    ensures { result ≡ day_of_six n }
 {
     if 999999 < n {
         return Found::Fault;
@@ -48,7 +48,7 @@ fn day_of_six(n: u64) -> Found
 
 // yymmdd of a date, as one number.
 fn six(x: Date) -> u64
-    ensures { result ≡ sixOf x }
+    ensures { result ≡ six_of x }
 {
     let year = x.year as u64;
     let month = x.month as u64;
@@ -91,7 +91,7 @@ impl Name {
 
     // The name into a lent buffer; 4 where its day is past the calendar's end.
     pub fn write(self, out: &mut [u8]) -> Written
-        ensures { Wrote (nameAnswer self (length out.old)) (nameText self) out.old out.new result }
+        ensures { Wrote (name_answer self (length out.old)) (name_text self) out.old out.new result }
     {
         let kind = self.kind;
         let day = self.day;

@@ -10,31 +10,31 @@ use lib.ListN.{length, take}
 use lib.Seq.{take_all}
 use Rattle.fields.specs.declared.number.Number.{Number}
 use Rattle.model.specs.Rules.{TableLine}
-use Rattle.model.specs.Model.{Filed, Reached, entryOver, noFileTwice}
+use Rattle.model.specs.Model.{Filed, Reached, entry_over, no_file_twice}
 use Rattle.model.proofs.Stores.{reached-worked}
 use Rattle.rules.specs.Rules.{rules}
 use Rattle.rules.proofs.Promises.{entries-worked-afresh}
-use Rattle.store.specs.journals.Reads.{readFiles}
+use Rattle.store.specs.journals.Reads.{read_files}
 use Rattle.store.specs.numbers.Lines.{lines_of}
-use Rattle.store.specs.Reads.{Buffers, Held, lent, tableLine, held, isReadable, reads}
+use Rattle.store.specs.Reads.{Buffers, Held, lent, table_line, held, is_readable, reads}
 use Rattle.store.proofs.Checks.{reads-some}
 use Rattle.store.proofs.Whole.{whole-files, files-once}
 use Rattle.filing.proofs.checking.Stored.{held-once}
 use Rattle.filing.specs.Effect.{store_of}
 use Rattle.filing.proofs.Promises.{read-so, filed-on}
-use Rattle.reworking.specs.Reworking.{reworkedEntries, entriesAfter}
+use Rattle.reworking.specs.Reworking.{reworked_entries, entries_after}
 use Rattle.reworking.proofs.Promises.{reworked-reads}
 use Rattle.reworking.proofs.Listing.{accepted}
 use Rattle.reworking.specs.resuming.Resumed.{Resumed, rework, file}
 
-module _ (b : Buffers) (whole : isReadable b ≡ true) (n : ℕ) (all : length (held b).files ≤ n) where
+module _ (b : Buffers) (whole : is_readable b ≡ true) (n : ℕ) (all : length (held b).files ≤ n) where
   abbrev files : List Filed
-  files = readFiles b.files b.regular b.corrections
+  files = read_files b.files b.regular b.corrections
 
   abbrev lines : List (TableLine Number)
-  lines = map tableLine (lines_of b.table)
+  lines = map table_line (lines_of b.table)
 
-  once : noFileTwice files ≡ true
+  once : no_file_twice files ≡ true
   once = held-once b.files b.regular b.corrections ∙ files-once b.files (whole-files b whole)
 
   over-all : take n files ≡ files
@@ -43,21 +43,21 @@ module _ (b : Buffers) (whole : isReadable b ≡ true) (n : ℕ) (all : length (
 
   -- the buffers as they are left
   abbrev reworked : Buffers
-  reworked = lent b.table b.files b.regular b.corrections (reworkedEntries (take n files) lines b.entries)
+  reworked = lent b.table b.files b.regular b.corrections (reworked_entries (take n files) lines b.entries)
 
-  left-reached : (isReadable reworked ≡ true) × Reached rules (store_of (held reworked))
+  left-reached : (is_readable reworked ≡ true) × Reached rules (store_of (held reworked))
   left-reached =
       let w = read-so reworked _ (reworked-reads b whole n) in
       (w.0, rw (w.1, over-all) (reached-worked rules lines files once))
 
-pub resumed-reached : {b : Buffers} → Resumed b → (isReadable b ≡ true) × Reached rules (store_of (held b))
+pub resumed-reached : {b : Buffers} → Resumed b → (is_readable b ≡ true) × Reached rules (store_of (held b))
 unfolding held
 resumed-reached (rework {b} {n} {count} {list} {entries} {listed} all s) =
     let a = accepted b n count list s.answers in
-    let left : entries ≡ entriesAfter n (some (held b)) b.entries = s.leaves ∙ ap (λ (h : Option Held). entriesAfter n h b.entries) a.1 in
+    let left : entries ≡ entries_after n (some (held b)) b.entries = s.leaves ∙ ap (λ (h : Option Held). entries_after n h b.entries) a.1 in
     rw left (left-reached b a.0 n all)
 resumed-reached (file c {kind} {publisher} {day} {text} s) = let p = resumed-reached c in filed-on kind publisher day text s p.0 p.1
 
 -- demand 3: every number's entry equals the one worked out afresh from the journals
-pub demand-3-resumed : {b : Buffers} → Resumed b → (reads b ≡ some (held b)) × ((held b).entries ≡ map (entryOver rules (held b).files) (held b).lines)
+pub demand-3-resumed : {b : Buffers} → Resumed b → (reads b ≡ some (held b)) × ((held b).entries ≡ map (entry_over rules (held b).files) (held b).lines)
 demand-3-resumed {b} c = let p = resumed-reached c in (reads-some b p.0, entries-worked-afresh p.1)

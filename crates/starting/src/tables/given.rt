@@ -1,6 +1,6 @@
 // A line of the number table as it is given: `num1,num2,OWNER,ddmmyyyy`.
 ghost use Rattle.std.specs.Prelude.{◌≡◌};
-ghost use Rattle.starting.specs.tables.Given.{lineGiven};
+ghost use Rattle.starting.specs.tables.Given.{line_given};
 
 use fields::code::{Code, CodeRead};
 use fields::date;
@@ -15,7 +15,7 @@ pub enum LineRead {
 }
 
 pub fn read_line(l: &[u8]) -> LineRead
-    ensures { result ≡ lineGiven l.now }
+    ensures { result ≡ line_given l.now }
 {
     if text::cuts(l, 44) != 3 {
         return LineRead::Fault;

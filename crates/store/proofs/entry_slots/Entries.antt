@@ -17,8 +17,8 @@ use Rattle.laws.proofs.Words.{word-part}
 use Rattle.entries.specs.declared.entry.Entry.{Entry}
 use Rattle.entries.specs.declared.entry.Last.{Last}
 use Rattle.entries.specs.declared.entry.Place.{Place}
-use Rattle.store.specs.entry_slots.Places.{placeSlot, place_of, goodPlace}
-use Rattle.store.specs.entry_slots.Entries.{lastNo, last_of, places_of, entrySlot, entry_of, entryAt, goodEntry}
+use Rattle.store.specs.entry_slots.Places.{place_slot, place_of, good_place}
+use Rattle.store.specs.entry_slots.Entries.{last_no, last_of, places_of, entry_slot, entry_of, entry_at, good_entry}
 
 -- a place among eight, cut from the buffer
 pub place-cut : (s : List ℕ) (at i : ℕ) → i < 8 → part s (at + i * 12) 12 ≡ slot_at 0 12 (part s at 96) i
@@ -41,8 +41,8 @@ module _ (s : List ℕ) (k : ℕ) where
 
   pub entry_read : (holder w : ℕ) (last : Last) (places : List Place) → holder ≡ word_at 2 s (k * 100) → w ≡ word_at 2 s (k * 100 + 2) → last ≡ last_of w
       → places ≡ places_of (part s (k * 100 + 4) 96)
-      → ◌≡◌ {A = Entry} (record { holder = record { 0 = holder }; last = last; places = places }) (entryAt s k)
-  unfolding entryAt entry_of
+      → ◌≡◌ {A = Entry} (record { holder = record { 0 = holder }; last = last; places = places }) (entry_at s k)
+  unfolding entry_at entry_of
   entry_read holder w last places eh ew el ep =
       let h' : holder ≡ word_at 2 (slot_at 0 100 s k) 0 = eh ∙ sym holder-word in
       let l' : last ≡ last_of (word_at 2 (slot_at 0 100 s k) 2) = el ∙ ap last_of (ew ∙ sym (head-word 2 (lit≤ tt))) in
@@ -50,24 +50,24 @@ module _ (s : List ℕ) (k : ℕ) where
       λ i. record { holder = record { 0 = h' i }; last = l' i; places = p' i }
 
   module _ (h w : ℕ) (eh : h ≡ word_at 2 s (k * 100)) (ew : w ≡ word_at 2 s (k * 100 + 2)) where
-    pub holder-beyond : 999 < h → false ≡ goodEntry (slot_at 0 100 s k)
-    unfolding goodEntry
+    pub holder-beyond : 999 < h → false ≡ good_entry (slot_at 0 100 s k)
+    unfolding good_entry
     holder-beyond b = rw (holder-word, ← eh, lt-leb h 999 b)
 
-    pub date-beyond : h ≤ 999 → 18993 < w → false ≡ goodEntry (slot_at 0 100 s k)
-    unfolding goodEntry
+    pub date-beyond : h ≤ 999 → 18993 < w → false ≡ good_entry (slot_at 0 100 s k)
+    unfolding good_entry
     date-beyond a b = rw (holder-word, ← eh, le-leb h 999 a, head-word 2 (lit≤ tt), ← ew, lt-leb w 18993 b)
 
-    pub entry-good : h ≤ 999 → w ≤ 18993 → all goodPlace (table 8 (slot_at 0 12 (part s (k * 100 + 4) 96))) ≡ goodEntry (slot_at 0 100 s k)
-    unfolding goodEntry
+    pub entry-good : h ≤ 999 → w ≤ 18993 → all good_place (table 8 (slot_at 0 12 (part s (k * 100 + 4) 96))) ≡ good_entry (slot_at 0 100 s k)
+    unfolding good_entry
     entry-good a b = rw (holder-word, ← eh, le-leb h 999 a, head-word 2 (lit≤ tt), ← ew, le-leb w 18993 b, eight)
 
 -- four bytes and the places behind them, written one after the other, are the entry
-pub entry-written : (s d : List ℕ) (at : ℕ) (e : Entry) (l : ℕ) → l ≡ lastNo e.last
+pub entry-written : (s d : List ℕ) (at : ℕ) (e : Entry) (l : ℕ) → l ≡ last_no e.last
     → d ≡ overlay s at (e.holder.0 % 256 ∷ e.holder.0 / 256 % 256 ∷ l % 256 ∷ l / 256 % 256 ∷ [])
-    → overlay d (at + 4) (flat_map placeSlot e.places) ≡ overlay s at (entrySlot e)
-unfolding entrySlot low_first
+    → overlay d (at + 4) (flat_map place_slot e.places) ≡ overlay s at (entry_slot e)
+unfolding entry_slot low_first
 entry-written s d at e l el ed =
-    ap (λ (b : List ℕ). overlay b (at + 4) (flat_map placeSlot e.places)) ed
-    ∙ sym (overlay-append s at (e.holder.0 % 256 ∷ e.holder.0 / 256 % 256 ∷ l % 256 ∷ l / 256 % 256 ∷ []) (flat_map placeSlot e.places))
-    ∙ ap (λ (n : ℕ). overlay s at (e.holder.0 % 256 ∷ e.holder.0 / 256 % 256 ∷ n % 256 ∷ n / 256 % 256 ∷ flat_map placeSlot e.places)) el
+    ap (λ (b : List ℕ). overlay b (at + 4) (flat_map place_slot e.places)) ed
+    ∙ sym (overlay-append s at (e.holder.0 % 256 ∷ e.holder.0 / 256 % 256 ∷ l % 256 ∷ l / 256 % 256 ∷ []) (flat_map place_slot e.places))
+    ∙ ap (λ (n : ℕ). overlay s at (e.holder.0 % 256 ∷ e.holder.0 / 256 % 256 ∷ n % 256 ∷ n / 256 % 256 ∷ flat_map place_slot e.places)) el

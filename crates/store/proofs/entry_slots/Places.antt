@@ -17,9 +17,9 @@ use Rattle.store.proofs.slots.Widths.{word-one}
 use Rattle.fields.specs.declared.kind.Kind.{Kind}
 use Rattle.fields.specs.declared.kind.Kind.TheVariants.{P, L, Z}
 use Rattle.entries.specs.declared.entry.Place.{Place}
-use Rattle.entries.specs.Entry.{freePlace}
-use Rattle.entries.specs.Report.{kindNo}
-use Rattle.store.specs.entry_slots.Places.{kind_of, placeSlot, openOf, place_of, goodOpen, goodPlace}
+use Rattle.entries.specs.Entry.{free_place}
+use Rattle.entries.specs.Report.{kind_no}
+use Rattle.store.specs.entry_slots.Places.{kind_of, place_slot, open_of, place_of, good_open, good_place}
 
 part_cut : (s : List ℕ) (at n : ℕ) → part s at n ≡ take n (drop at s)
 unfolding part
@@ -36,8 +36,8 @@ module _ (s : List ℕ) (at k : ℕ) (fits : at + 12 ≤ length s) (first : k �
         report = record { kind = kind; date = record { 0 = date }; losing = record { 0 = losing }; gaining = record { 0 = gaining } };
         day = record { 0 = day };
         at = place;
-      }) (openOf (part s at 12))
-  unfolding openOf
+      }) (open_of (part s at 12))
+  unfolding open_of
   open-read kind date losing gaining day place ek ea el eg ed ep =
       let k' : kind ≡ kind_of (word_at 1 (part s at 12) 0) = ek ∙ ap kind_of (sym first_byte) in
       let a' : date ≡ word_at 2 (part s at 12) 1 = ea ∙ sym (word-part 2 s at 12 1 (lit≤ tt)) in
@@ -52,16 +52,16 @@ module _ (s : List ℕ) (at k : ℕ) (fits : at + 12 ≤ length s) (first : k �
         at = p' i;
       }
 
-  pub place-free : k ≡ 0 → freePlace ≡ place_of (part s at 12)
+  pub place-free : k ≡ 0 → free_place ≡ place_of (part s at 12)
   unfolding place_of
   place-free e = rw (first_byte, eq-eqb k 0 e)
 
-  pub place-open : (k ≡ 0 → ⊥) → openOf (part s at 12) ≡ place_of (part s at 12)
+  pub place-open : (k ≡ 0 → ⊥) → open_of (part s at 12) ≡ place_of (part s at 12)
   unfolding place_of
   place-open n = rw (first_byte, ne_eqb k 0 n)
 
-  pub good-free : k ≡ 0 → all is_zero (take (at + 12 - at) (drop at s)) ≡ goodPlace (part s at 12)
-  unfolding goodPlace
+  pub good-free : k ≡ 0 → all is_zero (take (at + 12 - at) (drop at s)) ≡ good_place (part s at 12)
+  unfolding good_place
   good-free e =
       let size : at + 12 - at ≡ 12 = omega arith in
       ap (λ (n : ℕ). all is_zero (take n (drop at s))) size ∙ ap (all is_zero) whole ∙ rw (first_byte, eq-eqb k 0 e)
@@ -69,26 +69,26 @@ module _ (s : List ℕ) (at k : ℕ) (fits : at + 12 ≤ length s) (first : k �
       whole : take 12 (drop at s) ≡ part s at 12
       whole = sym (part_cut s at 12)
 
-  pub good-beyond : (k ≡ 0 → ⊥) → 3 < k → false ≡ goodPlace (part s at 12)
-  unfolding goodPlace
+  pub good-beyond : (k ≡ 0 → ⊥) → 3 < k → false ≡ good_place (part s at 12)
+  unfolding good_place
   good-beyond n h = rw (first_byte, ne_eqb k 0 n, lt-leb k 3 h)
 
-  pub good-taken : (k ≡ 0 → ⊥) → k ≤ 3 → goodOpen (openOf (part s at 12)) ≡ goodPlace (part s at 12)
-  unfolding goodPlace
+  pub good-taken : (k ≡ 0 → ⊥) → k ≤ 3 → good_open (open_of (part s at 12)) ≡ good_place (part s at 12)
+  unfolding good_place
   good-taken n h = rw (first_byte, ne_eqb k 0 n, le-leb k 3 h)
 
 -- ---- what the code writes
-pub kind-small : (k : Kind) → kindNo k ≤ 2
+pub kind-small : (k : Kind) → kind_no k ≤ 2
 kind-small P = lit≤ tt
 kind-small L = lit≤ tt
 kind-small Z = lit≤ tt
 
 module _ (s : List ℕ) (at : ℕ) (p : Place) where
-  pub put-free : p.taken ≡ false → overlay s at (replicate 12 0) ≡ overlay s at (placeSlot p)
-  unfolding placeSlot
+  pub put-free : p.taken ≡ false → overlay s at (replicate 12 0) ≡ overlay s at (place_slot p)
+  unfolding place_slot
   put-free e = rw e
 
-  pub put-open : (k : ℕ) → p.taken ≡ true → k ≡ kindNo p.report.kind
+  pub put-open : (k : ℕ) → p.taken ≡ true → k ≡ kind_no p.report.kind
       → overlay s at ((1 + k)
       ∷ p.report.date.0 % 256
       ∷ p.report.date.0 / 256 % 256
@@ -101,15 +101,15 @@ module _ (s : List ℕ) (at : ℕ) (p : Place) where
       ∷ p.at % 256
       ∷ p.at / 256 % 256
       ∷ p.at / 256 / 256 % 256
-      ∷ []) ≡ overlay s at (placeSlot p)
-  unfolding placeSlot low_first
+      ∷ []) ≡ overlay s at (place_slot p)
+  unfolding place_slot low_first
   put-open k e ek = rw (e, ek)
 
-pub length-place : (p : Place) → length (placeSlot p) ≡ 12
-unfolding placeSlot low_first
+pub length-place : (p : Place) → length (place_slot p) ≡ 12
+unfolding place_slot low_first
 length-place p = go p.taken
   where
-    go : (t : Bool) → length (cond t ((1 + kindNo p.report.kind)
+    go : (t : Bool) → length (cond t ((1 + kind_no p.report.kind)
         ∷ (low_first 2 p.report.date.0
         ++ (low_first 2 p.report.losing.0 ++ (low_first 2 p.report.gaining.0 ++ (low_first 2 p.day.0 ++ (low_first 3 p.at ++ [])))))) (replicate 12 0)) ≡ 12
     go true = refl

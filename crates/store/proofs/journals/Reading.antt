@@ -12,7 +12,7 @@ use Rattle.laws.specs.Words.{low_first, word_at}
 use Rattle.laws.proofs.Slots.{slot_same, slot-other, slot-head}
 use Rattle.laws.proofs.Words.{word_first, word-behind, word_next, word-part}
 use Rattle.store.proofs.slots.Widths.{word-one}
-use Rattle.store.specs.journals.Files.{fileSlot, fileOf, fileAt}
+use Rattle.store.specs.journals.Files.{file_slot, file_of, file_at}
 use Rattle.store.specs.declared.journals.files.File.{File}
 
 -- the values that a slot has room for
@@ -21,12 +21,12 @@ pub record Roomy (f : File) : Type 0 where
   pub day-fits : f.day < 65536
   pub count_fits : f.count < 16777216
 
-pub slot-length : (f : File) → length (fileSlot f) ≡ 8
-unfolding fileSlot low_first
+pub slot-length : (f : File) → length (file_slot f) ≡ 8
+unfolding file_slot low_first
 slot-length f = refl
 
-pub file-back : (f : File) → Roomy f → fileOf (fileSlot f) ≡ f
-unfolding fileOf fileSlot low_first
+pub file-back : (f : File) → Roomy f → file_of (file_slot f) ≡ f
+unfolding file_of file_slot low_first
 file-back f r =
     let counted : List ℕ = low_first 3 f.count ++ [] in
     let dated : List ℕ = low_first 2 f.day ++ counted in
@@ -41,24 +41,24 @@ file-back f r =
     λ i. record { kind = k i; publisher = p i; day = d i; count = n i }
 
 -- reading after writing: the file that was written, every other as before
-pub file-same : (files : List ℕ) (k : ℕ) (f : File) → Roomy f → 2 + k * 8 + 8 ≤ length files → fileAt (overlay files (2 + k * 8) (fileSlot f)) k ≡ f
-unfolding fileAt
-file-same files k f r fits = ap fileOf (slot_same 2 8 files k (fileSlot f) fits (slot-length f)) ∙ file-back f r
+pub file-same : (files : List ℕ) (k : ℕ) (f : File) → Roomy f → 2 + k * 8 + 8 ≤ length files → file_at (overlay files (2 + k * 8) (file_slot f)) k ≡ f
+unfolding file_at
+file-same files k f r fits = ap file_of (slot_same 2 8 files k (file_slot f) fits (slot-length f)) ∙ file-back f r
 
-pub file-other : (files : List ℕ) (j k : ℕ) (f : File) → (j ≡ k → ⊥) → fileAt (overlay files (2 + k * 8) (fileSlot f)) j ≡ fileAt files j
-unfolding fileAt
-file-other files j k f ne = ap fileOf (slot-other 2 8 files j k (fileSlot f) ne (slot-length f))
+pub file-other : (files : List ℕ) (j k : ℕ) (f : File) → (j ≡ k → ⊥) → file_at (overlay files (2 + k * 8) (file_slot f)) j ≡ file_at files j
+unfolding file_at
+file-other files j k f ne = ap file_of (slot-other 2 8 files j k (file_slot f) ne (slot-length f))
 
 -- the count is no file's
-pub file-counted : (files : List ℕ) (k n : ℕ) → fileAt (overlay files 0 (low_first 2 n)) k ≡ fileAt files k
-unfolding fileAt low_first
-file-counted files k n = ap fileOf (slot-head 2 8 files k 0 (low_first 2 n) (lit≤ tt))
+pub file-counted : (files : List ℕ) (k n : ℕ) → file_at (overlay files 0 (low_first 2 n)) k ≡ file_at files k
+unfolding file_at low_first
+file-counted files k n = ap file_of (slot-head 2 8 files k 0 (low_first 2 n) (lit≤ tt))
 
 -- ---- what the code reads
 pub file-read : (files : List ℕ) (k a b c d : ℕ) → 2 + k * 8 + 8 ≤ length files → a ≡ get_or files (2 + k * 8) 0 → b ≡ word_at 2 files (2 + k * 8 + 1)
     → c ≡ word_at 2 files (2 + k * 8 + 3) → d ≡ word_at 3 files (2 + k * 8 + 5)
-    → ◌≡◌ {A = File} (record { kind = a; publisher = b; day = c; count = d }) (fileAt files k)
-unfolding fileAt fileOf slot_at
+    → ◌≡◌ {A = File} (record { kind = a; publisher = b; day = c; count = d }) (file_at files k)
+unfolding file_at file_of slot_at
 file-read files k a b c d fits ea eb ec ed =
     let at : ℕ = 2 + k * 8 in
     let e0 : a ≡ word_at 1 (part files at 8) 0 =

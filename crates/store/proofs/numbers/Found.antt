@@ -8,41 +8,41 @@ use lib.ListN.{length}
 use Rattle.laws.specs.Lists.{table, first_at}
 use Rattle.laws.proofs.Tables.{map-table}
 use Rattle.laws.proofs.Tests.{eqb_comm}
-use Rattle.fields.specs.Number.{sameNumber}
+use Rattle.fields.specs.Number.{same_number}
 use Rattle.fields.specs.declared.number.Number.{Number}
-use Rattle.store.specs.numbers.Lines.{line_at, number_at, lineCount, lines_of}
-use Rattle.store.specs.numbers.Find.{is_of, foundLine}
+use Rattle.store.specs.numbers.Lines.{line_at, number_at, line_count, lines_of}
+use Rattle.store.specs.numbers.Find.{is_of, found_line}
 use Rattle.store.specs.declared.numbers.lines.Line.{Line}
 use Rattle.store.specs.declared.numbers.find.FoundLine.TheVariants.{At, Unknown}
 
 -- ---- the first line that has the number is the first number that is the same
-same-comm : (x y : Number) → sameNumber x y ≡ sameNumber y x
-unfolding sameNumber
+same-comm : (x y : Number) → same_number x y ≡ same_number y x
+unfolding same_number
 same-comm x y = λ i. eqb_comm x.first.0 y.first.0 i && eqb_comm x.last.0 y.last.0 i
 
-first-line : (x : Number) (ls : List Line) → first_at (sameNumber x) (map (λ (l : Line). l.number) ls) ≡ first_at (is_of x) ls
+first-line : (x : Number) (ls : List Line) → first_at (same_number x) (map (λ (l : Line). l.number) ls) ≡ first_at (is_of x) ls
 unfolding is_of
 first-line x [] = refl
 first-line x (l ∷ ls) = rw (same-comm x l.number, first-line x ls)
 
-line_first : (x : Number) (t : List ℕ) (n : ℕ) → first_at (sameNumber x) (table n (number_at t)) ≡ first_at (is_of x) (table n (line_at t))
+line_first : (x : Number) (t : List ℕ) (n : ℕ) → first_at (same_number x) (table n (number_at t)) ≡ first_at (is_of x) (table n (line_at t))
 unfolding number_at
-line_first x t n = ap (first_at (sameNumber x)) (sym (map-table (λ (l : Line). l.number) n (line_at t))) ∙ first-line x (table n (line_at t))
+line_first x t n = ap (first_at (same_number x)) (sym (map-table (λ (l : Line). l.number) n (line_at t))) ∙ first-line x (table n (line_at t))
 
 -- ---- what is found
 module _ (t : List ℕ) (x : Number) where
-  pub found-short : length t < 2 + lineCount t * 14 → Unknown ≡ foundLine t x
-  unfolding foundLine
-  found-short h = rw (lt-leb (2 + lineCount t * 14) (length t) h)
+  pub found-short : length t < 2 + line_count t * 14 → Unknown ≡ found_line t x
+  unfolding found_line
+  found-short h = rw (lt-leb (2 + line_count t * 14) (length t) h)
 
-  module _ (n i : ℕ) (e : n ≡ lineCount t) (h : 2 + n * 14 ≤ length t) (f : i ≡ first_at (sameNumber x) (table n (number_at t))) where
+  module _ (n i : ℕ) (e : n ≡ line_count t) (h : 2 + n * 14 ≤ length t) (f : i ≡ first_at (same_number x) (table n (number_at t))) where
     q : i ≡ first_at (is_of x) (table n (line_at t))
     q = f ∙ line_first x t n
 
-    pub found_at : i < n → At i ≡ foundLine t x
-    unfolding foundLine lines_of
+    pub found_at : i < n → At i ≡ found_line t x
+    unfolding found_line lines_of
     found_at g = rw (← e, le-leb (2 + n * 14) (length t) h, ← q, lt-ltb i n g)
 
-    pub found-unknown : n ≤ i → Unknown ≡ foundLine t x
-    unfolding foundLine lines_of
+    pub found-unknown : n ≤ i → Unknown ≡ found_line t x
+    unfolding found_line lines_of
     found-unknown g = rw (← e, le-leb (2 + n * 14) (length t) h, ← q, le-ltb i n g)

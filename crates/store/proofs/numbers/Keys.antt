@@ -4,25 +4,25 @@ use mathlib.Core.Bool.{Bool, true, false}
 use mathlib.Core.List.{List}
 use Prim.Native.Nat.{ℕ, ◌+◌, ◌≤◌, ◌<◌}
 use lib.ListN.{length, take, set, drop, get_or}
-use Rattle.laws.specs.Lists.{table, any, noneTwice}
+use Rattle.laws.specs.Lists.{table, any, none_twice}
 use Rattle.laws.specs.Order.{sorted, rising}
-use Rattle.laws.proofs.Tables.{map-table, lay-none, lay-next, drop-table, drop-none, length-table, getD-table}
+use Rattle.laws.proofs.Tables.{map-table, lay-none, lay-next, drop-table, drop-none, length-table, get_or-table}
 use Rattle.laws.proofs.Twice.{rising-once, once-on, once-failed, once-passed}
-use Rattle.fields.specs.Number.{sameNumber}
+use Rattle.fields.specs.Number.{same_number}
 use Rattle.fields.specs.declared.number.Number.{Number}
-use Rattle.fields.proofs.NumberLaws.{same_number}
+use Rattle.fields.proofs.NumberLaws.{same_number_lem}
 use Rattle.store.specs.numbers.Lines.{line_at, number_at}
 use Rattle.store.specs.numbers.Twice.{key_of, keys_of}
 use Rattle.store.specs.declared.numbers.lines.Line.{Line}
 
-level : (x y : Number) → sameNumber x y ≡ true → key_of x ≡ key_of y
-level x y e = ap key_of (same_number x y e)
+level : (x y : Number) → same_number x y ≡ true → key_of x ≡ key_of y
+level x y e = ap key_of (same_number_lem x y e)
 
-pub numbers-once : (lines : List ℕ) (n : ℕ) → rising (sorted (keys_of n lines)) ≡ true → true ≡ noneTwice sameNumber (table n (number_at lines))
+pub numbers-once : (lines : List ℕ) (n : ℕ) → rising (sorted (keys_of n lines)) ≡ true → true ≡ none_twice same_number (table n (number_at lines))
 unfolding keys_of
 numbers-once lines n e =
     sym
-    (rising-once sameNumber key_of level (table n (number_at lines))
+    (rising-once same_number key_of level (table n (number_at lines))
     (ap (λ (l : List ℕ). rising (sorted l)) (map-table key_of n (number_at lines)) ∙ e))
 
 pub number_read : (lines : List ℕ) (k : ℕ) (l : Line) → l ≡ line_at lines k → l.number ≡ number_at lines k
@@ -55,20 +55,20 @@ unfolding any
 behind-none lines n p i t inv h = rw (drop-none n i (number_at lines) h) at inv
 
 module _ (lines : List ℕ) (n i : ℕ) (x : Number) (e : x ≡ number_at lines i)
-    (inv : noneTwice sameNumber (drop i (table n (number_at lines))) ≡ noneTwice sameNumber (table n (number_at lines))) (h : i < n) where
-  here : any (sameNumber (get_or (table n (number_at lines)) i x)) (drop (i + 1) (table n (number_at lines))) ≡ any (sameNumber x) (drop (i + 1) (table n (number_at lines)))
-  here = ap (λ (y : Number). any (sameNumber y) (drop (i + 1) (table n (number_at lines)))) (getD-table n i (number_at lines) x h ∙ sym e)
+    (inv : none_twice same_number (drop i (table n (number_at lines))) ≡ none_twice same_number (table n (number_at lines))) (h : i < n) where
+  here : any (same_number (get_or (table n (number_at lines)) i x)) (drop (i + 1) (table n (number_at lines))) ≡ any (same_number x) (drop (i + 1) (table n (number_at lines)))
+  here = ap (λ (y : Number). any (same_number y) (drop (i + 1) (table n (number_at lines)))) (get_or-table n i (number_at lines) x h ∙ sym e)
 
   inside : i < length (table n (number_at lines))
   inside = rw (length-table n (number_at lines)) h
 
-  pub each_on : any (sameNumber x) (drop (i + 1) (table n (number_at lines))) ≡ false
-      → noneTwice sameNumber (drop (i + 1) (table n (number_at lines))) ≡ noneTwice sameNumber (table n (number_at lines))
-  each_on q = once-on sameNumber x (table n (number_at lines)) i inside (here ∙ q) inv
+  pub each_on : any (same_number x) (drop (i + 1) (table n (number_at lines))) ≡ false
+      → none_twice same_number (drop (i + 1) (table n (number_at lines))) ≡ none_twice same_number (table n (number_at lines))
+  each_on q = once-on same_number x (table n (number_at lines)) i inside (here ∙ q) inv
 
-  pub each-here : any (sameNumber x) (drop (i + 1) (table n (number_at lines))) ≡ true → false ≡ noneTwice sameNumber (table n (number_at lines))
-  each-here q = once-failed sameNumber x (table n (number_at lines)) i inside (here ∙ q) inv
+  pub each-here : any (same_number x) (drop (i + 1) (table n (number_at lines))) ≡ true → false ≡ none_twice same_number (table n (number_at lines))
+  each-here q = once-failed same_number x (table n (number_at lines)) i inside (here ∙ q) inv
 
-pub each-passed : (lines : List ℕ) (n i : ℕ) (x : Number) → noneTwice sameNumber (drop i (table n (number_at lines))) ≡ noneTwice sameNumber (table n (number_at lines)) → n ≤ i
-    → true ≡ noneTwice sameNumber (table n (number_at lines))
-each-passed lines n i x inv h = once-passed sameNumber x (table n (number_at lines)) i (rw (length-table n (number_at lines)) h) inv
+pub each-passed : (lines : List ℕ) (n i : ℕ) (x : Number) → none_twice same_number (drop i (table n (number_at lines))) ≡ none_twice same_number (table n (number_at lines)) → n ≤ i
+    → true ≡ none_twice same_number (table n (number_at lines))
+each-passed lines n i x inv h = once-passed same_number x (table n (number_at lines)) i (rw (length-table n (number_at lines)) h) inv

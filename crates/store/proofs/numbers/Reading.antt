@@ -9,7 +9,7 @@ use Rattle.laws.specs.Overlay.{part}
 use Rattle.laws.specs.Slots.{slot_at}
 use Rattle.laws.specs.Words.{low_first, word_at}
 use Rattle.laws.proofs.Words.{word_first, word_next, word-part}
-use Rattle.store.specs.numbers.Lines.{lineSlot, line_of, line_at}
+use Rattle.store.specs.numbers.Lines.{line_slot, line_of, line_at}
 use Rattle.store.specs.declared.numbers.lines.Line.{Line}
 
 -- the values that a slot has room for
@@ -19,8 +19,8 @@ pub record Roomy (l : Line) : Type 0 where
   pub owner-fits : l.owner.0 < 65536
   pub setup-fits : l.setup.0 < 65536
 
-pub length-line : (l : Line) → length (lineSlot l) ≡ 14
-unfolding lineSlot low_first
+pub length-line : (l : Line) → length (line_slot l) ≡ 14
+unfolding line_slot low_first
 length-line l = refl
 
 -- what stands behind the first field, the last, the owner
@@ -33,8 +33,8 @@ owned l = low_first 2 l.owner.0 ++ dated l
 abbrev ended : Line → List ℕ
 ended l = low_first 5 l.number.last.0 ++ owned l
 
-pub line-back : (l : Line) → Roomy l → line_of (lineSlot l) ≡ l
-unfolding line_of lineSlot
+pub line-back : (l : Line) → Roomy l → line_of (line_slot l) ≡ l
+unfolding line_of line_slot
 line-back l r =
     let f = word_first 5 l.number.first.0 (ended l) r.first_fits in
     let e = word_next 5 5 l.number.first.0 0 (ended l) ∙ word_first 5 l.number.last.0 (owned l) r.last_fits in

@@ -10,24 +10,24 @@ use lib.ListN.{length, take, drop, get_or}
 use lib.Seq.{drop-drop}
 use Rattle.laws.specs.Lists.{all}
 use Rattle.laws.specs.Overlay.{part}
-use Rattle.laws.specs.Slots.{slot_at, heldIn, is_zero, is_held}
+use Rattle.laws.specs.Slots.{slot_at, held_in, is_zero, is_held}
 use Rattle.laws.proofs.Overlay.{part_at, take-drop}
 use Rattle.laws.proofs.Slots.{held-short, held-long}
 
 module _ (width : ℕ) (journal : List ℕ) (k n : ℕ) (fits : k * width + width ≤ length journal) (e : n ≡ get_or journal (k * width) 0) where
   -- as many as the length byte says
-  pub held-as-said : n < width → take (k * width + 1 + n - (k * width + 1)) (drop (k * width + 1) journal) ≡ heldIn (slot_at 0 width journal k)
+  pub held-as-said : n < width → take (k * width + 1 + n - (k * width + 1)) (drop (k * width + 1) journal) ≡ held_in (slot_at 0 width journal k)
   unfolding slot_at
   held-as-said h =
       held-short width journal (k * width) n (k * width + 1 + n - (k * width + 1)) fits e h (omega arith)
-      ∙ ap (λ (at : ℕ). heldIn (part journal at width)) (sym (zero-add (k * width)))
+      ∙ ap (λ (at : ℕ). held_in (part journal at width)) (sym (zero-add (k * width)))
 
   -- the rest of the slot, where the length byte says more
-  pub held_all : 0 < width → width ≤ n → take (k * width + width - (k * width + 1)) (drop (k * width + 1) journal) ≡ heldIn (slot_at 0 width journal k)
+  pub held_all : 0 < width → width ≤ n → take (k * width + width - (k * width + 1)) (drop (k * width + 1) journal) ≡ held_in (slot_at 0 width journal k)
   unfolding slot_at
   held_all some h =
       held-long width journal (k * width) n (k * width + width - (k * width + 1)) fits e h (omega arith)
-      ∙ ap (λ (at : ℕ). heldIn (part journal at width)) (sym (zero-add (k * width)))
+      ∙ ap (λ (at : ℕ). held_in (part journal at width)) (sym (zero-add (k * width)))
 
 -- ---- whether a slot is well kept
 module _ (width : ℕ) (journal : List ℕ) (k n : ℕ) (fits : k * width + width ≤ length journal) (some : 0 < width) (e : n ≡ get_or journal (k * width) 0) where

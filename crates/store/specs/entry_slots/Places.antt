@@ -3,19 +3,19 @@ use Rattle.std.specs.Prelude.{Bool, true, cond, ◌&&◌, List, [], ◌∷◌, �
 use Rattle.laws.specs.Lists.{all}
 use Rattle.laws.specs.Slots.{is_zero}
 use Rattle.laws.specs.Words.{low_first, word_at}
-use Rattle.calendar.specs.Dates.{inCalendar}
+use Rattle.calendar.specs.Dates.{in_calendar}
 use Rattle.fields.specs.declared.kind.Kind.{Kind}
 use Rattle.fields.specs.declared.kind.Kind.TheVariants.{P, L, Z}
 use Rattle.entries.specs.declared.entry.Place.{Place}
-use Rattle.entries.specs.Entry.{freePlace}
-use Rattle.entries.specs.Report.{kindNo}
+use Rattle.entries.specs.Entry.{free_place}
+use Rattle.entries.specs.Report.{kind_no}
 
 -- a free place is zeros; an open report is 1 for P, 2 for L or 3 for Z, then date, losing and gaining network and publication day in two bytes each,
 -- then the place in its file in three
-unfoldable pub placeSlot : Place → List ℕ
-placeSlot p =
+unfoldable pub place_slot : Place → List ℕ
+place_slot p =
     cond p.taken
-    ((1 + kindNo p.report.kind)
+    ((1 + kind_no p.report.kind)
     ∷ (low_first 2 p.report.date.0
     ++ (low_first 2 p.report.losing.0 ++ (low_first 2 p.report.gaining.0 ++ (low_first 2 p.day.0 ++ (low_first 3 p.at ++ []))))))
     (replicate 12 0)
@@ -25,8 +25,8 @@ unfoldable pub kind_of : ℕ → Kind
 kind_of k = cond (eqb k 1) P (cond (eqb k 2) L Z)
 
 -- the open report that 12 bytes hold
-unfoldable pub openOf : List ℕ → Place
-openOf s = record {
+unfoldable pub open_of : List ℕ → Place
+open_of s = record {
   taken = true;
   report = record { kind = kind_of (word_at 1 s 0); date = record { 0 = word_at 2 s 1 }; losing = record { 0 = word_at 2 s 3 }; gaining = record { 0 = word_at 2 s 5 } };
   day = record { 0 = word_at 2 s 7 };
@@ -35,12 +35,12 @@ openOf s = record {
 
 -- the place that 12 bytes hold
 unfoldable pub place_of : List ℕ → Place
-place_of s = cond (eqb (word_at 1 s 0) 0) freePlace (openOf s)
+place_of s = cond (eqb (word_at 1 s 0) 0) free_place (open_of s)
 
 -- an open report in range: its days in the calendar, its networks codes
-unfoldable pub goodOpen : Place → Bool
-goodOpen p = inCalendar p.report.date.0 && (leb p.report.losing.0 999 && (leb p.report.gaining.0 999 && inCalendar p.day.0))
+unfoldable pub good_open : Place → Bool
+good_open p = in_calendar p.report.date.0 && (leb p.report.losing.0 999 && (leb p.report.gaining.0 999 && in_calendar p.day.0))
 
 -- 12 bytes that are a free place, all zeros, or an open report in range
-unfoldable pub goodPlace : List ℕ → Bool
-goodPlace s = cond (eqb (word_at 1 s 0) 0) (all is_zero s) (leb (word_at 1 s 0) 3 && goodOpen (openOf s))
+unfoldable pub good_place : List ℕ → Bool
+good_place s = cond (eqb (word_at 1 s 0) 0) (all is_zero s) (leb (word_at 1 s 0) 3 && good_open (open_of s))

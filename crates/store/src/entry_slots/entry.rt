@@ -4,8 +4,8 @@ ghost use mathlib.Core.List.{flat_map};
 ghost use Rattle.laws.specs.Lists.{table, all};
 ghost use Rattle.laws.specs.Overlay.{overlay, part};
 ghost use Rattle.laws.specs.Slots.{slot_at};
-ghost use Rattle.store.specs.entry_slots.Places.{placeSlot, place_of, goodPlace};
-ghost use Rattle.store.specs.entry_slots.Entries.{lastNo, last_of, places_of, entrySlot, entryAt, goodEntry};
+ghost use Rattle.store.specs.entry_slots.Places.{place_slot, place_of, good_place};
+ghost use Rattle.store.specs.entry_slots.Entries.{last_no, last_of, places_of, entry_slot, entry_at, good_entry};
 
 use crate::entry_slots::place;
 use crate::slots::word;
@@ -20,7 +20,7 @@ pub const WIDTH: usize = HEAD + PLACES * place::WIDTH;
 
 // A last confirmed date as a number: 0 for none, else one more than its day.
 fn last_no(last: Last) -> usize
-    ensures { (result ≡ lastNo last) × (result < 65537) }
+    ensures { (result ≡ last_no last) × (result < 65537) }
 {
     match last {
         Last::Never => 0,
@@ -56,7 +56,7 @@ fn places_at(entries: &[u8], at: usize) -> [Place; PLACES]
 // The entry in the slot k.
 pub fn entry_at(entries: &[u8], k: usize) -> Entry
     requires { k * 100 + 100 ≤ length entries.now }
-    ensures { result ≡ entryAt entries.now k }
+    ensures { result ≡ entry_at entries.now k }
 {
     let at = k * WIDTH;
     let holder = Code(word::get2(entries, at));
@@ -72,7 +72,7 @@ pub fn entry_at(entries: &[u8], k: usize) -> Entry
 // Writes eight places from `at` on.
 fn put_places(entries: &mut [u8], at: usize, places: [Place; PLACES])
     requires { at + 96 ≤ length entries.old }
-    ensures { entries.new ≡ overlay entries.old at (flat_map placeSlot places) }
+    ensures { entries.new ≡ overlay entries.old at (flat_map place_slot places) }
 {
     let mut i = 0;
     while i < PLACES {
@@ -85,7 +85,7 @@ fn put_places(entries: &mut [u8], at: usize, places: [Place; PLACES])
 // Writes an entry into the slot k.
 pub fn put_entry(entries: &mut [u8], k: usize, e: Entry)
     requires { k * 100 + 100 ≤ length entries.old }
-    ensures { entries.new ≡ overlay entries.old (k * 100) (entrySlot e) }
+    ensures { entries.new ≡ overlay entries.old (k * 100) (entry_slot e) }
 {
     let at = k * WIDTH;
     let holder = e.holder.0;
@@ -105,7 +105,7 @@ pub fn put_entry(entries: &mut [u8], k: usize, e: Entry)
 // Whether the eight places from `at` on are in range.
 fn good_places(entries: &[u8], at: usize) -> bool
     requires { at + 96 ≤ length entries.now }
-    ensures { result ≡ all goodPlace (table 8 (slot_at 0 12 (part entries.now at 96))) }
+    ensures { result ≡ all good_place (table 8 (slot_at 0 12 (part entries.now at 96))) }
 {
     let mut i = 0;
     while i < PLACES {
@@ -120,7 +120,7 @@ fn good_places(entries: &[u8], at: usize) -> bool
 // Whether the entry in the slot k is in range.
 fn good_entry(entries: &[u8], k: usize) -> bool
     requires { k * 100 + 100 ≤ length entries.now }
-    ensures { result ≡ goodEntry (slot_at 0 100 entries.now k) }
+    ensures { result ≡ good_entry (slot_at 0 100 entries.now k) }
 {
     let at = k * WIDTH;
     let holder = word::get2(entries, at);
@@ -137,7 +137,7 @@ fn good_entry(entries: &[u8], k: usize) -> bool
 // Whether each of the first n entries is.
 pub(crate) fn good_entries(entries: &[u8], n: usize) -> bool
     requires { n * 100 ≤ length entries.now }
-    ensures { result ≡ all goodEntry (table n (slot_at 0 100 entries.now)) }
+    ensures { result ≡ all good_entry (table n (slot_at 0 100 entries.now)) }
 {
     let mut i = 0;
     while i < n {

@@ -1,7 +1,7 @@
 // A place for an open report, in 12 bytes: kind, date, losing and gaining network, publication day, place in its file.
 ghost use Rattle.std.specs.Prelude.{◌≡◌, ◌+◌, ◌*◌, ◌≤◌, length};
 ghost use Rattle.laws.specs.Overlay.{overlay, part};
-ghost use Rattle.store.specs.entry_slots.Places.{kind_of, placeSlot, openOf, place_of, goodOpen, goodPlace};
+ghost use Rattle.store.specs.entry_slots.Places.{kind_of, place_slot, open_of, place_of, good_open, good_place};
 
 use crate::slots::{run, word};
 use calendar::dates::{CalendarDays, LAST_DAY};
@@ -29,7 +29,7 @@ fn kind_of(k: usize) -> Kind
 // The open report in the 12 bytes from `at` on.
 fn open_at(entries: &[u8], at: usize) -> Place
     requires { at + 12 ≤ length entries.now }
-    ensures { result ≡ openOf (part entries.now at 12) }
+    ensures { result ≡ open_of (part entries.now at 12) }
 {
     let kind = kind_of(word::wide(entries[at]));
     let date = CalendarDays(word::get2(entries, at + 1));
@@ -66,7 +66,7 @@ pub(crate) fn place_at(entries: &[u8], at: usize) -> Place
 // Writes a place into the 12 bytes from `at` on.
 pub(crate) fn put_place(entries: &mut [u8], at: usize, p: Place)
     requires { at + 12 ≤ length entries.old }
-    ensures { entries.new ≡ overlay entries.old at (placeSlot p) }
+    ensures { entries.new ≡ overlay entries.old at (place_slot p) }
 {
     if !p.taken {
         run::fill(entries, at, WIDTH, 0);
@@ -98,7 +98,7 @@ pub(crate) fn put_place(entries: &mut [u8], at: usize, p: Place)
 
 // Whether an open report is in range.
 fn good_open(p: Place) -> bool
-    ensures { result ≡ goodOpen p }
+    ensures { result ≡ good_open p }
 {
     let report = p.report;
     if LAST_DAY < report.date.0 {
@@ -116,7 +116,7 @@ fn good_open(p: Place) -> bool
 // Whether the 12 bytes from `at` on are a free place, all zeros, or an open report in range.
 pub(crate) fn good_place(entries: &[u8], at: usize) -> bool
     requires { at + 12 ≤ length entries.now }
-    ensures { result ≡ goodPlace (part entries.now at 12) }
+    ensures { result ≡ good_place (part entries.now at 12) }
 {
     let k = word::wide(entries[at]);
     if k == 0 {

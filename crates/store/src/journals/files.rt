@@ -2,7 +2,7 @@
 ghost use Rattle.std.specs.Prelude.{◌≡◌, ◌+◌, ◌*◌, ◌≤◌, ◌<◌, length};
 ghost use Rattle.laws.specs.Overlay.{overlay};
 ghost use Rattle.laws.specs.Words.{low_first};
-ghost use Rattle.store.specs.journals.Files.{fileCount, fileAt, fileSlot, goodFile};
+ghost use Rattle.store.specs.journals.Files.{file_count, file_at, file_slot, good_file};
 ghost use Rattle.laws.specs.Lists.{table, all};
 
 use crate::slots::{run, word};
@@ -31,7 +31,7 @@ pub struct File {
 // How many files are filed.
 pub fn file_count(files: &[u8]) -> usize
     requires { 2 ≤ length files.now }
-    ensures { (result ≡ fileCount files.now) × (result < 65536) }
+    ensures { (result ≡ file_count files.now) × (result < 65536) }
 {
     word::get2(files, 0) as usize
 }
@@ -39,7 +39,7 @@ pub fn file_count(files: &[u8]) -> usize
 // The file in the slot k.
 pub fn file_at(files: &[u8], k: usize) -> File
     requires { 2 + k * 8 + 8 ≤ length files.now }
-    ensures { (result ≡ fileAt files.now k) × (result.count < 16777216) }
+    ensures { (result ≡ file_at files.now k) × (result.count < 16777216) }
 {
     let at = HEAD + k * SLOT;
     File {
@@ -53,7 +53,7 @@ pub fn file_at(files: &[u8], k: usize) -> File
 // Writes a file into the slot k.
 pub fn put_file(files: &mut [u8], k: usize, f: File)
     requires { 2 + k * 8 + 8 ≤ length files.old }
-    ensures { files.new ≡ overlay files.old (2 + k * 8) (fileSlot f) }
+    ensures { files.new ≡ overlay files.old (2 + k * 8) (file_slot f) }
 {
     let slot = [
         f.kind,
@@ -78,7 +78,7 @@ pub fn put_count(files: &mut [u8], n: u16)
 
 // Whether a file is in range.
 fn good_file(f: File) -> bool
-    ensures { result ≡ goodFile f }
+    ensures { result ≡ good_file f }
 {
     if 1 < f.kind {
         return false;
@@ -92,7 +92,7 @@ fn good_file(f: File) -> bool
 // Whether each of the first n files is.
 pub fn good_files(files: &[u8], n: usize) -> bool
     requires { 2 + n * 8 ≤ length files.now }
-    ensures { result ≡ all goodFile (table n (fileAt files.now)) }
+    ensures { result ≡ all good_file (table n (file_at files.now)) }
 {
     let mut i = 0;
     while i < n {

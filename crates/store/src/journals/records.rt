@@ -2,7 +2,7 @@
 ghost use Rattle.std.specs.Prelude.{◌≡◌, ◌+◌, ◌*◌, ◌≤◌, ◌<◌, length};
 ghost use Rattle.laws.specs.Overlay.{overlay};
 ghost use Rattle.laws.specs.Slots.{slot_of};
-ghost use Rattle.store.specs.journals.Records.{recordIn, shownIn};
+ghost use Rattle.store.specs.journals.Records.{record_in, shown_in};
 
 use crate::slots::record;
 
@@ -52,7 +52,7 @@ pub fn put_correction(corrections: &mut [u8], k: usize, bytes: &[u8])
 // The record at the place k of a journal that holds `count` records; the empty part where there is none.
 fn shown(journal: &[u8], width: usize, count: usize, k: usize) -> &[u8]
     requires { 0 < width }
-    ensures { result.now ≡ recordIn width count journal.now k }
+    ensures { result.now ≡ record_in width count journal.now k }
 {
     if count <= k {
         return &journal[0..0];
@@ -72,7 +72,7 @@ pub fn record_bytes<'a>(
     count: usize,
     place: usize,
 ) -> &'a [u8]
-    ensures { result.now ≡ shownIn which regular.now corrections.now count place }
+    ensures { result.now ≡ shown_in which regular.now corrections.now count place }
 {
     match which {
         Journal::Regular => shown(regular, REPORT_SLOT, count, place),

@@ -1,14 +1,14 @@
 // How many records the filed files have.
 ghost use Rattle.std.specs.Prelude.{◌≡◌, ◌+◌, ◌*◌, ◌≤◌, ◌<◌, length};
 ghost use Rattle.laws.specs.Lists.{table};
-ghost use Rattle.store.specs.journals.Files.{fileAt, recordsIn, recordsOf};
+ghost use Rattle.store.specs.journals.Files.{file_at, records_in, records_of};
 
 use crate::journals::files;
 use crate::journals::files::File;
 
 // What a file adds to the records of a kind.
 pub fn records_in(f: File, kind: u8) -> usize
-    ensures { (result ≡ recordsIn kind f) × (result ≤ f.count) }
+    ensures { (result ≡ records_in kind f) × (result ≤ f.count) }
 {
     if f.kind == kind { f.count as usize } else { 0 }
 }
@@ -16,7 +16,7 @@ pub fn records_in(f: File, kind: u8) -> usize
 // How many records the files of a kind among the first n have.
 pub fn records_of(files: &[u8], n: usize, kind: u8) -> usize
     requires { (2 + n * 8 ≤ length files.now) × (n < 65536) }
-    ensures { result ≡ recordsOf kind (table n (fileAt files.now)) }
+    ensures { result ≡ records_of kind (table n (file_at files.now)) }
 {
     let mut sum = 0;
     let mut i = 0;

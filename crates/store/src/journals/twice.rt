@@ -1,7 +1,7 @@
 // Whether a file is filed twice: a number for each file, sorted.
 ghost use Rattle.std.specs.Prelude.{◌≡◌, true, ◌+◌, ◌*◌, ◌≤◌, length, take};
-ghost use Rattle.laws.specs.Lists.{table, all, noneTwice};
-ghost use Rattle.store.specs.journals.Files.{fileAt, goodFile, sameFile};
+ghost use Rattle.laws.specs.Lists.{table, all, none_twice};
+ghost use Rattle.store.specs.journals.Files.{file_at, good_file, same_file};
 ghost use Rattle.store.specs.journals.Twice.{key_of, keys_of};
 
 use crate::journals::files;
@@ -38,8 +38,8 @@ fn gather_all(files: &[u8], n: usize, keys: &mut [u64; 10240])
 
 // Whether no two of the first n files are of one kind, publisher and day.
 pub(crate) fn no_file_twice(files: &[u8], n: usize) -> bool
-    requires { (2 + n * 8 ≤ length files.now) × (n ≤ 1024) × (all goodFile (table n (fileAt files.now)) ≡ true) }
-    ensures { result ≡ noneTwice sameFile (table n (fileAt files.now)) }
+    requires { (2 + n * 8 ≤ length files.now) × (n ≤ 1024) × (all good_file (table n (file_at files.now)) ≡ true) }
+    ensures { result ≡ none_twice same_file (table n (file_at files.now)) }
 {
     let mut numbers = [0u64; 10240];
     gather_all(files, n, &mut numbers);

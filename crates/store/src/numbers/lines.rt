@@ -4,7 +4,7 @@ ghost use Rattle.std.specs.Prelude.{◌≡◌, ◌+◌, ◌*◌, ◌≤◌, ◌<
 ghost use Rattle.laws.specs.Lists.{table, all};
 ghost use Rattle.laws.specs.Overlay.{overlay};
 ghost use Rattle.laws.specs.Words.{low_first};
-ghost use Rattle.store.specs.numbers.Lines.{lineSlot, line_at, lineCount, goodLine};
+ghost use Rattle.store.specs.numbers.Lines.{line_slot, line_at, line_count, good_line};
 
 use crate::slots::{run, word};
 use calendar::dates::{CalendarDays, in_calendar};
@@ -32,7 +32,7 @@ pub struct Line {
 // How many lines there are.
 pub fn line_count(lines: &[u8]) -> usize
     requires { 2 ≤ length lines.now }
-    ensures { (result ≡ lineCount lines.now) × (result < 65536) }
+    ensures { (result ≡ line_count lines.now) × (result < 65536) }
 {
     word::get2(lines, 0) as usize
 }
@@ -58,7 +58,7 @@ pub fn line_at(lines: &[u8], k: usize) -> Line
 // Writes a line into the slot k.
 pub fn put_line(lines: &mut [u8], k: usize, l: Line)
     requires { 2 + k * 14 + 14 ≤ length lines.old }
-    ensures { lines.new ≡ overlay lines.old (2 + k * 14) (lineSlot l) }
+    ensures { lines.new ≡ overlay lines.old (2 + k * 14) (line_slot l) }
 {
     let first = l.number.first.0;
     let last = l.number.last.0;
@@ -93,7 +93,7 @@ pub fn put_count(lines: &mut [u8], n: u16)
 
 // Whether a line is well formed.
 pub fn good_line(l: Line) -> bool
-    ensures { result ≡ goodLine l }
+    ensures { result ≡ good_line l }
 {
     let number = l.number;
     let first = number.first;
@@ -114,7 +114,7 @@ pub fn good_line(l: Line) -> bool
 // Whether each of the first n lines is.
 pub(crate) fn good_lines(lines: &[u8], n: usize) -> bool
     requires { 2 + n * 14 ≤ length lines.now }
-    ensures { result ≡ all goodLine (table n (line_at lines.now)) }
+    ensures { result ≡ all good_line (table n (line_at lines.now)) }
 {
     let mut i = 0;
     while i < n {

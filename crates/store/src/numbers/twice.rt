@@ -1,9 +1,9 @@
 // Whether a number stands in the table twice. Sorted keys that rise say that none does; where they do not, the numbers
 // themselves are compared: that is the way of a table that has a number twice, and of two numbers that share a key.
 ghost use Rattle.std.specs.Prelude.{◌≡◌, ◌+◌, ◌*◌, ◌≤◌, length, take, drop};
-ghost use Rattle.laws.specs.Lists.{table, any, noneTwice};
+ghost use Rattle.laws.specs.Lists.{table, any, none_twice};
 ghost use Rattle.laws.specs.Order.{sorted, rising};
-ghost use Rattle.fields.specs.Number.{sameNumber};
+ghost use Rattle.fields.specs.Number.{same_number};
 ghost use Rattle.store.specs.numbers.Lines.{number_at};
 ghost use Rattle.store.specs.numbers.Twice.{key_of, keys_of};
 
@@ -53,7 +53,7 @@ fn keys_rise(lines: &[u8], n: usize) -> bool
 // Whether the number x stands in one of the lines from `from` on.
 fn has_behind(lines: &[u8], n: usize, from: usize, x: Number) -> bool
     requires { 2 + n * 14 ≤ length lines.now }
-    ensures { result ≡ any (sameNumber x) (drop from (table n (number_at lines.now))) }
+    ensures { result ≡ any (same_number x) (drop from (table n (number_at lines.now))) }
 {
     let mut i = from;
     while i < n {
@@ -70,7 +70,7 @@ fn has_behind(lines: &[u8], n: usize, from: usize, x: Number) -> bool
 // Whether no number stands behind itself, each compared with each.
 fn each_once(lines: &[u8], n: usize) -> bool
     requires { 2 + n * 14 ≤ length lines.now }
-    ensures { result ≡ noneTwice sameNumber (table n (number_at lines.now)) }
+    ensures { result ≡ none_twice same_number (table n (number_at lines.now)) }
 {
     let mut i = 0;
     while i < n {
@@ -87,7 +87,7 @@ fn each_once(lines: &[u8], n: usize) -> bool
 // Whether no number stands in the first n lines twice.
 pub fn no_number_twice(lines: &[u8], n: usize) -> bool
     requires { (2 + n * 14 ≤ length lines.now) × (n ≤ 1024) }
-    ensures { result ≡ noneTwice sameNumber (table n (number_at lines.now)) }
+    ensures { result ≡ none_twice same_number (table n (number_at lines.now)) }
 {
     if keys_rise(lines, n) {
         return true;

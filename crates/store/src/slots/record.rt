@@ -1,7 +1,7 @@
 // A record's bytes in a slot: their number, the bytes, zeros behind.
 ghost use Rattle.std.specs.Prelude.{◌≡◌, ◌+◌, ◌*◌, ◌≤◌, ◌<◌, length};
 ghost use Rattle.laws.specs.Overlay.{overlay};
-ghost use Rattle.laws.specs.Slots.{slot_at, slot_of, heldIn, is_held};
+ghost use Rattle.laws.specs.Slots.{slot_at, slot_of, held_in, is_held};
 
 use crate::slots::{run, word};
 
@@ -21,7 +21,7 @@ pub fn put(journal: &mut [u8], width: usize, k: usize, bytes: &[u8])
 // The bytes of the record in the slot k, a part of the journal.
 pub fn bytes(journal: &[u8], width: usize, k: usize) -> &[u8]
     requires { (k * width + width ≤ length journal.now) × (0 < width) }
-    ensures { result.now ≡ heldIn (slot_at 0 width journal.now k) }
+    ensures { result.now ≡ held_in (slot_at 0 width journal.now k) }
 {
     let at = k * width;
     let n = word::wide(journal[at]);

@@ -1,6 +1,6 @@
 -- What the table of rules on reports asks (paper 01, "Verdicts on reports"), beside what stands in the report itself. Assumes nothing: these are definitions.
 use Rattle.std.specs.Prelude.{Bool, true, false, not, List, ℕ, ltb, eqb, get_or}
-use Rattle.calendar.specs.WorkingDays.{workingDayAfter}
+use Rattle.calendar.specs.WorkingDays.{working_day_after}
 use Rattle.calendar.specs.declared.dates.CalendarDays.{CalendarDays}
 use Rattle.calendar.specs.declared.working_days.Later.{Later}
 use Rattle.calendar.specs.declared.working_days.Later.TheVariants.{On as OnDay, Ends}
@@ -10,44 +10,44 @@ use Rattle.entries.specs.declared.report.Report.{Report}
 use Rattle.entries.specs.declared.entry.Place.{Place}
 use Rattle.entries.specs.declared.entry.Last.{Last}
 use Rattle.entries.specs.declared.entry.Last.TheVariants.{Never, On}
-use Rattle.entries.specs.Report.{by_kind, sameCode}
-use Rattle.entries.specs.Entry.{freePlace}
-use Rattle.entries.specs.places.Places.{isOpen, place_of}
+use Rattle.entries.specs.Report.{by_kind, same_code}
+use Rattle.entries.specs.Entry.{free_place}
+use Rattle.entries.specs.places.Places.{is_open, place_of}
 
 -- the fifth working day
-abbrev pub returnPeriod : ℕ
-returnPeriod = 5
+abbrev pub return_period : ℕ
+return_period = 5
 
 -- the date is before the last confirmed one; it equals the last confirmed one
-abbrev pub beforeLast : CalendarDays → Last → Bool
-beforeLast d Never = false
-beforeLast d (On l) = ltb d.0 l.0
+abbrev pub before_last : CalendarDays → Last → Bool
+before_last d Never = false
+before_last d (On l) = ltb d.0 l.0
 
-abbrev pub equalsLast : CalendarDays → Last → Bool
-equalsLast d Never = false
-equalsLast d (On l) = eqb d.0 l.0
+abbrev pub equals_last : CalendarDays → Last → Bool
+equals_last d Never = false
+equals_last d (On l) = eqb d.0 l.0
 
 -- a Z whose gaining network is not the owner
-abbrev pub toOther : Code → Report → Bool
-toOther owner r = by_kind r.kind false false (not (sameCode r.gaining owner))
+abbrev pub to_other : Code → Report → Bool
+to_other owner r = by_kind r.kind false false (not (same_code r.gaining owner))
 
 -- a P with a matching open L, or an L with a matching open P
-abbrev pub partnerOpen : Report → List Place → Bool
-partnerOpen r ps = by_kind r.kind (isOpen L r ps) (isOpen P r ps) false
+abbrev pub partner_open : Report → List Place → Bool
+partner_open r ps = by_kind r.kind (is_open L r ps) (is_open P r ps) false
 
 -- a P with a matching open Z
-abbrev pub zedOpen : Report → List Place → Bool
-zedOpen r ps = by_kind r.kind (isOpen Z r ps) false false
+abbrev pub zed_open : Report → List Place → Bool
+zed_open r ps = by_kind r.kind (is_open Z r ps) false false
 
 -- the publication day of the matching open Z
-abbrev pub zedDay : Report → List Place → CalendarDays
-zedDay r ps = (get_or ps (place_of Z r ps) freePlace).day
+abbrev pub zed_day : Report → List Place → CalendarDays
+zed_day r ps = (get_or ps (place_of Z r ps) free_place).day
 
 -- the day is before this one, or the calendar ends first
-abbrev pub notYet : CalendarDays → Later → Bool
-notYet day (OnDay d) = ltb day.0 d.0
-notYet day Ends = true
+abbrev pub not_yet : CalendarDays → Later → Bool
+not_yet day (OnDay d) = ltb day.0 d.0
+not_yet day Ends = true
 
 -- the day is before the fifth working day after the publication of the matching open Z, or the calendar ends first
-abbrev pub tooSoon : CalendarDays → Report → List Place → Bool
-tooSoon day r ps = notYet day (workingDayAfter (zedDay r ps).0 returnPeriod)
+abbrev pub too_soon : CalendarDays → Report → List Place → Bool
+too_soon day r ps = not_yet day (working_day_after (zed_day r ps).0 return_period)

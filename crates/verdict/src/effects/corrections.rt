@@ -1,6 +1,6 @@
 // The entry after an objection.
 ghost use Rattle.std.specs.Prelude.{◌≡◌};
-ghost use Rattle.verdict.specs.effects.Corrections.{named_at, withoutNamed, objectionEffect};
+ghost use Rattle.verdict.specs.effects.Corrections.{named_at, without_named, objection_effect};
 
 use crate::verdicts::Doing;
 use entries::entry::{Entry, PLACES, Place};
@@ -19,7 +19,7 @@ fn named_at(owner: Code, named: Published, places: [Place; PLACES]) -> usize
 
 // The named report lapses.
 fn without_named(e: Entry, owner: Code, named: Published) -> Entry
-    ensures { result ≡ withoutNamed e owner named }
+    ensures { result ≡ without_named e owner named }
 {
     let places = e.places;
     let holder = e.holder;
@@ -34,7 +34,7 @@ fn without_named(e: Entry, owner: Code, named: Published) -> Entry
 
 // The entry after an objection whose verdict does this.
 pub fn effect(d: Doing, e: Entry, owner: Code, named: Published) -> Entry
-    ensures { result ≡ objectionEffect d e owner named }
+    ensures { result ≡ objection_effect d e owner named }
 {
     match d {
         Doing::Lapses => without_named(e, owner, named),

@@ -1,6 +1,6 @@
 // The entry after a report, and the place of the open report that a confirmed one makes a pair with.
 ghost use Rattle.std.specs.Prelude.{◌≡◌};
-ghost use Rattle.verdict.specs.effects.Reports.{kept, confirmed, reportEffect, partnerAt};
+ghost use Rattle.verdict.specs.effects.Reports.{kept, confirmed, report_effect, partner_at};
 
 use crate::verdicts::Doing;
 use entries::entry::{Entry, Last, PLACES, Place};
@@ -39,7 +39,7 @@ fn confirm(e: Entry, r: Report) -> Entry
 
 // The entry after a report whose verdict does this.
 pub fn effect(d: Doing, e: Entry, p: Place) -> Entry
-    ensures { result ≡ reportEffect d e p }
+    ensures { result ≡ report_effect d e p }
 {
     match d {
         Doing::Keeps => keep(e, p),
@@ -51,7 +51,7 @@ pub fn effect(d: Doing, e: Entry, p: Place) -> Entry
 
 // The place of the open report that a confirmed one makes a pair with.
 pub fn partner_at(places: [Place; PLACES], r: Report) -> usize
-    ensures { result ≡ partnerAt r places }
+    ensures { result ≡ partner_at r places }
 {
     let k = r.kind;
     match k {

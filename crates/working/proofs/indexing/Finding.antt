@@ -16,18 +16,18 @@ use Rattle.laws.proofs.Lists.{keep-end-yes, keep-end-no, keep-both, keep_same, k
 use Rattle.order.specs.groups.Groups.{tag, group}
 use Rattle.order.proofs.groups.Groups.{grouped}
 use Rattle.fields.specs.declared.number.Number.{Number}
-use Rattle.fields.specs.Number.{sameNumber}
-use Rattle.fields.proofs.NumberLaws.{same_number}
+use Rattle.fields.specs.Number.{same_number}
+use Rattle.fields.proofs.NumberLaws.{same_number_lem}
 use Rattle.model.specs.Rules.{Event}
-use Rattle.store.specs.journals.Files.{fileAt}
-use Rattle.store.specs.journals.Reads.{recordsAt}
-use Rattle.rules.specs.Records.{number_in, firstIn}
-use Rattle.working.specs.Slips.{Slip, slips, aboutSlip, key_of, keys_of, eventBehind}
+use Rattle.store.specs.journals.Files.{file_at}
+use Rattle.store.specs.journals.Reads.{records_at}
+use Rattle.rules.specs.Records.{number_in, first_in}
+use Rattle.working.specs.Slips.{Slip, slips, about_slip, key_of, keys_of, event_behind}
 use Rattle.working.specs.Working.{Sound, Behind, Gathered}
 use Rattle.working.proofs.GatherLaws.{ranged}
 use Rattle.working.proofs.KeyLaws.{behind, bounded}
 use Rattle.working.proofs.SlipLaws.{kept}
-use Rattle.working.specs.indexing.Index.{front, isWanted, mayName, candidate, listed, numberBehind, frontBehind, aboutKey, Indexed, keysBehind}
+use Rattle.working.specs.indexing.Index.{front, is_wanted, may_name, candidate, listed, number_behind, front_behind, about_key, Indexed, keys_behind}
 use Rattle.rules.proofs.First.{first-in}
 use Rattle.working.proofs.indexing.Laying.{behind-none, behind_more}
 use Rattle.working.proofs.indexing.Grouping.{sorted-again}
@@ -42,26 +42,26 @@ key-past keys c i h = sym (get_or-eq_default (take c keys) 0 (omega (arith, leng
 
 module _ (q : ℕ → Bool) (keys places : List ℕ) (from : ℕ) where
   abbrev chosen : ℕ → List ℕ
-  chosen m = keep q (keysBehind keys (take m (drop from places)))
+  chosen m = keep q (keys_behind keys (take m (drop from places)))
 
-  one_more : (i : ℕ) → from + i < length places → keysBehind keys (take (i + 1) (drop from places)) ≡ keysBehind keys (take i (drop from places)) ++ (get_or keys (get_or places (from + i) 0 % 16384) 0 ∷ [])
+  one_more : (i : ℕ) → from + i < length places → keys_behind keys (take (i + 1) (drop from places)) ≡ keys_behind keys (take i (drop from places)) ++ (get_or keys (get_or places (from + i) 0 % 16384) 0 ∷ [])
   one_more i h =
-      ap (λ (j : ℕ). keysBehind keys (take j (drop from places))) (add-one i)
-      ∙ ap (keysBehind keys) (take-suc (drop from places) i 0 (omega (arith, length-drop from places)))
+      ap (λ (j : ℕ). keys_behind keys (take j (drop from places))) (add-one i)
+      ∙ ap (keys_behind keys) (take-suc (drop from places) i 0 (omega (arith, length-drop from places)))
       ∙ map-append (λ (g : ℕ). get_or keys (g % 16384) 0) (take i (drop from places)) (get_or (drop from places) i 0 ∷ [])
-      ∙ ap (λ (g : ℕ). keysBehind keys (take i (drop from places)) ++ (get_or keys (g % 16384) 0 ∷ [])) (get_or-drop from places i 0)
+      ∙ ap (λ (g : ℕ). keys_behind keys (take i (drop from places)) ++ (get_or keys (g % 16384) 0 ∷ [])) (get_or-drop from places i 0)
 
   module _ (out₀ out : List ℕ) (k i v : ℕ) (inv : Behind out₀ 0 (chosen i) out k) (h : from + i < length places) (e : v ≡ get_or keys (get_or places (from + i) 0 % 16384) 0) where
     pub pick_yes : k < length out → q v ≡ true → Behind out₀ 0 (chosen (i + 1)) (set out k v) (k + 1)
     pick_yes b t =
         subst (λ (l : List ℕ). Behind out₀ 0 l (set out k v) (k + 1))
-        (sym (ap (keep q) (one_more i h ∙ ap (λ (x : ℕ). keysBehind keys (take i (drop from places)) ++ (x ∷ [])) (sym e)) ∙ keep-end-yes q (keysBehind keys (take i (drop from places))) v t))
+        (sym (ap (keep q) (one_more i h ∙ ap (λ (x : ℕ). keys_behind keys (take i (drop from places)) ++ (x ∷ [])) (sym e)) ∙ keep-end-yes q (keys_behind keys (take i (drop from places))) v t))
         (behind_more v b inv)
 
     pub pick_no : q v ≡ false → Behind out₀ 0 (chosen (i + 1)) out k
     pick_no t =
         subst (λ (l : List ℕ). Behind out₀ 0 l out k)
-        (sym (ap (keep q) (one_more i h ∙ ap (λ (x : ℕ). keysBehind keys (take i (drop from places)) ++ (x ∷ [])) (sym e)) ∙ keep-end-no q (keysBehind keys (take i (drop from places))) v t))
+        (sym (ap (keep q) (one_more i h ∙ ap (λ (x : ℕ). keys_behind keys (take i (drop from places)) ++ (x ∷ [])) (sym e)) ∙ keep-end-no q (keys_behind keys (take i (drop from places))) v t))
         inv
 
 -- ---- the records of a number
@@ -72,51 +72,51 @@ and-implied false t h = refl
 module _ (n : ℕ) (files regular corrections wanted keys places : List ℕ) (c : ℕ) (sound : Sound n files regular corrections)
     (x : Indexed n files regular corrections wanted keys places c) (number : Number) where
   abbrev r : ℕ → ℕ → List ℕ
-  r = recordsAt regular corrections
+  r = records_at regular corrections
 
   pub index-ordered : sorted (take c places) ≡ take c places
   index-ordered =
-      ap sorted x.grouped ∙ sorted-again (table (length (take c keys)) (λ (i : ℕ). tag (frontBehind regular corrections (get_or (take c keys) i 0)) i)) ∙ sym x.grouped
+      ap sorted x.grouped ∙ sorted-again (table (length (take c keys)) (λ (i : ℕ). tag (front_behind regular corrections (get_or (take c keys) i 0)) i)) ∙ sym x.grouped
 
-  about-behind : (s : Slip) → Memᴰ s (slips r (fileAt files) n) → aboutSlip r number s ≡ aboutKey regular corrections number (key_of s)
-  unfolding aboutSlip aboutKey numberBehind eventBehind
+  about-behind : (s : Slip) → Memᴰ s (slips r (file_at files) n) → about_slip r number s ≡ about_key regular corrections number (key_of s)
+  unfolding about_slip about_key number_behind event_behind
   about-behind s m =
       let ranges = ranged n files regular corrections sound in
-      let within = bounded regular corrections sound.regularRoom sound.correctionRoom (fileAt files) n ranges sound.reports sound.objections s (kept r (fileAt files) n ranges s m) in
-      sym (ap (λ (e : Event). sameNumber (number_in e.kind e.bytes) number) (behind regular corrections sound.regularRoom sound.correctionRoom s within))
+      let within = bounded regular corrections sound.regular_room sound.correction_room (file_at files) n ranges sound.reports sound.objections s (kept r (file_at files) n ranges s m) in
+      sym (ap (λ (e : Event). same_number (number_in e.kind e.bytes) number) (behind regular corrections sound.regular_room sound.correction_room s within))
 
-  about-front : (k : ℕ) → aboutKey regular corrections number k ≡ true → eqb (frontBehind regular corrections k) (front number.first.0) ≡ true
-  unfolding aboutKey frontBehind
-  about-front k e = eq-eqb _ _ (ap (λ (m : Number). front m.first.0) (same_number (numberBehind regular corrections k) number e))
+  about-front : (k : ℕ) → about_key regular corrections number k ≡ true → eqb (front_behind regular corrections k) (front number.first.0) ≡ true
+  unfolding about_key front_behind
+  about-front k e = eq-eqb _ _ (ap (λ (m : Number). front m.first.0) (same_number_lem (number_behind regular corrections k) number e))
 
-  module _ (some : number.first.0 ≡ 1 → ⊥) (want : isWanted wanted number.first.0 ≡ true) where
-    about-candidate : (s : Slip) → aboutSlip r number s ≡ true → candidate r wanted s ≡ true
-    unfolding aboutSlip candidate mayName
+  module _ (some : number.first.0 ≡ 1 → ⊥) (want : is_wanted wanted number.first.0 ≡ true) where
+    about-candidate : (s : Slip) → about_slip r number s ≡ true → candidate r wanted s ≡ true
+    unfolding about_slip candidate may_name
     about-candidate s e =
         let bytes = r s.kind s.index in
-        let first : (number_in s.kind bytes).first.0 ≡ number.first.0 = ap (λ (m : Number). m.first.0) (same_number (number_in s.kind bytes) number e) in
-        ⊎_elim (λ (h : firstIn s.kind bytes ≡ 1). rw (eq-eqb (firstIn s.kind bytes) 1 h))
+        let first : (number_in s.kind bytes).first.0 ≡ number.first.0 = ap (λ (m : Number). m.first.0) (same_number_lem (number_in s.kind bytes) number e) in
+        ⊎_elim (λ (h : first_in s.kind bytes ≡ 1). rw (eq-eqb (first_in s.kind bytes) 1 h))
         (⊎_elim (λ (h : (number_in s.kind bytes).first.0 ≡ 1). absurd (some (sym first ∙ h)))
-        (λ (h : (number_in s.kind bytes).first.0 ≡ firstIn s.kind bytes). ap (λ (d : ℕ). eqb (firstIn s.kind bytes) 1 || isWanted wanted d) (sym h ∙ first) ∙ ap (λ (b : Bool). eqb (firstIn s.kind bytes) 1 || b) want ∙ or-true (eqb (firstIn s.kind bytes) 1)))
+        (λ (h : (number_in s.kind bytes).first.0 ≡ first_in s.kind bytes). ap (λ (d : ℕ). eqb (first_in s.kind bytes) 1 || is_wanted wanted d) (sym h ∙ first) ∙ ap (λ (b : Bool). eqb (first_in s.kind bytes) 1 || b) want ∙ or-true (eqb (first_in s.kind bytes) 1)))
         (first-in s.kind bytes)
 
     -- the group's records that name the number are all that do, in the order of the files
-    in_group : keep (aboutKey regular corrections number) (keysBehind (take c keys) (group (front number.first.0) (take c places))) ≡ keys_of r number (fileAt files) n
+    in_group : keep (about_key regular corrections number) (keys_behind (take c keys) (group (front number.first.0) (take c places))) ≡ keys_of r number (file_at files) n
     unfolding keys_of listed
     in_group =
-        let about = aboutKey regular corrections number in
-        let level : ℕ → Bool = λ (k : ℕ). eqb (frontBehind regular corrections k) (front number.first.0) in
+        let about = about_key regular corrections number in
+        let level : ℕ → Bool = λ (k : ℕ). eqb (front_behind regular corrections k) (front number.first.0) in
         let may = candidate r wanted in
-        let those = slips r (fileAt files) n in
-        ap (λ (l : List ℕ). keep about (keysBehind (take c keys) (group (front number.first.0) l))) x.grouped
-        ∙ ap (keep about) (grouped (frontBehind regular corrections) (take c keys) (omega (arith, length-take c keys, x.few)) (front number.first.0))
+        let those = slips r (file_at files) n in
+        ap (λ (l : List ℕ). keep about (keys_behind (take c keys) (group (front number.first.0) l))) x.grouped
+        ∙ ap (keep about) (grouped (front_behind regular corrections) (take c keys) (omega (arith, length-take c keys, x.few)) (front number.first.0))
         ∙ keep-both about level (take c keys)
         ∙ keep_same (λ (k : ℕ). about k && level k) about (take c keys) (λ k m. and-implied (about k) (level k) (about-front k))
         ∙ ap (keep about) x.candidates.laid
-        ∙ sym (keep-map key_of about (aboutSlip r number) (keep may those) (λ s m. about-behind s (mem-keep may those m)))
-        ∙ ap (map key_of) (keep-both (aboutSlip r number) may those ∙ keep_same (λ (s : Slip). aboutSlip r number s && may s) (aboutSlip r number) those (λ s m. and-implied (aboutSlip r number s) (may s) (about-candidate s)))
+        ∙ sym (keep-map key_of about (about_slip r number) (keep may those) (λ s m. about-behind s (mem-keep may those m)))
+        ∙ ap (map key_of) (keep-both (about_slip r number) may those ∙ keep_same (λ (s : Slip). about_slip r number s && may s) (about_slip r number) those (λ s m. and-implied (about_slip r number s) (may s) (about-candidate s)))
 
-    pub gathered : (out after : List ℕ) (k : ℕ) → Behind out 0 (keep (aboutKey regular corrections number) (keysBehind (take c keys) (group (front number.first.0) (take c places)))) after k
+    pub gathered : (out after : List ℕ) (k : ℕ) → Behind out 0 (keep (about_key regular corrections number) (keys_behind (take c keys) (group (front number.first.0) (take c places)))) after k
         → Gathered n files regular corrections number after k
     gathered out after k b = record {
       laid = b.laid ∙ in_group;

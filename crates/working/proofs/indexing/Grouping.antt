@@ -11,7 +11,7 @@ use lib.ListN.{length, take, drop, get_or}
 use lib.Seq.{get_or-take, length-take-le}
 use Rattle.laws.specs.Lists.{table}
 use Rattle.laws.specs.Order.{sorted}
-use Rattle.laws.proofs.Order.{inOrder-ordered, inOrder-of-ordered}
+use Rattle.laws.proofs.Order.{in_order-ordered, in_order-of-ordered}
 use Rattle.laws.proofs.ByKey.{by_number}
 use Rattle.laws.proofs.Rising.{take-sorted-any}
 use Rattle.laws.proofs.Tables.{table-cong}
@@ -61,7 +61,7 @@ module _ (l : List ℕ) (digits : ℕ) where
 
 -- ---- what is put in order
 pub sorted-again : (l : List ℕ) → sorted (sorted l) ≡ sorted l
-sorted-again l = inOrder-of-ordered leb (sorted l) (inOrder-ordered leb by_number l)
+sorted-again l = in_order-of-ordered leb (sorted l) (in_order-ordered leb by_number l)
 
 -- tags of each of the first c keys are the tags of these keys
 pub tags-laid : (φ : ℕ → ℕ) (keys laid after : List ℕ) (c : ℕ) → c ≤ length keys → take c laid ≡ table c (λ (i : ℕ). tag (φ (get_or keys i 0)) i) → after ≡ sorted (take c laid) ++ drop c laid → take c after ≡ tags φ (take c keys)

@@ -9,49 +9,49 @@ use lib.ListN.{length, set, length-append, length-map, length-take}
 use Rattle.laws.specs.Lists.{table, keep}
 use Rattle.laws.proofs.Lists.{keep_append, keep-end-yes, keep-end-no, keep-at-most}
 use Rattle.laws.proofs.Tables.{table_more}
-use Rattle.store.specs.journals.Files.{fileAt, recordsOf}
+use Rattle.store.specs.journals.Files.{file_at, records_of}
 use Rattle.store.specs.declared.journals.files.File.{File}
-use Rattle.store.specs.journals.Reads.{recordsAt}
-use Rattle.working.specs.Slips.{Slip, slipAt, slipsOf, slips, key_of}
+use Rattle.store.specs.journals.Reads.{records_at}
+use Rattle.working.specs.Slips.{Slip, slip_at, slips_of, slips, key_of}
 use Rattle.working.specs.Working.{Sound, Behind}
 use Rattle.working.proofs.GatherLaws.{ranged}
 use Rattle.working.proofs.SlipLaws.{records-grow, slips-length, slips-more}
-use Rattle.working.specs.indexing.Index.{mayName, candidate, listedIn, listed, Listed}
+use Rattle.working.specs.indexing.Index.{may_name, candidate, listed_in, listed, Listed}
 use Rattle.working.proofs.indexing.Laying.{behind-none, behind_more}
 
 -- ---- the records of one file
 module _ (p : Slip → Bool) (r : ℕ → ℕ → List ℕ) (f : File) (start : ℕ) where
-  listed-none : listedIn p r f start 0 ≡ []
-  unfolding listedIn table keep
+  listed-none : listed_in p r f start 0 ≡ []
+  unfolding listed_in table keep
   listed-none = refl
 
-  listed-yes : (i : ℕ) → p (slipAt r f start i) ≡ true → listedIn p r f start (i + 1) ≡ listedIn p r f start i ++ (key_of (slipAt r f start i) ∷ [])
-  unfolding listedIn
+  listed-yes : (i : ℕ) → p (slip_at r f start i) ≡ true → listed_in p r f start (i + 1) ≡ listed_in p r f start i ++ (key_of (slip_at r f start i) ∷ [])
+  unfolding listed_in
   listed-yes i e =
-      ap (λ (l : List Slip). map key_of (keep p l)) (table_more i (slipAt r f start))
-      ∙ ap (map key_of) (keep-end-yes p (slipsOf r f start i) (slipAt r f start i) e)
-      ∙ map-append key_of (keep p (slipsOf r f start i)) (slipAt r f start i ∷ [])
+      ap (λ (l : List Slip). map key_of (keep p l)) (table_more i (slip_at r f start))
+      ∙ ap (map key_of) (keep-end-yes p (slips_of r f start i) (slip_at r f start i) e)
+      ∙ map-append key_of (keep p (slips_of r f start i)) (slip_at r f start i ∷ [])
 
-  listed-no : (i : ℕ) → p (slipAt r f start i) ≡ false → listedIn p r f start (i + 1) ≡ listedIn p r f start i
-  unfolding listedIn
+  listed-no : (i : ℕ) → p (slip_at r f start i) ≡ false → listed_in p r f start (i + 1) ≡ listed_in p r f start i
+  unfolding listed_in
   listed-no i e =
-      ap (λ (l : List Slip). map key_of (keep p l)) (table_more i (slipAt r f start))
-      ∙ ap (map key_of) (keep-end-no p (slipsOf r f start i) (slipAt r f start i) e)
+      ap (λ (l : List Slip). map key_of (keep p l)) (table_more i (slip_at r f start))
+      ∙ ap (map key_of) (keep-end-no p (slips_of r f start i) (slip_at r f start i) e)
 
-  pub file-none : (keys : List ℕ) (at : ℕ) → Behind keys at (listedIn p r f start 0) keys at
+  pub file-none : (keys : List ℕ) (at : ℕ) → Behind keys at (listed_in p r f start 0) keys at
   file-none keys at = rw listed-none (behind-none keys at)
 
-  module _ (before keys : List ℕ) (at k i : ℕ) (inv : Behind before at (listedIn p r f start i) keys k) where
-    pub file-yes : (v : ℕ) → k < length keys → p (slipAt r f start i) ≡ true → v ≡ key_of (slipAt r f start i) → Behind before at (listedIn p r f start (i + 1)) (set keys k v) (k + 1)
+  module _ (before keys : List ℕ) (at k i : ℕ) (inv : Behind before at (listed_in p r f start i) keys k) where
+    pub file-yes : (v : ℕ) → k < length keys → p (slip_at r f start i) ≡ true → v ≡ key_of (slip_at r f start i) → Behind before at (listed_in p r f start (i + 1)) (set keys k v) (k + 1)
     file-yes v h e q =
-        subst (λ (l : List ℕ). Behind before at l (set keys k v) (k + 1)) (ap (λ (x : ℕ). listedIn p r f start i ++ (x ∷ [])) q ∙ sym (listed-yes i e))
+        subst (λ (l : List ℕ). Behind before at l (set keys k v) (k + 1)) (ap (λ (x : ℕ). listed_in p r f start i ++ (x ∷ [])) q ∙ sym (listed-yes i e))
         (behind_more v h inv)
 
-    pub file-no : p (slipAt r f start i) ≡ false → Behind before at (listedIn p r f start (i + 1)) keys k
+    pub file-no : p (slip_at r f start i) ≡ false → Behind before at (listed_in p r f start (i + 1)) keys k
     file-no e = subst (λ (l : List ℕ). Behind before at l keys k) (sym (listed-no i e)) inv
 
 -- the test is the code's
-pub candidate-at : (r : ℕ → ℕ → List ℕ) (wanted : List ℕ) (f : File) (start i : ℕ) (b : Bool) → mayName wanted f.kind (r f.kind (start + i)) ≡ b → candidate r wanted (slipAt r f start i) ≡ b
+pub candidate-at : (r : ℕ → ℕ → List ℕ) (wanted : List ℕ) (f : File) (start i : ℕ) (b : Bool) → may_name wanted f.kind (r f.kind (start + i)) ≡ b → candidate r wanted (slip_at r f start i) ≡ b
 unfolding candidate
 candidate-at r wanted f start i b e = e
 
@@ -61,10 +61,10 @@ module _ (p : Slip → Bool) (r : ℕ → ℕ → List ℕ) (file : ℕ → File
   unfolding listed slips keep
   nothing_yet = refl
 
-  listed_more : (k : ℕ) → listed p r file (k + 1) ≡ listed p r file k ++ listedIn p r (file k) (recordsOf (file k).kind (table k file)) (file k).count
-  unfolding listed slips listedIn
+  listed_more : (k : ℕ) → listed p r file (k + 1) ≡ listed p r file k ++ listed_in p r (file k) (records_of (file k).kind (table k file)) (file k).count
+  unfolding listed slips listed_in
   listed_more k =
-      let own = slipsOf r (file k) (recordsOf (file k).kind (table k file)) (file k).count in
+      let own = slips_of r (file k) (records_of (file k).kind (table k file)) (file k).count in
       ap (λ (n : ℕ). map key_of (keep p (slips r file n))) (add-one k)
       ∙ ap (map key_of) (keep_append p (slips r file k) own)
       ∙ map-append key_of (keep p (slips r file k)) (keep p own)
@@ -75,22 +75,22 @@ module _ (p : Slip → Bool) (r : ℕ → ℕ → List ℕ) (file : ℕ → File
 
 module _ (files regular corrections wanted : List ℕ) where
   abbrev all : ℕ → List ℕ
-  all k = listed (candidate (recordsAt regular corrections) wanted) (recordsAt regular corrections) (fileAt files) k
+  all k = listed (candidate (records_at regular corrections) wanted) (records_at regular corrections) (file_at files) k
 
   abbrev own : File → ℕ → List ℕ
-  own f start = listedIn (candidate (recordsAt regular corrections) wanted) (recordsAt regular corrections) f start f.count
+  own f start = listed_in (candidate (records_at regular corrections) wanted) (records_at regular corrections) f start f.count
 
   pub files-none : (keys : List ℕ) → Listed 0 files regular corrections wanted keys 0
   files-none keys =
-      let none = nothing_yet (candidate (recordsAt regular corrections) wanted) (recordsAt regular corrections) (fileAt files) in
+      let none = nothing_yet (candidate (records_at regular corrections) wanted) (records_at regular corrections) (file_at files) in
       record { laid = sym none; counted = sym (ap length none) }
 
-  pub files-more : (k : ℕ) (f : File) (start : ℕ) (keys after : List ℕ) (c m : ℕ) → f ≡ fileAt files k → start ≡ recordsOf f.kind (table k (fileAt files))
+  pub files-more : (k : ℕ) (f : File) (start : ℕ) (keys after : List ℕ) (c m : ℕ) → f ≡ file_at files k → start ≡ records_of f.kind (table k (file_at files))
       → Listed k files regular corrections wanted keys c → Behind keys c (own f start) after m → Listed (k + 1) files regular corrections wanted after m
   files-more k f start keys after c m e q g b =
-      let mine = own (fileAt files k) (recordsOf (fileAt files k).kind (table k (fileAt files))) in
+      let mine = own (file_at files k) (records_of (file_at files k).kind (table k (file_at files))) in
       let b' : Behind keys c mine after m = rw (q, e) at b in
-      let more = listed_more (candidate (recordsAt regular corrections) wanted) (recordsAt regular corrections) (fileAt files) k in record {
+      let more = listed_more (candidate (records_at regular corrections) wanted) (records_at regular corrections) (file_at files) k in record {
         laid = b'.laid ∙ ap (λ (l : List ℕ). l ++ mine) g.laid ∙ sym more;
         counted = omega (arith, b'.counted, g.counted, ap length more, length-append (all k) mine);
       }
@@ -99,18 +99,18 @@ module _ (files regular corrections wanted : List ℕ) where
   listed-long n keys c g = omega (arith, length-take c keys, ap length g.laid, g.counted)
 
   module _ (n : ℕ) (s : Sound n files regular corrections) where
-    pub room : (k : ℕ) → k < n → length (all k) + (fileAt files k).count ≤ 10240
+    pub room : (k : ℕ) → k < n → length (all k) + (file_at files k).count ≤ 10240
     room k h =
-        let r = recordsAt regular corrections in
+        let r = records_at regular corrections in
         let ranges = ranged n files regular corrections s in
         omega (
           arith,
-          listed_below (candidate r wanted) r (fileAt files) k,
-          slips-length r (fileAt files) k (λ j b. ranges j (omega arith)),
-          slips-length r (fileAt files) (suc k) (λ j b. ranges j (omega arith)),
-          slips-more r (fileAt files) k,
-          records-grow 0 (suc k) n (fileAt files) (omega arith),
-          records-grow 1 (suc k) n (fileAt files) (omega arith),
+          listed_below (candidate r wanted) r (file_at files) k,
+          slips-length r (file_at files) k (λ j b. ranges j (omega arith)),
+          slips-length r (file_at files) (suc k) (λ j b. ranges j (omega arith)),
+          slips-more r (file_at files) k,
+          records-grow 0 (suc k) n (file_at files) (omega arith),
+          records-grow 1 (suc k) n (file_at files) (omega arith),
           s.reports,
           s.objections,
         )
@@ -118,5 +118,5 @@ module _ (files regular corrections wanted : List ℕ) where
     -- and of all of them
     pub room-all : (keys : List ℕ) (c : ℕ) → Listed n files regular corrections wanted keys c → c ≤ 10240
     room-all keys c g =
-        let r = recordsAt regular corrections in
-        omega (arith, g.counted, listed_below (candidate r wanted) r (fileAt files) n, slips-length r (fileAt files) n (ranged n files regular corrections s), s.reports, s.objections)
+        let r = records_at regular corrections in
+        omega (arith, g.counted, listed_below (candidate r wanted) r (file_at files) n, slips-length r (file_at files) n (ranged n files regular corrections s), s.reports, s.objections)

@@ -13,7 +13,7 @@ use Rattle.laws.specs.Lists.{keep}
 use Rattle.laws.proofs.Lists.{keep-yes, keep-no}
 use Rattle.laws.proofs.Tests.{le-or-lt}
 use Rattle.order.specs.groups.Groups.{below, tag}
-use Rattle.working.specs.indexing.Index.{front, isWanted, Marked}
+use Rattle.working.specs.indexing.Index.{front, is_wanted, Marked}
 
 -- ---- marking
 -- a mark stays when another is set
@@ -85,7 +85,7 @@ module _ (marks : List Bool) (d : ℕ) (e : get_or marks (d % 1024) false ≡ fa
   as_many [] h = none (tag d 0) ∙ sym (none (tag (suc d) 0))
   as_many (x ∷ l) h = one_more x l (h 0 (omega arith)) (as_many l (λ i b. h (suc i) (omega arith)))
 
-pub not-marked : (wanted : List ℕ) (marks : List Bool) (digits : ℕ) → Marked wanted marks → get_or marks (digits % 281474976710656 % 1024) false ≡ false → false ≡ isWanted wanted digits
-unfolding isWanted
+pub not-marked : (wanted : List ℕ) (marks : List Bool) (digits : ℕ) → Marked wanted marks → get_or marks (digits % 281474976710656 % 1024) false ≡ false → false ≡ is_wanted wanted digits
+unfolding is_wanted
 not-marked wanted marks digits m e =
     sym (le-ltb (below (tag (front digits) 0) wanted) (below (tag (suc (front digits)) 0) wanted) (omega (arith, as_many marks (front digits) e wanted m.each)))

@@ -6,9 +6,9 @@ use Rattle.store.specs.numbers.Lines.{line_at}
 use Rattle.working.specs.indexing.Index.{front}
 
 -- the place of a line with the first field of its number in front
-unfoldable pub lineTag : List ℕ → ℕ → ℕ
-lineTag lines i = tag (front (line_at lines i).number.first.0) i
+unfoldable pub line_tag : List ℕ → ℕ → ℕ
+line_tag lines i = tag (front (line_at lines i).number.first.0) i
 
 -- the first m in order, the others as they were
-abbrev pub sortedFirst : ℕ → List ℕ → List ℕ
-sortedFirst m l = sorted (take m l) ++ drop m l
+abbrev pub sorted_first : ℕ → List ℕ → List ℕ
+sorted_first m l = sorted (take m l) ++ drop m l

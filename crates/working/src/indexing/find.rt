@@ -4,7 +4,7 @@ ghost use Rattle.laws.specs.Lists.{keep};
 ghost use Rattle.laws.specs.Order.{sorted};
 ghost use Rattle.order.specs.groups.Groups.{group};
 ghost use Rattle.working.specs.Working.{Sound, Behind, Gathered, WorkedAfresh};
-ghost use Rattle.working.specs.indexing.Index.{Wanted, front, aboutKey, keysBehind, Indexed};
+ghost use Rattle.working.specs.indexing.Index.{Wanted, front, about_key, keys_behind, Indexed};
 
 use crate::indexing::index;
 use crate::indexing::index::{FRONTS, PLACES};
@@ -27,7 +27,7 @@ fn key_of(keys: &[u64], c: usize, tag: u64) -> u64
 
 // Whether the record behind a key names the number.
 fn about<'a>(regular: &'a [u8], corrections: &'a [u8], number: Number, key: u64) -> bool
-    ensures { result ≡ aboutKey regular.now corrections.now number key }
+    ensures { result ≡ about_key regular.now corrections.now number key }
 {
     Number::same(index::number_behind(regular, corrections, key), number)
 }
@@ -45,7 +45,7 @@ fn pick<'a>(
     out: &mut [u64],
 ) -> usize
     requires { (c ≤ length keys.now) × (c ≤ length places.now) × (from + m ≤ c) × (m ≤ length out.old) }
-    ensures { Behind out.old 0 (keep (aboutKey regular.now corrections.now number) (keysBehind (take c keys.now) (take m (drop from (take c places.now))))) out.new result }
+    ensures { Behind out.old 0 (keep (about_key regular.now corrections.now number) (keys_behind (take c keys.now) (take m (drop from (take c places.now))))) out.new result }
 {
     let mut r = 0;
     let mut i = 0;
@@ -73,7 +73,7 @@ fn pick_all<'a>(
     out: &mut [u64; 10240],
 ) -> usize
     requires { (c ≤ 10240) × (from + m ≤ c) }
-    ensures { Behind out.old 0 (keep (aboutKey regular.now corrections.now number) (keysBehind (take c keys.now) (take m (drop from (take c places.now))))) out.new result }
+    ensures { Behind out.old 0 (keep (about_key regular.now corrections.now number) (keys_behind (take c keys.now) (take m (drop from (take c places.now))))) out.new result }
 {
     pick(regular, corrections, number, keys, places, c, from, m, out)
 }
@@ -89,7 +89,7 @@ fn gather_group<'a>(
     out: &mut [u64; 10240],
 ) -> usize
     requires { (c ≤ 10240) × (sorted (take c places.now) ≡ take c places.now) }
-    ensures { Behind out.old 0 (keep (aboutKey regular.now corrections.now number) (keysBehind (take c keys.now) (group (front number.first.0) (take c places.now)))) out.new result }
+    ensures { Behind out.old 0 (keep (about_key regular.now corrections.now number) (keys_behind (take c keys.now) (group (front number.first.0) (take c places.now)))) out.new result }
 {
     let first = number.first;
     let front = first.0 % FRONTS;

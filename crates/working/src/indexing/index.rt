@@ -3,11 +3,11 @@ ghost use Rattle.std.specs.Prelude.{◌≡◌, cond, ◌&&◌, ◌+◌, ◌*◌,
 ghost use Rattle.laws.specs.Lists.{table};
 ghost use Rattle.order.specs.groups.Groups.{tag, tags};
 ghost use Rattle.rules.specs.Records.{number_in};
-ghost use Rattle.store.specs.journals.Records.{shownIn};
-ghost use Rattle.store.specs.journals.Reads.{recordsAt};
+ghost use Rattle.store.specs.journals.Records.{shown_in};
+ghost use Rattle.store.specs.journals.Reads.{records_at};
 ghost use Rattle.store.specs.declared.journals.records.Journal.TheVariants.{Regular, Correction};
 ghost use Rattle.working.specs.Working.{Sound, Stored, InFile, Behind};
-ghost use Rattle.working.specs.indexing.Index.{isWanted, Wanted, Marked, Sought, mayName, candidate, listedIn, numberBehind, frontBehind, Listed, Indexed};
+ghost use Rattle.working.specs.indexing.Index.{is_wanted, Wanted, Marked, Sought, may_name, candidate, listed_in, number_behind, front_behind, Listed, Indexed};
 
 use crate::gather;
 use fields::number::Number;
@@ -38,7 +38,7 @@ fn is_below(keys: &[u64], w: usize, at: usize, end: u64) -> bool
 // Whether one of the first w tags has the first field in front: the first tag that is not below all such is one of them, or there is none.
 pub(crate) fn is_wanted(wanted: &[u64; 10240], w: usize, digits: u64) -> bool
     requires { Wanted wanted.now w }
-    ensures { result ≡ isWanted (take w wanted.now) digits }
+    ensures { result ≡ is_wanted (take w wanted.now) digits }
 {
     let front = digits % FRONTS;
     let from = order::groups::search(wanted, w, front * PLACES);
@@ -69,7 +69,7 @@ fn mark_all(wanted: &[u64; 10240], w: usize, marks: &mut [bool; 1024])
 // Whether one of the first w tags has the first field in front: most that none has are told by their mark, and not searched for.
 fn is_sought<'a>(wanted: &'a [u64; 10240], w: usize, marks: &'a [bool; 1024], digits: u64) -> bool
     requires { Sought wanted.now w marks.now }
-    ensures { result ≡ isWanted (take w wanted.now) digits }
+    ensures { result ≡ is_wanted (take w wanted.now) digits }
 {
     let at = (digits % FRONTS % MARKS) as usize;
     if marks[at] {
@@ -87,7 +87,7 @@ fn may_name<'a>(
     marks: &'a [bool; 1024],
 ) -> bool
     requires { Sought wanted.now w marks.now }
-    ensures { result ≡ mayName (take w wanted.now) kind bytes.now }
+    ensures { result ≡ may_name (take w wanted.now) kind bytes.now }
 {
     let digits = rules::records::first_in(kind, bytes);
     if digits == 1 {
@@ -108,7 +108,7 @@ fn is_candidate<'a>(
 ) -> bool
     requires stored { Stored regular.now corrections.now kind place }
     requires sought { Sought wanted.now w marks.now }
-    ensures { result ≡ mayName (take w wanted.now) kind (recordsAt regular.now corrections.now kind place) }
+    ensures { result ≡ may_name (take w wanted.now) kind (records_at regular.now corrections.now kind place) }
 {
     let bytes = gather::record_at(regular, corrections, kind, place);
     may_name(kind, bytes, wanted, w, marks)
@@ -129,7 +129,7 @@ fn list_file<'a>(
     requires in_file { InFile regular.now corrections.now f start f.count }
     requires sought { Sought wanted.now w marks.now }
     requires count_in_bounds { at + f.count ≤ length keys.old }
-    ensures { Behind keys.old at (listedIn (candidate (recordsAt regular.now corrections.now) (take w wanted.now)) (recordsAt regular.now corrections.now) f start f.count) keys.new result }
+    ensures { Behind keys.old at (listed_in (candidate (records_at regular.now corrections.now) (take w wanted.now)) (records_at regular.now corrections.now) f start f.count) keys.new result }
 {
     let count = f.count as usize;
     let mut r = at;
@@ -195,7 +195,7 @@ fn list_all<'a>(
 
 // The number that the record at a place names, by its class: corrections are of class 2.
 fn number_shown<'a>(regular: &'a [u8], corrections: &'a [u8], class: u64, index: usize) -> Number
-    ensures { result ≡ number_in (cond (eqb class 2) 1 0) (shownIn (cond (eqb class 2) Correction Regular) regular.now corrections.now 8192 index) }
+    ensures { result ≡ number_in (cond (eqb class 2) 1 0) (shown_in (cond (eqb class 2) Correction Regular) regular.now corrections.now 8192 index) }
 {
     if class == 2 {
         let bytes = records::record_bytes(regular, corrections, Journal::Correction, 8192, index);
@@ -207,7 +207,7 @@ fn number_shown<'a>(regular: &'a [u8], corrections: &'a [u8], class: u64, index:
 
 // The number that the record behind a key names.
 pub fn number_behind<'a>(regular: &'a [u8], corrections: &'a [u8], key: u64) -> Number
-    ensures { result ≡ numberBehind regular.now corrections.now key }
+    ensures { result ≡ number_behind regular.now corrections.now key }
 {
     let index = (key % 8192) as usize;
     let class = key / 8192 / 8192 / 1024 % 16;
@@ -217,7 +217,7 @@ pub fn number_behind<'a>(regular: &'a [u8], corrections: &'a [u8], key: u64) -> 
 // A place with the first field of the number in front that the record behind a key names.
 fn tag_behind<'a>(regular: &'a [u8], corrections: &'a [u8], key: u64, place: usize) -> u64
     requires { place < 16384 }
-    ensures { result ≡ tag (frontBehind regular.now corrections.now key) place }
+    ensures { result ≡ tag (front_behind regular.now corrections.now key) place }
 {
     let number = number_behind(regular, corrections, key);
     let first = number.first;
@@ -233,7 +233,7 @@ fn lay_tags<'a>(
     places: &mut [u64],
 )
     requires { (c ≤ 10240) × (c ≤ length keys.now) × (c ≤ length places.old) }
-    ensures { take c places.new ≡ table c (λ i. tag (frontBehind regular.now corrections.now (get_or keys.now i 0)) i) }
+    ensures { take c places.new ≡ table c (λ i. tag (front_behind regular.now corrections.now (get_or keys.now i 0)) i) }
 {
     let mut i = 0;
     while i < c {
@@ -251,7 +251,7 @@ fn lay_all_tags<'a>(
     places: &mut [u64; 10240],
 )
     requires { c ≤ 10240 }
-    ensures { take c places.new ≡ table c (λ i. tag (frontBehind regular.now corrections.now (get_or keys.now i 0)) i) }
+    ensures { take c places.new ≡ table c (λ i. tag (front_behind regular.now corrections.now (get_or keys.now i 0)) i) }
 {
     lay_tags(regular, corrections, keys, c, places);
 }

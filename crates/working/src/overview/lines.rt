@@ -2,14 +2,14 @@
 ghost use Rattle.std.specs.Prelude.{◌≡◌, ◌+◌, ◌*◌, ◌≤◌, ◌<◌, length, take};
 ghost use Rattle.laws.specs.Lists.{table};
 ghost use Rattle.laws.specs.Overlay.{overlay};
-ghost use Rattle.model.specs.Model.{entryOver};
-ghost use Rattle.store.specs.journals.Reads.{readFiles};
+ghost use Rattle.model.specs.Model.{entry_over};
+ghost use Rattle.store.specs.journals.Reads.{read_files};
 ghost use Rattle.store.specs.numbers.Lines.{line_at};
-ghost use Rattle.store.specs.Reads.{tableLine};
+ghost use Rattle.store.specs.Reads.{table_line};
 ghost use Rattle.rules.specs.Rules.{standings};
 ghost use Rattle.working.specs.Working.{Sound};
 ghost use Rattle.working.specs.indexing.Index.{Wanted, Indexed};
-ghost use Rattle.working.specs.overview.Lines.{lineTag, sortedFirst};
+ghost use Rattle.working.specs.overview.Lines.{line_tag, sorted_first};
 
 use crate::indexing::find;
 use crate::indexing::index::{FRONTS, PLACES};
@@ -20,7 +20,7 @@ use verdict::step::Standing;
 // The place of a line with the first field of its number in front.
 fn line_tag(lines: &[u8], i: usize) -> u64
     requires { (2 + i * 14 + 14 ≤ length lines.now) × (i < 1024) }
-    ensures { result ≡ lineTag lines.now i }
+    ensures { result ≡ line_tag lines.now i }
 {
     let l = lines::line_at(lines, i);
     let number = l.number;
@@ -31,7 +31,7 @@ fn line_tag(lines: &[u8], i: usize) -> u64
 // Those of the first m lines, one behind the other.
 fn lay_tags(lines: &[u8], m: usize, wanted: &mut [u64])
     requires { (2 + m * 14 ≤ length lines.now) × (m ≤ 1024) × (m ≤ length wanted.old) }
-    ensures { wanted.new ≡ overlay wanted.old 0 (table m (lineTag lines.now)) }
+    ensures { wanted.new ≡ overlay wanted.old 0 (table m (line_tag lines.now)) }
 {
     let mut i = 0;
     while i < m {
@@ -43,7 +43,7 @@ fn lay_tags(lines: &[u8], m: usize, wanted: &mut [u64])
 // The same, into an array.
 fn lay_all_tags(lines: &[u8], m: usize, wanted: &mut [u64; 10240])
     requires { (2 + m * 14 ≤ length lines.now) × (m ≤ 1024) }
-    ensures { wanted.new ≡ overlay wanted.old 0 (table m (lineTag lines.now)) }
+    ensures { wanted.new ≡ overlay wanted.old 0 (table m (line_tag lines.now)) }
 {
     lay_tags(lines, m, wanted);
 }
@@ -51,7 +51,7 @@ fn lay_all_tags(lines: &[u8], m: usize, wanted: &mut [u64; 10240])
 // The first fields of the first m lines as what is wanted: their tags, in order.
 pub fn want_lines(lines: &[u8], m: usize, wanted: &mut [u64; 10240])
     requires { (2 + m * 14 ≤ length lines.now) × (m ≤ 1024) }
-    ensures { wanted.new ≡ sortedFirst m (overlay wanted.old 0 (table m (lineTag lines.now))) }
+    ensures { wanted.new ≡ sorted_first m (overlay wanted.old 0 (table m (line_tag lines.now))) }
 {
     lay_all_tags(lines, m, wanted);
     order::sort(wanted, m);
@@ -76,7 +76,7 @@ pub fn line_standing<'a>(
     requires wanted { Wanted wanted.now w }
     requires indexed { Indexed n files.now regular.now corrections.now (take w wanted.now) keys.now places.now c }
     requires i_in_bounds { 2 + i * 14 + 14 ≤ length lines.now }
-    ensures { result ≡ entryOver standings (take n (readFiles files.now regular.now corrections.now)) (tableLine (line_at lines.now i)) }
+    ensures { result ≡ entry_over standings (take n (read_files files.now regular.now corrections.now)) (table_line (line_at lines.now i)) }
 {
     let l = lines::line_at(lines, i);
     let number = l.number;

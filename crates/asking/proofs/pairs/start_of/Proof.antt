@@ -4,7 +4,7 @@ use Prim.Native.Nat.{◌+◌, ◌*◌, ◌-◌, ◌≤◌}
 use native.Mathlib.Omega.{arith}
 use lib.ListN.{drop}
 use Rattle.laws.specs.Lists.{table}
-use Rattle.store.specs.journals.Files.{fileAt}
+use Rattle.store.specs.journals.Files.{file_at}
 use Rattle.asking.specs.pairs.Pairs.{start_by}
 use Rattle.asking.proofs.pairs.Starts.{start-on, start-here, start-end}
 use borrow.Author.Rules.{rules}
@@ -12,7 +12,7 @@ use Rattle.asking.proofs.pairs.start_of.Statement.{statement}
 use Rattle.asking.proofs.pairs.start_of.Tie as tie
 
 abbrev invariant-loop : tie.invariant-loop
-invariant-loop files n publisher day start₀ k₀ start k = (k ≤ n) × (start ≤ 16777216 * k) × (start + start_by publisher.0 day.0 (drop k (table n (fileAt files))) ≡ start_by publisher.0 day.0 (table n (fileAt files)))
+invariant-loop files n publisher day start₀ k₀ start k = (k ≤ n) × (start ≤ 16777216 * k) × (start + start_by publisher.0 day.0 (drop k (table n (file_at files))) ≡ start_by publisher.0 day.0 (table n (file_at files)))
 
 abbrev decreases-loop : tie.decreases-loop
 decreases-loop files n publisher day start₀ k₀ start k = n - k
@@ -31,7 +31,7 @@ returns c =
     let at-loop = c.before.before.before.before in
     let a = at-loop.before.before.args in
     let f = c.before.before.file-at in
-    start-here a.publisher.0 a.day.0 a.n at-loop.loop.k at-loop.loop.start (fileAt a.files.now) f.result f.ensures.0 (omega arith) at-loop.loop.invariant.2 (sym c.before.is-listed-of.ensures ∙ c.if1.true)
+    start-here a.publisher.0 a.day.0 a.n at-loop.loop.k at-loop.loop.start (file_at a.files.now) f.result f.ensures.0 (omega arith) at-loop.loop.invariant.2 (sym c.before.is-listed-of.ensures ∙ c.if1.true)
 
 records-in-requires : tie.Need-records-in-requires invariant-loop decreases-loop
 records-in-requires c κs = search rules
@@ -52,13 +52,13 @@ loop-again c =
     let f = c.before.before.before.file-at in (
       search rules,
       search rules,
-      start-on a.publisher.0 a.day.0 a.n at-loop.loop.k at-loop.loop.start (fileAt a.files.now) f.result f.ensures.0 (omega arith) at-loop.loop.invariant.2 c.records-in.result (sym c.before.before.is-listed-of.ensures ∙ c.before.if1.false) c.records-in.ensures.0,
+      start-on a.publisher.0 a.day.0 a.n at-loop.loop.k at-loop.loop.start (file_at a.files.now) f.result f.ensures.0 (omega arith) at-loop.loop.invariant.2 c.records-in.result (sym c.before.before.is-listed-of.ensures ∙ c.before.if1.false) c.records-in.ensures.0,
     )
 
 returns-2 : tie.Need-returns-2 invariant-loop decreases-loop
 returns-2 c =
     let a = c.before.before.before.args in
-    start-end a.publisher.0 a.day.0 a.n c.before.loop.k c.before.loop.start (fileAt a.files.now) (omega arith) c.before.loop.invariant.2
+    start-end a.publisher.0 a.day.0 a.n c.before.loop.k c.before.loop.start (file_at a.files.now) (omega arith) c.before.loop.invariant.2
 
 pub start-of-spec : {M : Type 1} → statement M
 start-of-spec =

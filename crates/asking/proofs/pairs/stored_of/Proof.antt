@@ -2,7 +2,7 @@
 use Prim.Native.Nat.{◌≤◌}
 use native.Mathlib.Omega.{arith}
 use Rattle.laws.specs.Lists.{table}
-use Rattle.store.specs.journals.Files.{fileAt}
+use Rattle.store.specs.journals.Files.{file_at}
 use Rattle.asking.proofs.pairs.Starts.{start-below}
 use borrow.Author.Rules.{rules}
 use Rattle.asking.proofs.pairs.stored_of.Statement.{statement}
@@ -22,7 +22,7 @@ add-t9 c =
     let start = c.before.before.before.before.before.before in
     let a = start.args in
     let s = c.before.start_of_lem in
-    let b : s.result ≤ 8192 = omega (arith, s.ensures, start-below c.before.before.before.publisher.result.0 a.p.day.0 (table a.n (fileAt a.files.now)), start.requires.1) in
+    let b : s.result ≤ 8192 = omega (arith, s.ensures, start-below c.before.before.before.publisher.result.0 a.p.day.0 (table a.n (file_at a.files.now)), start.requires.1) in
     search rules
 
 returns : tie.Need-returns

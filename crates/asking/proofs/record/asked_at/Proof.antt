@@ -2,7 +2,7 @@
 use mathlib.Core.Path.{sym, ◌∙◌}
 use native.Mathlib.Omega.{arith}
 use lib.ListN.{take}
-use Rattle.store.specs.journals.Reads.{readFiles}
+use Rattle.store.specs.journals.Reads.{read_files}
 use Rattle.asking.proofs.Lines.{found_below}
 use Rattle.asking.proofs.Records.{asked-unknown, asked_here}
 use borrow.Author.Rules.{rules}
@@ -45,7 +45,7 @@ returns c =
     let f = c.before.before.before.found.given in
     let v = c.before.verdict-at in
     c.with-verdict.ensures
-    ∙ asked_here a.table.now a.files.now a.regular.now a.corrections.now (take a.n (readFiles a.files.now a.regular.now a.corrections.now)) a.k a.at start.requires.1.1 said.result said.ensures f.0.0 (sym f.1 ∙ found.ensures) v.result v.ensures
+    ∙ asked_here a.table.now a.files.now a.regular.now a.corrections.now (take a.n (read_files a.files.now a.regular.now a.corrections.now)) a.k a.at start.requires.1.1 said.result said.ensures f.0.0 (sym f.1 ∙ found.ensures) v.result v.ensures
 
 returns-2 : tie.Need-returns-2
 returns-2 c =
@@ -54,7 +54,7 @@ returns-2 c =
     let said = c.before.before.before.before.before.before.Said-at in
     let found = c.before.before.before.find-line in
     c.with-verdict2.ensures
-    ∙ asked-unknown a.table.now a.files.now a.regular.now a.corrections.now (take a.n (readFiles a.files.now a.regular.now a.corrections.now)) a.k a.at start.requires.1.1 said.result said.ensures (sym c.before.enum_told.given.1 ∙ found.ensures)
+    ∙ asked-unknown a.table.now a.files.now a.regular.now a.corrections.now (take a.n (read_files a.files.now a.regular.now a.corrections.now)) a.k a.at start.requires.1.1 said.result said.ensures (sym c.before.enum_told.given.1 ∙ found.ensures)
 
 pub asked-at-spec : {M : Type 1} → statement M
 asked-at-spec =

@@ -3,20 +3,20 @@ use mathlib.Core.Path.{◌≡◌, ap, ◌∙◌}
 use Prim.Native.Nat.{ℕ, ◌+◌, ◌-◌, ◌≤◌}
 use native.Mathlib.Omega.{arith}
 use Rattle.laws.specs.Lists.{table}
-use Rattle.store.specs.journals.Files.{fileAt, recordsOf}
+use Rattle.store.specs.journals.Files.{file_at, records_of}
 use Rattle.asking.proofs.Records.{located, located-on, located-start}
 use borrow.Author.Rules.{rules}
 use Rattle.asking.proofs.record.locate.Statement.{statement}
 use Rattle.asking.proofs.record.locate.Tie as tie
 
 abbrev invariant-loop : tie.invariant-loop
-invariant-loop files n kind place at₀ k₀ at k = (k ≤ n) × (recordsOf kind (table k (fileAt files)) + at ≡ place)
+invariant-loop files n kind place at₀ k₀ at k = (k ≤ n) × (records_of kind (table k (file_at files)) + at ≡ place)
 
 abbrev decreases-loop : tie.decreases-loop
 decreases-loop files n kind place at₀ k₀ at k = n - k
 
 loop-holds : tie.Need-loop-init invariant-loop decreases-loop
-loop-holds c = let a = c.before.args in (search rules, located-start (fileAt a.files.now) a.kind a.place)
+loop-holds c = let a = c.before.args in (search rules, located-start (file_at a.files.now) a.kind a.place)
 
 file-at-requires : tie.Need-file-at-requires invariant-loop decreases-loop
 file-at-requires c κs = search rules
@@ -30,7 +30,7 @@ returns c =
     let a = at-loop.before.before.args in
     let f = c.before.before.file-at in
     let m = c.before.records-in in
-    located (fileAt a.files.now) a.kind a.place at-loop.loop.k at-loop.loop.at f.result m.result f.ensures.0 m.ensures.0 at-loop.loop.invariant.1 a.n (omega arith) c.if1.true
+    located (file_at a.files.now) a.kind a.place at-loop.loop.k at-loop.loop.at f.result m.result f.ensures.0 m.ensures.0 at-loop.loop.invariant.1 a.n (omega arith) c.if1.true
 
 add-k : tie.Need-overflow-add-k invariant-loop decreases-loop
 add-k c = search rules
@@ -44,13 +44,13 @@ loop-again c =
     let a = at-loop.before.before.args in
     let f = c.before.before.file-at in
     let m = c.before.records-in in
-    (search rules, located-on (fileAt a.files.now) a.kind a.place at-loop.loop.k at-loop.loop.at f.result m.result f.ensures.0 m.ensures.0 at-loop.loop.invariant.1 c.if1.false)
+    (search rules, located-on (file_at a.files.now) a.kind a.place at-loop.loop.k at-loop.loop.at f.result m.result f.ensures.0 m.ensures.0 at-loop.loop.invariant.1 c.if1.false)
 
 returns-2 : tie.Need-returns-2 invariant-loop decreases-loop
 returns-2 c =
     let a = c.before.before.before.args in
     let e : c.before.loop.k ≡ a.n = omega arith in
-    omega (arith, c.before.loop.invariant.1, ap (λ (k : ℕ). recordsOf a.kind (table k (fileAt a.files.now))) e)
+    omega (arith, c.before.loop.invariant.1, ap (λ (k : ℕ). records_of a.kind (table k (file_at a.files.now))) e)
 
 pub locate-spec : {M : Type 1} → statement M
 locate-spec =

@@ -1,6 +1,6 @@
 -- `asking::record::said_at` meets its contract. Assumes nothing.
 use native.Mathlib.Omega.{arith}
-use Rattle.working.specs.Working.{recordIn}
+use Rattle.working.specs.Working.{record_in}
 use Rattle.working.proofs.GatherLaws.{in_place}
 use borrow.Author.Rules.{rules}
 use Rattle.asking.proofs.record.said_at.Statement.{statement}
@@ -30,7 +30,7 @@ record-at-requires c κs =
     let m = c.records-of in
     let w = in_place a.n a.files.now a.regular.now a.corrections.now start.requires.0 a.k f.result m.result a.at start.requires.1.0 f.ensures.0 m.ensures start.requires.1.1 in
     let fits = w.within in
-    record { kinds = w.kinds; within = omega (arith, fits); regularRoom = w.regularRoom; correctionRoom = w.correctionRoom }
+    record { kinds = w.kinds; within = omega (arith, fits); regular_room = w.regular_room; correction_room = w.correction_room }
 
 number-in-requires : tie.Need-number-in-requires
 number-in-requires c κs = search rules
@@ -49,7 +49,7 @@ cast-t16 c =
     search rules
 
 returns : tie.Need-returns
-unfolding recordIn
+unfolding record_in
 returns c = rw (c.says-in.ensures, c.before.number_in.ensures, c.before.before.record-at.ensures, c.before.before.before.records-of.ensures, c.before.before.before.before.file-at.ensures.0)
 
 pub said-at-spec : {M : Type 1} → statement M

@@ -3,13 +3,13 @@
 use native.Mathlib.Omega.{arith}
 use borrow.Author.Rules.{rules}
 use borrow.Author.Tests.{le-leb, lt-leb}
-use Rattle.calendar.specs.Answers.{dateOf, dateIn}
-use Rattle.calendar.proofs.DateLaws.{monthDays-le, year-found, month-found}
+use Rattle.calendar.specs.Answers.{date_of, date_in}
+use Rattle.calendar.proofs.DateLaws.{month_days-le, year-found, month-found}
 use Rattle.calendar.proofs.dates.date_of.Statement.{statement}
 use Rattle.calendar.proofs.dates.date_of.Tie as tie
 
 returns : tie.Need-returns
-unfolding dateOf
+unfolding date_of
 returns c = simp (lt-leb _ _ c.if1.true)
 
 year-of-requires : tie.Need-year-of-requires
@@ -53,10 +53,10 @@ cast-t9 c =
     let y = c.before.before.before in
     let n = y.before.before.args.day.0 in
     let in-month = month-found n y.year-of.result c.before.before.year-start.result c.before.month-of.result y.before.if1.false y.year-of.ensures c.before.before.year-start.ensures c.before.month-of.ensures in
-    omega (arith, monthDays-le y.year-of.result c.before.month-of.result)
+    omega (arith, month_days-le y.year-of.result c.before.month-of.result)
 
 returns-2 : tie.Need-returns-2
-unfolding dateOf dateIn
+unfolding date_of date_in
 returns-2 c =
     let before = c.before.before.before in
     rw (le-leb _ _ before.before.if1.false, ← before.year-of.ensures, ← c.before.before.year-start.ensures, ← c.before.month-of.ensures, ← c.month-start.ensures)

@@ -1,7 +1,7 @@
 -- `calendar::dates::year_of` meets its contract: it is the closed rule. Assumes nothing.
 use mathlib.Core.Path.{refl}
 use native.Mathlib.Omega.{arith}
-use Rattle.calendar.specs.Dates.{yearOf}
+use Rattle.calendar.specs.Dates.{year_of}
 use Rattle.calendar.proofs.dates.year_of.Statement.{statement}
 use Rattle.calendar.proofs.dates.year_of.Tie as tie
 
@@ -18,7 +18,7 @@ add-result : tie.Need-overflow-add-result
 add-result c = omega arith
 
 returns : tie.Need-returns
-unfolding yearOf
+unfolding year_of
 returns c = refl
 
 pub year-of-spec : {M : Type 1} → statement M

@@ -1,6 +1,6 @@
 -- `calendar::dates::year_start` meets its contract: it is the closed rule. Assumes nothing.
 use native.Mathlib.Omega.{arith}
-use Rattle.calendar.specs.Dates.{yearStart}
+use Rattle.calendar.specs.Dates.{year_start}
 use Rattle.calendar.proofs.dates.year_start.Statement.{statement}
 use Rattle.calendar.proofs.dates.year_start.Tie as tie
 
@@ -17,7 +17,7 @@ add-result : tie.Need-overflow-add-result
 add-result c = omega arith
 
 returns : tie.Need-returns
-unfolding yearStart
+unfolding year_start
 returns c = omega arith
 
 pub year-start-spec : {M : Type 1} → statement M

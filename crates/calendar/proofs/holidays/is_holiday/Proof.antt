@@ -9,8 +9,8 @@ use Rattle.laws.specs.Sums.{sum_to}
 use Rattle.laws.specs.Lists.{table}
 use Rattle.laws.specs.Order.{put}
 use Rattle.laws.proofs.Halving.{Within, within-start, within-up, within-down, within-here, within_none}
-use Rattle.calendar.specs.Dates.{leap, monthDays, yearStart, monthStart, dayNumber}
-use Rattle.calendar.specs.Holidays.{easter, nineOf, holidaysOf, years, holidays}
+use Rattle.calendar.specs.Dates.{leap, month_days, year_start, month_start, day_number}
+use Rattle.calendar.specs.Holidays.{easter, nine_of, holidays_of, years, holidays}
 use Rattle.calendar.proofs.HolidayLaws.{holidays-length, never-falls}
 use Rattle.calendar.proofs.holidays.is_holiday.Statement.{statement}
 use Rattle.calendar.proofs.holidays.is_holiday.Tie as tie
@@ -22,7 +22,7 @@ abbrev decreases-loop : tie.decreases-loop
 decreases-loop day list lo₀ hi₀ lo hi = hi - lo
 
 loop-holds : tie.Need-loop-init invariant-loop decreases-loop
-unfolding sum_to table flat_map put leap monthDays yearStart monthStart dayNumber easter nineOf holidaysOf years holidays
+unfolding sum_to table flat_map put leap month_days year_start month_start day_number easter nine_of holidays_of years holidays
 loop-holds c = (within-start _ holidays _ (sym holidays-length), refl)
 
 add-middle : tie.Need-overflow-add-middle invariant-loop decreases-loop

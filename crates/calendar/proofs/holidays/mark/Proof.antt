@@ -8,21 +8,21 @@ use lib.ListN.{length, drop}
 use Rattle.laws.specs.Sums.{sum_to}
 use Rattle.laws.specs.Lists.{table}
 use Rattle.laws.specs.Order.{put}
-use Rattle.calendar.specs.Dates.{leap, monthDays, yearStart, monthStart, dayNumber}
-use Rattle.calendar.specs.Holidays.{easter, nineOf, holidaysOf, years, holidays, sumsFrom, mark_of}
+use Rattle.calendar.specs.Dates.{leap, month_days, year_start, month_start, day_number}
+use Rattle.calendar.specs.Holidays.{easter, nine_of, holidays_of, years, holidays, sums_from, mark_of}
 use Rattle.calendar.proofs.HolidayLaws.{holidays-length, sums-turn, sums-end}
 use borrow.Author.Rules.{rules}
 use Rattle.calendar.proofs.holidays.mark.Statement.{statement}
 use Rattle.calendar.proofs.holidays.mark.Tie as tie
 
 abbrev invariant-loop : tie.invariant-loop
-invariant-loop list a₀ b₀ i₀ a b i = (list ≡ holidays) × (i ≤ 469) × (a ≤ 1 + 65535 * i) × (b ≤ 31000000 * i) × (sumsFrom a b (drop i holidays) ≡ mark_of holidays)
+invariant-loop list a₀ b₀ i₀ a b i = (list ≡ holidays) × (i ≤ 469) × (a ≤ 1 + 65535 * i) × (b ≤ 31000000 * i) × (sums_from a b (drop i holidays) ≡ mark_of holidays)
 
 abbrev decreases-loop : tie.decreases-loop
 decreases-loop list a₀ b₀ i₀ a b i = 469 - i
 
 loop-holds : tie.Need-loop-init invariant-loop decreases-loop
-unfolding sum_to table flat_map put leap monthDays yearStart monthStart dayNumber easter nineOf holidaysOf years holidays
+unfolding sum_to table flat_map put leap month_days year_start month_start day_number easter nine_of holidays_of years holidays
 loop-holds c = (refl, omega arith, omega arith, omega arith, refl)
 
 holiday-at-requires : tie.Need-holiday-at-requires invariant-loop decreases-loop

@@ -3,7 +3,7 @@
 use mathlib.Core.Path.{sym, ◌∙◌}
 use Prim.Native.Nat.{◌-◌}
 use native.Mathlib.Omega.{arith}
-use Rattle.calendar.specs.Dates.{lastDay}
+use Rattle.calendar.specs.Dates.{last_day}
 use Rattle.calendar.proofs.WorkingLaws.{Counting, counting-starts, counting-on, counting-past, counting-there, counting-ends, after-outside}
 use Rattle.calendar.proofs.working_days.working_day_after.Statement.{statement}
 use Rattle.calendar.proofs.working_days.working_day_after.Tie as tie
@@ -12,7 +12,7 @@ abbrev invariant-loop : tie.invariant-loop
 invariant-loop first k d left = Counting first k d left
 
 abbrev decreases-loop : tie.decreases-loop
-decreases-loop first k d left = lastDay - d
+decreases-loop first k d left = last_day - d
 
 returns : tie.Need-returns invariant-loop decreases-loop
 returns c = after-outside _ _ c.if1.true

@@ -3,14 +3,14 @@ use Prim.Native.Nat.{◌≤◌}
 use mathlib.Core.Path.{◌≡◌, refl, sym, ◌∙◌}
 use native.Mathlib.Omega.{arith}
 use lib.ListN.{length}
-use Rattle.commands.specs.Given.{behindSlash, nameStart}
+use Rattle.commands.specs.Given.{behind_slash, name_start}
 use Rattle.commands.proofs.Slashes.{slash-here, slash-on, slash-none}
 use borrow.Author.Rules.{rules}
 use Rattle.commands.proofs.given.name_at.Statement.{statement}
 use Rattle.commands.proofs.given.name_at.Tie as tie
 
 abbrev invariant-loop : tie.invariant-loop
-invariant-loop path n₀ n = (n ≤ length path) × (behindSlash n path ≡ nameStart path)
+invariant-loop path n₀ n = (n ≤ length path) × (behind_slash n path ≡ name_start path)
 
 abbrev decreases-loop : tie.decreases-loop
 decreases-loop path n₀ n = n

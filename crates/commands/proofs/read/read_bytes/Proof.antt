@@ -1,6 +1,6 @@
 -- `commands::read::read_bytes` meets its contract: the status is that of what the file was judged to be. Assumes nothing.
 use mathlib.Core.Path.{sym, ap, ◌∙◌}
-use Rattle.commands.specs.Status.{readStatus}
+use Rattle.commands.specs.Status.{read_status}
 use Rattle.commands.proofs.Statuses.{ends_as}
 use borrow.Author.Rules.{rules}
 use Rattle.commands.proofs.read.read_bytes.Statement.{statement}
@@ -27,12 +27,12 @@ records-requires c κs = search rules
 returns : tie.Need-returns
 returns c =
     let fault = c.before.before.before in
-    ends_as 1 _ _ (ap readStatus (sym fault.before.before.judge.ensures ∙ fault.at.given.1)) c.refused2.ensures
+    ends_as 1 _ _ (ap read_status (sym fault.before.before.judge.ensures ∙ fault.at.given.1)) c.refused2.ensures
 
 returns-2 : tie.Need-returns-2
 returns-2 c =
     let right = c.before.before in
-    ends_as 0 _ _ (ap readStatus (sym right.before.before.judge.ensures ∙ right.n.given.1)) c.records.ensures
+    ends_as 0 _ _ (ap read_status (sym right.before.before.judge.ensures ∙ right.n.given.1)) c.records.ensures
 
 pub read-bytes-spec : {M : Type 1} → statement M
 read-bytes-spec =

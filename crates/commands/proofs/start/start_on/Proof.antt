@@ -1,7 +1,7 @@
 -- `commands::start::start_on` meets its contract: the status is that of what starting answers, and saving changes no buffer. Assumes nothing.
 use mathlib.Core.Path.{sym, ap, ◌∙◌}
 use mathlib.Core.Logic.{inr}
-use Rattle.commands.specs.Status.{startStatus}
+use Rattle.commands.specs.Status.{start_status}
 use Rattle.commands.proofs.Statuses.{ends_as, failed-2}
 use borrow.Author.Rules.{rules}
 use Rattle.commands.proofs.start.start_on.Statement.{statement}
@@ -40,18 +40,18 @@ started-requires c κs = search rules
 returns-2 : tie.Need-returns-2
 returns-2 c =
     let s = c.before.before.before in
-    record { ends = ends_as 1 _ _ (ap startStatus (sym s.start.ensures.answers ∙ c.before.enum_told.given.1)) c.refused.ensures; leaves = s.start.ensures.leaves }
+    record { ends = ends_as 1 _ _ (ap start_status (sym s.start.ensures.answers ∙ c.before.enum_told.given.1)) c.refused.ensures; leaves = s.start.ensures.leaves }
 
 returns-3 : tie.Need-returns-3
 returns-3 c =
     let s = c.before.before.before in
-    record { ends = ends_as 1 _ _ (ap startStatus (sym s.start.ensures.answers ∙ c.before.enum-told2.given.1)) c.refused2.ensures; leaves = s.start.ensures.leaves }
+    record { ends = ends_as 1 _ _ (ap start_status (sym s.start.ensures.answers ∙ c.before.enum-told2.given.1)) c.refused2.ensures; leaves = s.start.ensures.leaves }
 
 returns-4 : tie.Need-returns-4
 returns-4 c =
     let n = c.before.before.before.before.before.before.before.before.before in
     let s = n.before.before in
-    record { ends = ends_as 0 _ _ (ap startStatus (sym s.start.ensures.answers ∙ n.n.given.1)) c.started.ensures; leaves = s.start.ensures.leaves }
+    record { ends = ends_as 0 _ _ (ap start_status (sym s.start.ensures.answers ∙ n.n.given.1)) c.started.ensures; leaves = s.start.ensures.leaves }
 
 pub start-on-spec : {M : Type 1} → statement M
 start-on-spec =

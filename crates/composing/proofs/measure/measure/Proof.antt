@@ -1,7 +1,7 @@
 -- `composing::measure::measure` meets its contract. The records from `at` on, measured behind the first `k`, measure as all do. Assumes nothing.
 use Rattle.composing.proofs.GroupLaws.{group-whole, measure-on, measure-stop, measure-done}
-use Rattle.composing.specs.Measuring.{measuredFrom}
-use Rattle.files.specs.Writing.{valuesIn}
+use Rattle.composing.specs.Measuring.{measured_from}
+use Rattle.files.specs.Writing.{values_in}
 use lib.ListN.{length, drop}
 use borrow.Author.Tests.{not-true, not-false}
 use native.Mathlib.Omega.{arith}
@@ -12,7 +12,7 @@ use Rattle.composing.proofs.measure.measure.Statement.{statement}
 use Rattle.composing.proofs.measure.measure.Tie as tie
 
 abbrev invariant-loop : tie.invariant-loop
-invariant-loop kind words w at₀ k₀ total₀ at k total = (at ≤ length words) × ((k ≤ at) × ((total ≤ 8 * at) × (measuredFrom kind k total (valuesIn kind (drop at words)) ≡ measuredFrom kind 0 0 (valuesIn kind words))))
+invariant-loop kind words w at₀ k₀ total₀ at k total = (at ≤ length words) × ((k ≤ at) × ((total ≤ 8 * at) × (measured_from kind k total (values_in kind (drop at words)) ≡ measured_from kind 0 0 (values_in kind words))))
 
 abbrev decreases-loop : tie.decreases-loop
 decreases-loop kind words w at₀ k₀ total₀ at k total = length words - at

@@ -1,8 +1,8 @@
 -- `composing::write::put_records` meets its contract. What is left to lay, laid from here on, gives what is to be laid in all. Assumes nothing.
 use Rattle.composing.proofs.LayLaws.{lay-on, lay-end, lay-length, left-lines, left-length, first_fits, left-fit, left-none}
 use Rattle.composing.proofs.GroupLaws.{group-whole}
-use Rattle.composing.specs.Measuring.{recordLines}
-use Rattle.files.specs.Writing.{valuesIn}
+use Rattle.composing.specs.Measuring.{record_lines}
+use Rattle.files.specs.Writing.{values_in}
 use Rattle.records.specs.Record.{fits}
 use Rattle.laws.proofs.Overlay.{laid-length, overlay-none}
 use Rattle.laws.specs.Overlay.{overlay}
@@ -17,7 +17,7 @@ use Rattle.composing.proofs.write.put_records.Statement.{statement}
 use Rattle.composing.proofs.write.put_records.Tie as tie
 
 abbrev invariant-loop : tie.invariant-loop
-invariant-loop kind words out₀ w at₀ to₀ out at to = (at ≤ length words) × ((length out ≡ length out₀) × ((all (fits kind) (valuesIn kind (drop at words)) ≡ true) × ((to + length (recordLines kind (valuesIn kind (drop at words))) ≡ length (recordLines kind (valuesIn kind words))) × (overlay out₀ 0 (recordLines kind (valuesIn kind words)) ≡ overlay out to (recordLines kind (valuesIn kind (drop at words)))))))
+invariant-loop kind words out₀ w at₀ to₀ out at to = (at ≤ length words) × ((length out ≡ length out₀) × ((all (fits kind) (values_in kind (drop at words)) ≡ true) × ((to + length (record_lines kind (values_in kind (drop at words))) ≡ length (record_lines kind (values_in kind words))) × (overlay out₀ 0 (record_lines kind (values_in kind words)) ≡ overlay out to (record_lines kind (values_in kind (drop at words)))))))
 
 abbrev decreases-loop : tie.decreases-loop
 decreases-loop kind words out₀ w at₀ to₀ out at to = length words - at

@@ -1,6 +1,6 @@
 -- `composing::write::write` meets its contract. Assumes nothing.
 use Rattle.composing.proofs.WroteLaws.{closed-held, closed-text, open-held, open-text}
-use Rattle.files.specs.Writing.{fileAnswer}
+use Rattle.files.specs.Writing.{file_answer}
 use mathlib.Core.Path.{sym, ◌∙◌}
 use borrow.Author.Rules.{rules}
 use Rattle.composing.proofs.write.write.Statement.{statement}
@@ -16,7 +16,7 @@ same_length : tie.Need-same-length
 same_length c = search rules
 
 returns : tie.Need-returns
-unfolding fileAnswer
+unfolding file_answer
 returns c =
     let i = c.before.before.before.before in
     let s = i.before.before.before.before in
@@ -30,7 +30,7 @@ same-length-2 : tie.Need-same-length-2
 same-length-2 c = search rules
 
 returns-2 : tie.Need-returns-2
-unfolding fileAnswer
+unfolding file_answer
 returns-2 c =
     let i = c.before.before.before.before in
     let s = i.before.before.before.before in

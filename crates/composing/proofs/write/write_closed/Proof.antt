@@ -1,11 +1,11 @@
 -- `composing::write::write_closed` meets its contract. Assumes nothing.
 use Prim.Native.Nat.{◌+◌}
 use Rattle.composing.proofs.WroteLaws.{wrote-fault, wrote-long, wrote-whole}
-use Rattle.composing.proofs.LayLaws.{measured-fault, measured-length, held_all, length-closed, lines_long}
-use Rattle.composing.specs.Measuring.{closedText}
-use Rattle.files.specs.Writing.{valuesIn, heldAll}
+use Rattle.composing.proofs.LayLaws.{measured-fault, measured-length, held_all_lem, length-closed, lines_long}
+use Rattle.composing.specs.Measuring.{closed_text}
+use Rattle.files.specs.Writing.{values_in, held_all}
 use Rattle.records.proofs.closing.ClosingLaws.{length-closing, short-closing}
-use Rattle.records.specs.closing.Closing.{closingText}
+use Rattle.records.specs.closing.Closing.{closing_text}
 use lib.ListN.{length}
 use mathlib.Core.Path.{sym, ap, ◌∙◌}
 use native.Mathlib.Omega.{arith}
@@ -29,9 +29,9 @@ returns c =
     let j = m.before.before in
     let s = j.before.before.before in
     let k = s.args.kind in
-    let vs = valuesIn k s.args.words.now in
+    let vs = values_in k s.args.words.now in
     let h = measured-length k vs _ _ (sym j.measure.ensures ∙ m.m2.given.1) in
-    wrote-long (heldAll k vs) (closedText k vs) _ (length vs) (held_all k vs h.fit) (omega (arith, length-closed k vs))
+    wrote-long (held_all k vs) (closed_text k vs) _ (length vs) (held_all_lem k vs h.fit) (omega (arith, length-closed k vs))
 
 add-lines : tie.Need-overflow-add-lines
 add-lines c =
@@ -39,7 +39,7 @@ add-lines c =
     let j = m.before.before in
     let s = j.before.before.before in
     let k = s.args.kind in
-    let vs = valuesIn k s.args.words.now in
+    let vs = values_in k s.args.words.now in
     let h = measured-length k vs _ _ (sym j.measure.ensures ∙ m.m2.given.1) in
     omega (arith, lines_long k vs)
 
@@ -55,7 +55,7 @@ add-if2 c =
     let j = m.before.before in
     let s = j.before.before.before in
     let k = s.args.kind in
-    let vs = valuesIn k s.args.words.now in
+    let vs = values_in k s.args.words.now in
     let h = measured-length k vs _ _ (sym j.measure.ensures ∙ m.m2.given.1) in
     let lines = m.m2.given.0.0 + 1 in
     omega (arith, lines_long k vs, length-closing lines, short-closing lines (omega (arith, lines_long k vs)))
@@ -66,10 +66,10 @@ returns-2 c =
     let j = m.before.before in
     let s = j.before.before.before in
     let k = s.args.kind in
-    let vs = valuesIn k s.args.words.now in
+    let vs = values_in k s.args.words.now in
     let h = measured-length k vs _ _ (sym j.measure.ensures ∙ m.m2.given.1) in
-    let e = ap (λ (n : ℕ). length (closingText (n + 1))) h.count in
-    wrote-long (heldAll k vs) (closedText k vs) _ (length vs) (held_all k vs h.fit) (omega (arith, length-closed k vs, c.before.text-len.ensures))
+    let e = ap (λ (n : ℕ). length (closing_text (n + 1))) h.count in
+    wrote-long (held_all k vs) (closed_text k vs) _ (length vs) (held_all_lem k vs h.fit) (omega (arith, length-closed k vs, c.before.text-len.ensures))
 
 put-closed-requires : tie.Need-put-closed-requires
 put-closed-requires c κs =
@@ -77,9 +77,9 @@ put-closed-requires c κs =
     let j = m.before.before in
     let s = j.before.before.before in
     let k = s.args.kind in
-    let vs = valuesIn k s.args.words.now in
+    let vs = values_in k s.args.words.now in
     let h = measured-length k vs _ _ (sym j.measure.ensures ∙ m.m2.given.1) in
-    let e = ap (λ (n : ℕ). length (closingText (n + 1))) h.count in
+    let e = ap (λ (n : ℕ). length (closing_text (n + 1))) h.count in
     (h.fit, (omega arith, omega (arith, length-closed k vs, c.before.before.text-len.ensures)))
 
 returns-3 : tie.Need-returns-3
@@ -87,8 +87,8 @@ returns-3 c =
     let j = c.before.before.before in
     let s = j.before.before.before in
     let k = s.args.kind in
-    let vs = valuesIn k s.args.words.now in
-    wrote-fault (heldAll k vs) (closedText k vs) _ _ (measured-fault k vs _ (sym j.measure.ensures ∙ c.before.m.given.1))
+    let vs = values_in k s.args.words.now in
+    wrote-fault (held_all k vs) (closed_text k vs) _ _ (measured-fault k vs _ (sym j.measure.ensures ∙ c.before.m.given.1))
 
 same_length : tie.Need-same-length
 same_length c = search rules
@@ -100,10 +100,10 @@ returns-4 c =
     let j = m.before.before in
     let s = j.before.before.before in
     let k = s.args.kind in
-    let vs = valuesIn k s.args.words.now in
+    let vs = values_in k s.args.words.now in
     let h = measured-length k vs _ _ (sym j.measure.ensures ∙ m.m2.given.1) in
-    let e = ap (λ (n : ℕ). length (closingText (n + 1))) h.count in
-    wrote-whole (heldAll k vs) (closedText k vs) _ (length vs) (held_all k vs h.fit) (omega (arith, length-closed k vs, p.before.before.before.text-len.ensures)) p.put-closed.ensures
+    let e = ap (λ (n : ℕ). length (closing_text (n + 1))) h.count in
+    wrote-whole (held_all k vs) (closed_text k vs) _ (length vs) (held_all_lem k vs h.fit) (omega (arith, length-closed k vs, p.before.before.before.text-len.ensures)) p.put-closed.ensures
 
 pub write-closed-spec : {M : Type 1} → statement M
 write-closed-spec =

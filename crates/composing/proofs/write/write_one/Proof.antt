@@ -1,8 +1,8 @@
 -- `composing::write::write_one` meets its contract. Assumes nothing.
 use Rattle.composing.proofs.WroteLaws.{wrote-fault, wrote-long, wrote-whole, one-unfit, one-two, one-held, one-fit, one-length}
 use Rattle.composing.proofs.GroupLaws.{group-whole}
-use Rattle.composing.specs.Measuring.{recordLines}
-use Rattle.files.specs.Writing.{valuesIn, heldOne}
+use Rattle.composing.specs.Measuring.{record_lines}
+use Rattle.files.specs.Writing.{values_in, held_one}
 use borrow.Author.Tests.{not-true, not-false}
 use mathlib.Core.Path.{sym, ◌∙◌}
 use native.Mathlib.Omega.{arith}
@@ -26,8 +26,8 @@ returns c =
     let s = w.before.before.before in
     let k = s.args.kind in
     let ws = s.args.words.now in
-    let vs = valuesIn k ws in
-    wrote-fault (heldOne k vs) (recordLines k vs) _ 0 (one-unfit k ws _ _ w.width.ensures g.group.ensures (sym c.before.fits2.ensures ∙ not-true _ c.if1.true))
+    let vs = values_in k ws in
+    wrote-fault (held_one k vs) (record_lines k vs) _ 0 (one-unfit k ws _ _ w.width.ensures g.group.ensures (sym c.before.fits2.ensures ∙ not-true _ c.if1.true))
 
 returns-2 : tie.Need-returns-2
 returns-2 c =
@@ -36,9 +36,9 @@ returns-2 c =
     let s = w.before.before.before in
     let k = s.args.kind in
     let ws = s.args.words.now in
-    let vs = valuesIn k ws in
+    let vs = values_in k ws in
     let fit = sym c.before.before.fits2.ensures ∙ not-false _ c.before.if1.false in
-    wrote-fault (heldOne k vs) (recordLines k vs) _ 1 (one-two k ws _ _ w.width.ensures g.group.ensures fit c.if2.true)
+    wrote-fault (held_one k vs) (record_lines k vs) _ 1 (one-two k ws _ _ w.width.ensures g.group.ensures fit c.if2.true)
 
 len-requires : tie.Need-len-requires
 len-requires c κs = search rules
@@ -51,7 +51,7 @@ add-if3 c =
     let s = w.before.before.before in
     let k = s.args.kind in
     let ws = s.args.words.now in
-    let vs = valuesIn k ws in
+    let vs = values_in k ws in
     let fit = sym f.fits2.ensures ∙ not-false _ c.before.before.if1.false in
     let t = group-whole k ws 0 _ _ w.width.ensures g.group.ensures _ (omega arith) fit c.len.ensures in
     omega arith
@@ -64,9 +64,9 @@ returns-3 c =
     let s = w.before.before.before in
     let k = s.args.kind in
     let ws = s.args.words.now in
-    let vs = valuesIn k ws in
+    let vs = values_in k ws in
     let fit = sym f.fits2.ensures ∙ not-false _ c.before.before.before.if1.false in
-    wrote-long (heldOne k vs) (recordLines k vs) _ 1 (one-held k ws _ _ w.width.ensures g.group.ensures fit c.before.before.if2.false) (omega (arith, one-length k ws _ _ w.width.ensures g.group.ensures _ fit c.before.before.if2.false c.before.len.ensures))
+    wrote-long (held_one k vs) (record_lines k vs) _ 1 (one-held k ws _ _ w.width.ensures g.group.ensures fit c.before.before.if2.false) (omega (arith, one-length k ws _ _ w.width.ensures g.group.ensures _ fit c.before.before.if2.false c.before.len.ensures))
 
 put-records-requires : tie.Need-put-records-requires
 put-records-requires c κs =
@@ -76,7 +76,7 @@ put-records-requires c κs =
     let s = w.before.before.before in
     let k = s.args.kind in
     let ws = s.args.words.now in
-    let vs = valuesIn k ws in
+    let vs = values_in k ws in
     let fit = sym f.fits2.ensures ∙ not-false _ c.before.before.before.before.if1.false in
     (one-fit k ws _ _ w.width.ensures g.group.ensures fit c.before.before.before.if2.false, omega (arith, one-length k ws _ _ w.width.ensures g.group.ensures _ fit c.before.before.before.if2.false c.before.before.len.ensures))
 
@@ -93,9 +93,9 @@ returns-4 c =
     let s = w.before.before.before in
     let k = s.args.kind in
     let ws = s.args.words.now in
-    let vs = valuesIn k ws in
+    let vs = values_in k ws in
     let fit = sym f.fits2.ensures ∙ not-false _ i.before.before.before.if1.false in
-    wrote-whole (heldOne k vs) (recordLines k vs) _ 1 (one-held k ws _ _ w.width.ensures g.group.ensures fit i.before.before.if2.false) (omega (arith, one-length k ws _ _ w.width.ensures g.group.ensures _ fit i.before.before.if2.false i.before.len.ensures)) p.put-records.ensures
+    wrote-whole (held_one k vs) (record_lines k vs) _ 1 (one-held k ws _ _ w.width.ensures g.group.ensures fit i.before.before.if2.false) (omega (arith, one-length k ws _ _ w.width.ensures g.group.ensures _ fit i.before.before.if2.false i.before.len.ensures)) p.put-records.ensures
 
 pub write-one-spec : {M : Type 1} → statement M
 write-one-spec =

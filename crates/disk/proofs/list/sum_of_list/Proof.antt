@@ -4,8 +4,8 @@ use mathlib.Core.List.{flat_map}
 use Rattle.laws.specs.Sums.{sum_to}
 use Rattle.laws.specs.Lists.{table}
 use Rattle.laws.specs.Order.{put}
-use Rattle.calendar.specs.Dates.{leap, monthDays, yearStart, monthStart, dayNumber}
-use Rattle.calendar.specs.Holidays.{easter, nineOf, holidaysOf, years, holidays}
+use Rattle.calendar.specs.Dates.{leap, month_days, year_start, month_start, day_number}
+use Rattle.calendar.specs.Holidays.{easter, nine_of, holidays_of, years, holidays}
 use Rattle.disk.specs.declared.sum.Sum.{Sum}
 use Rattle.disk.proofs.list.sum_of_list.Statement.{statement}
 use Rattle.disk.proofs.list.sum_of_list.Tie as tie
@@ -17,7 +17,7 @@ days-summed-requires : tie.Need-days-summed-requires
 days-summed-requires c κs = search rules
 
 returns : tie.Need-returns
-unfolding sum_to table flat_map put leap monthDays yearStart monthStart dayNumber easter nineOf holidaysOf years holidays
+unfolding sum_to table flat_map put leap month_days year_start month_start day_number easter nine_of holidays_of years holidays
 returns c = ap (λ (s : Sum). s.b) c.days-summed.ensures
 
 pub sum-of-list-spec : {M : Type 1} → statement M

@@ -1,12 +1,12 @@
 -- `disk::sum::days_summed` meets its contract: the sums so far, over what is left, are the sums over all. The measure is what is left of the days. Assumes nothing.
 use Rattle.std.proofs.Common.{◌≡◌, ◌-◌, length, drop, refl, rules}
-use Rattle.disk.specs.Sums.{sumOver, noSum}
+use Rattle.disk.specs.Sums.{sum_over, no_sum}
 use Rattle.disk.proofs.Sums.{sum-turn, sum_done}
 use Rattle.disk.proofs.sum.days_summed.Statement.{statement}
 use Rattle.disk.proofs.sum.days_summed.Tie as tie
 
 abbrev invariant-loop : tie.invariant-loop
-invariant-loop days a₀ b₀ i₀ a b i = sumOver (record { a = a; b = b }) (drop i days) ≡ sumOver noSum days
+invariant-loop days a₀ b₀ i₀ a b i = sum_over (record { a = a; b = b }) (drop i days) ≡ sum_over no_sum days
 
 abbrev decreases-loop : tie.decreases-loop
 decreases-loop days a₀ b₀ i₀ a b i = length days - i

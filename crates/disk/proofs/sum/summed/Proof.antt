@@ -1,12 +1,12 @@
 -- `disk::sum::summed` meets its contract: the sums so far, over what is left, are the sums over all. The measure is what is left of the bytes. Assumes nothing.
 use Rattle.std.proofs.Common.{◌≡◌, ◌-◌, length, drop, refl, rules}
-use Rattle.disk.specs.Sums.{sumOver}
+use Rattle.disk.specs.Sums.{sum_over}
 use Rattle.disk.proofs.Sums.{sum-turn, sum_done}
 use Rattle.disk.proofs.sum.summed.Statement.{statement}
 use Rattle.disk.proofs.sum.summed.Tie as tie
 
 abbrev invariant-loop : tie.invariant-loop
-invariant-loop bytes a₀ b₀ i₀ a b i = sumOver (record { a = a; b = b }) (drop i bytes) ≡ sumOver (record { a = a₀; b = b₀ }) bytes
+invariant-loop bytes a₀ b₀ i₀ a b i = sum_over (record { a = a; b = b }) (drop i bytes) ≡ sum_over (record { a = a₀; b = b₀ }) bytes
 
 abbrev decreases-loop : tie.decreases-loop
 decreases-loop bytes a₀ b₀ i₀ a b i = length bytes - i

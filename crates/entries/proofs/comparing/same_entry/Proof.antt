@@ -1,5 +1,5 @@
 -- `entries::comparing::same_entry` meets its contract: each operand of `&` is the definition's, by the callees' contracts. Assumes nothing.
-use Rattle.entries.specs.comparing.Same.{sameEntry}
+use Rattle.entries.specs.comparing.Same.{same_entry}
 use borrow.Author.Rules.{rules}
 use Rattle.entries.proofs.comparing.same_entry.Statement.{statement}
 use Rattle.entries.proofs.comparing.same_entry.Tie as tie
@@ -11,7 +11,7 @@ same-places-requires : tie.Need-same-places-requires
 same-places-requires c κs = search rules
 
 returns : tie.Need-returns
-unfolding sameEntry
+unfolding same_entry
 returns c = rw (c.same-places.ensures, c.before.same-last.ensures)
 
 pub same-entry-spec : {M : Type 1} → statement M

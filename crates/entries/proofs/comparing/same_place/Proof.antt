@@ -1,5 +1,5 @@
 -- `entries::comparing::same_place` meets its contract: each operand of `&` is the definition's. Assumes nothing.
-use Rattle.entries.specs.comparing.Same.{samePlace}
+use Rattle.entries.specs.comparing.Same.{same_place}
 use borrow.Author.Rules.{rules}
 use Rattle.entries.proofs.comparing.same_place.Statement.{statement}
 use Rattle.entries.proofs.comparing.same_place.Tie as tie
@@ -14,7 +14,7 @@ matching-requires : tie.Need-matching-requires
 matching-requires c κs = search rules
 
 returns : tie.Need-returns
-unfolding samePlace
+unfolding same_place
 returns c = cc
 
 pub same-place-spec : {M : Type 1} → statement M

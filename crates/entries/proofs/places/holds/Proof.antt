@@ -1,5 +1,5 @@
 -- `entries::places::holds` meets its contract: each operand of `&` is the definition's. Assumes nothing.
-use Rattle.entries.specs.places.Places.{holdsOpen}
+use Rattle.entries.specs.places.Places.{holds_open}
 use borrow.Author.Rules.{rules}
 use Rattle.entries.proofs.places.holds.Statement.{statement}
 use Rattle.entries.proofs.places.holds.Tie as tie
@@ -14,7 +14,7 @@ matching-requires : tie.Need-matching-requires
 matching-requires c κs = search rules
 
 returns : tie.Need-returns
-unfolding holdsOpen
+unfolding holds_open
 returns c = cc
 
 pub holds-spec : {M : Type 1} → statement M

@@ -2,8 +2,8 @@
 use lib.ListN.{length}
 use mathlib.Core.Path.{◌≡◌}
 use Rattle.laws.proofs.Firsts.{any-first}
-use Rattle.entries.specs.Entry.{placeCount}
-use Rattle.entries.specs.places.Places.{holdsOpen}
+use Rattle.entries.specs.Entry.{place_count}
+use Rattle.entries.specs.places.Places.{holds_open}
 use borrow.Author.Rules.{rules}
 use Rattle.entries.proofs.places.is_open.Statement.{statement}
 use Rattle.entries.proofs.places.is_open.Tie as tie
@@ -14,8 +14,8 @@ place-of-requires c κs = search rules
 returns : tie.Need-returns
 returns c =
     let g = c.before.args in
-    let h : length g.places ≡ placeCount = search rules in
-    rw (any-first (holdsOpen g.k g.r) g.places, h, c.place_of.ensures)
+    let h : length g.places ≡ place_count = search rules in
+    rw (any-first (holds_open g.k g.r) g.places, h, c.place_of.ensures)
 
 pub is-open-spec : {M : Type 1} → statement M
 is-open-spec = tie.close (tie.spec place-of-requires returns)

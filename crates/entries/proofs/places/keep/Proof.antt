@@ -2,7 +2,7 @@
 use mathlib.Core.Path.{sym}
 use native.Mathlib.Omega.{arith}
 use lib.Seq.{set_out}
-use Rattle.entries.specs.places.Places.{lowestFree}
+use Rattle.entries.specs.places.Places.{lowest_free}
 use borrow.Author.Rules.{rules}
 use Rattle.entries.proofs.places.keep.Statement.{statement}
 use Rattle.entries.proofs.places.keep.Tie as tie
@@ -22,7 +22,7 @@ returns c = cc
 returns-2 : tie.Need-returns-2
 returns-2 c =
     let g = c.before.before.args in
-    sym (set_out g.places (lowestFree g.places) g.p (omega (arith, c.before.lowest-free.ensures)))
+    sym (set_out g.places (lowest_free g.places) g.p (omega (arith, c.before.lowest-free.ensures)))
 
 pub keep_spec : {M : Type 1} → statement M
 keep_spec = tie.close (tie.spec lowest-free-requires mul-ps array-set-from-ps returns returns-2)

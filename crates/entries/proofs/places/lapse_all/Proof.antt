@@ -2,17 +2,17 @@
 use Prim.Native.Nat.{◌≤◌, ◌-◌}
 use native.Mathlib.Omega.{arith}
 use Rattle.laws.proofs.Loops.{Mapped, map_on, map-done}
-use Rattle.entries.specs.Entry.{placeCount, freePlace}
+use Rattle.entries.specs.Entry.{place_count, free_place}
 use Rattle.entries.specs.places.Places.{lapsed}
 use borrow.Author.Rules.{rules}
 use Rattle.entries.proofs.places.lapse_all.Statement.{statement}
 use Rattle.entries.proofs.places.lapse_all.Tie as tie
 
 abbrev invariant-loop : tie.invariant-loop
-invariant-loop d ps₀ i₀ ps i = (i ≤ placeCount) × Mapped (lapsed d) ps₀ ps i
+invariant-loop d ps₀ i₀ ps i = (i ≤ place_count) × Mapped (lapsed d) ps₀ ps i
 
 abbrev decreases-loop : tie.decreases-loop
-decreases-loop d ps₀ i₀ ps i = placeCount - i
+decreases-loop d ps₀ i₀ ps i = place_count - i
 
 loop-holds : tie.Need-loop-init invariant-loop decreases-loop
 loop-holds c = search rules
@@ -42,13 +42,13 @@ loop-again : tie.Need-loop-preserved invariant-loop decreases-loop
 loop-again c =
     let a = c.before.before.before in (
       search rules,
-      map_on (lapsed a.before.args.d) freePlace a.before.args.places a.loop.ps a.loop.i a.loop.invariant.1 c.lapse.result c.lapse.ensures,
+      map_on (lapsed a.before.args.d) free_place a.before.args.places a.loop.ps a.loop.i a.loop.invariant.1 c.lapse.result c.lapse.ensures,
     )
 
 returns : tie.Need-returns invariant-loop decreases-loop
 returns c =
     let a = c.before in
-    map-done (lapsed a.before.args.d) freePlace a.before.args.places a.loop.ps a.loop.i a.loop.invariant.1 (omega arith)
+    map-done (lapsed a.before.args.d) free_place a.before.args.places a.loop.ps a.loop.i a.loop.invariant.1 (omega arith)
 
 pub lapse-all-spec : {M : Type 1} → statement M
 lapse-all-spec =

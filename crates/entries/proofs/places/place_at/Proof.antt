@@ -2,7 +2,7 @@
 use mathlib.Core.Path.{◌∙◌, sym}
 use native.Mathlib.Omega.{arith}
 use lib.ListN.{get_or-eq_default}
-use Rattle.entries.specs.Entry.{freePlace}
+use Rattle.entries.specs.Entry.{free_place}
 use borrow.Author.Rules.{rules}
 use Rattle.entries.proofs.places.place_at.Statement.{statement}
 use Rattle.entries.proofs.places.place_at.Tie as tie
@@ -22,7 +22,7 @@ free-place-requires c κs = search rules
 returns-2 : tie.Need-returns-2
 returns-2 c =
     let a = c.before.before.args in
-    c.free-place.ensures ∙ sym (get_or-eq_default a.t1 freePlace (omega arith))
+    c.free-place.ensures ∙ sym (get_or-eq_default a.t1 free_place (omega arith))
 
 pub place-at-spec : {M : Type 1} → statement M
 place-at-spec =

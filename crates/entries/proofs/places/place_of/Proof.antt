@@ -3,17 +3,17 @@ use mathlib.Core.Path.{◌∙◌, sym}
 use Prim.Native.Nat.{◌≤◌, ◌-◌}
 use native.Mathlib.Omega.{arith}
 use Rattle.laws.proofs.Loops.{Searched, search-on, search-here, search-none}
-use Rattle.entries.specs.Entry.{placeCount, freePlace}
-use Rattle.entries.specs.places.Places.{holdsOpen}
+use Rattle.entries.specs.Entry.{place_count, free_place}
+use Rattle.entries.specs.places.Places.{holds_open}
 use borrow.Author.Rules.{rules}
 use Rattle.entries.proofs.places.place_of.Statement.{statement}
 use Rattle.entries.proofs.places.place_of.Tie as tie
 
 abbrev invariant-loop : tie.invariant-loop
-invariant-loop k r places i₀ i = (i ≤ placeCount) × Searched (holdsOpen k r) places i
+invariant-loop k r places i₀ i = (i ≤ place_count) × Searched (holds_open k r) places i
 
 abbrev decreases-loop : tie.decreases-loop
-decreases-loop k r places i₀ i = placeCount - i
+decreases-loop k r places i₀ i = place_count - i
 
 loop-holds : tie.Need-loop-init invariant-loop decreases-loop
 loop-holds c = search rules
@@ -31,7 +31,7 @@ returns : tie.Need-returns invariant-loop decreases-loop
 returns c =
     let a = c.before.before.before.before in
     let g = a.before.args in
-    search-here (holdsOpen g.k g.r) freePlace g.t1 a.loop.i a.loop.invariant.1 (omega arith) (sym c.before.holds.ensures ∙ c.if1.true)
+    search-here (holds_open g.k g.r) free_place g.t1 a.loop.i a.loop.invariant.1 (omega arith) (sym c.before.holds.ensures ∙ c.if1.true)
 
 add-i : tie.Need-overflow-add-i invariant-loop decreases-loop
 add-i c = search rules
@@ -43,13 +43,13 @@ loop-again : tie.Need-loop-preserved invariant-loop decreases-loop
 loop-again c =
     let a = c.before.before.before.before in
     let g = a.before.args in
-    (search rules, search-on (holdsOpen g.k g.r) freePlace g.t1 a.loop.i a.loop.invariant.1 (omega arith) (sym c.before.holds.ensures ∙ c.if1.false))
+    (search rules, search-on (holds_open g.k g.r) free_place g.t1 a.loop.i a.loop.invariant.1 (omega arith) (sym c.before.holds.ensures ∙ c.if1.false))
 
 returns-2 : tie.Need-returns-2 invariant-loop decreases-loop
 returns-2 c =
     let a = c.before in
     let g = a.before.args in
-    search-none (holdsOpen g.k g.r) freePlace g.t1 a.loop.i a.loop.invariant.1 (omega arith)
+    search-none (holds_open g.k g.r) free_place g.t1 a.loop.i a.loop.invariant.1 (omega arith)
 
 pub place-of-spec : {M : Type 1} → statement M
 place-of-spec =

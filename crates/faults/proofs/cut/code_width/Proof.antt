@@ -3,7 +3,7 @@ use lib.ListN.{length}
 use native.Mathlib.Omega.{arith}
 use Rattle.faults.proofs.CutLaws.{colon-first}
 use mathlib.Core.Path.{sym, ◌∙◌}
-use Rattle.faults.specs.Cut.{codeWidth}
+use Rattle.faults.specs.Cut.{code_width}
 use borrow.Author.Tests.{lt-ltb, le-ltb, eq-eqb, ne_eqb}
 use borrow.Author.Rules.{rules}
 use Rattle.faults.proofs.cut.code_width.Statement.{statement}
@@ -13,11 +13,11 @@ field-end-requires : tie.Need-field-end-requires
 field-end-requires c κs = search rules
 
 returns : tie.Need-returns
-unfolding codeWidth
+unfolding code_width
 returns c = rw (sym c.before.field-end.ensures, le-ltb _ _ c.if1.true)
 
 returns-2 : tie.Need-returns-2
-unfolding codeWidth
+unfolding code_width
 returns-2 c =
     let e = c.before.before in
     let h = e.before.before.args.head.now in
@@ -30,7 +30,7 @@ shared-slice-read-if3 : tie.Need-shared-slice-read-if3
 shared-slice-read-if3 c = search rules
 
 returns-3 : tie.Need-returns-3
-unfolding codeWidth
+unfolding code_width
 returns-3 c =
     let e = c.before.before.before.before in
     rw (sym e.field-end.ensures, lt-ltb e.field-end.result (length e.before.before.args.head.now) (omega arith), ne_eqb _ _ c.if3.true)
@@ -39,7 +39,7 @@ sub-result : tie.Need-overflow-sub-result
 sub-result c = search rules
 
 returns-4 : tie.Need-returns-4
-unfolding codeWidth
+unfolding code_width
 returns-4 c =
     let e = c.before.before.before.before in
     rw (sym e.field-end.ensures, lt-ltb e.field-end.result (length e.before.before.args.head.now) (omega arith), eq-eqb _ _ c.if3.false)

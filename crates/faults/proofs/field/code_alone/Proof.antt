@@ -1,5 +1,5 @@
 -- `faults::field::code_alone` meets its contract. Assumes nothing.
-use Rattle.faults.specs.Field.{codeAlone}
+use Rattle.faults.specs.Field.{code_alone}
 use borrow.Author.Rules.{rules}
 use Rattle.faults.proofs.field.code_alone.Statement.{statement}
 use Rattle.faults.proofs.field.code_alone.Tie as tie
@@ -11,7 +11,7 @@ alone-requires : tie.Need-alone-requires
 alone-requires c κs = search rules
 
 returns : tie.Need-returns
-unfolding codeAlone
+unfolding code_alone
 returns c = rw (c.alone.ensures, c.before.is_code.ensures)
 
 pub code-alone-spec : {M : Type 1} → statement M

@@ -1,5 +1,5 @@
 -- `faults::field::correction_code_alone` meets its contract. Assumes nothing.
-use Rattle.faults.specs.Field.{correctionCodeAlone}
+use Rattle.faults.specs.Field.{correction_code_alone}
 use borrow.Author.Rules.{rules}
 use Rattle.faults.proofs.field.correction_code_alone.Statement.{statement}
 use Rattle.faults.proofs.field.correction_code_alone.Tie as tie
@@ -11,7 +11,7 @@ alone-requires : tie.Need-alone-requires
 alone-requires c κs = search rules
 
 returns : tie.Need-returns
-unfolding correctionCodeAlone
+unfolding correction_code_alone
 returns c = rw (c.alone.ensures, c.before.is-correction-code.ensures)
 
 pub correction-code-alone-spec : {M : Type 1} → statement M

@@ -1,5 +1,5 @@
 -- `faults::field::date_alone` meets its contract. Assumes nothing.
-use Rattle.faults.specs.Field.{dateAlone}
+use Rattle.faults.specs.Field.{date_alone}
 use borrow.Author.Rules.{rules}
 use Rattle.faults.proofs.field.date_alone.Statement.{statement}
 use Rattle.faults.proofs.field.date_alone.Tie as tie
@@ -11,7 +11,7 @@ alone-requires : tie.Need-alone-requires
 alone-requires c κs = search rules
 
 returns : tie.Need-returns
-unfolding dateAlone
+unfolding date_alone
 returns c = rw (c.alone.ensures, c.before.is-date.ensures)
 
 pub date-alone-spec : {M : Type 1} → statement M

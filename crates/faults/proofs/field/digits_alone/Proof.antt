@@ -1,5 +1,5 @@
 -- `faults::field::digits_alone` meets its contract. Assumes nothing.
-use Rattle.faults.specs.Field.{digitsAlone}
+use Rattle.faults.specs.Field.{digits_alone}
 use borrow.Author.Rules.{rules}
 use Rattle.faults.proofs.field.digits_alone.Statement.{statement}
 use Rattle.faults.proofs.field.digits_alone.Tie as tie
@@ -11,7 +11,7 @@ alone-requires : tie.Need-alone-requires
 alone-requires c κs = search rules
 
 returns : tie.Need-returns
-unfolding digitsAlone
+unfolding digits_alone
 returns c = rw (c.alone.ensures, c.before.is-digits.ensures)
 
 pub digits-alone-spec : {M : Type 1} → statement M

@@ -1,11 +1,11 @@
 -- `faults::field::is_character` meets its contract. Assumes nothing.
-use Rattle.faults.specs.Field.{isCharacter}
+use Rattle.faults.specs.Field.{is_character}
 use borrow.Author.Rules.{rules}
 use Rattle.faults.proofs.field.is_character.Statement.{statement}
 use Rattle.faults.proofs.field.is_character.Tie as tie
 
 returns : tie.Need-returns
-unfolding isCharacter
+unfolding is_character
 returns c = search rules
 
 pub is-character-spec : {M : Type 1} → statement M

@@ -1,6 +1,6 @@
 -- `faults::field::is_range` meets its contract. Assumes nothing.
 use mathlib.Core.Path.{sym, ◌∙◌}
-use Rattle.faults.specs.Field.{isRange}
+use Rattle.faults.specs.Field.{is_range}
 use borrow.Author.Rules.{rules}
 use Rattle.faults.proofs.field.is_range.Statement.{statement}
 use Rattle.faults.proofs.field.is_range.Tie as tie
@@ -15,7 +15,7 @@ enum_told : tie.Need-enum-told
 enum_told c = search rules
 
 returns : tie.Need-returns
-unfolding isRange
+unfolding is_range
 returns c = rw (sym c.before.before.read.ensures ∙ c.enum_told.given.1)
 
 read-requires-2 : tie.Need-read-requires-2
@@ -28,13 +28,13 @@ enum-told-3 : tie.Need-enum-told-3
 enum-told-3 c = search rules
 
 returns-2 : tie.Need-returns-2
-unfolding isRange
+unfolding is_range
 returns-2 c =
     let d = c.before.before.before.before in
     rw (sym d.before.before.read.ensures ∙ d.first.given.1, sym c.before.before.read2.ensures ∙ c.enum-told2.given.1)
 
 returns-3 : tie.Need-returns-3
-unfolding isRange
+unfolding is_range
 returns-3 c =
     let d = c.before.before.before.before in
     rw (sym d.before.before.read.ensures ∙ d.first.given.1, sym c.before.before.read2.ensures ∙ c.enum-told3.given.1)

@@ -1,5 +1,5 @@
 -- `faults::field::kind_alone` meets its contract. Assumes nothing.
-use Rattle.faults.specs.Field.{kindAlone}
+use Rattle.faults.specs.Field.{kind_alone}
 use borrow.Author.Rules.{rules}
 use Rattle.faults.proofs.field.kind_alone.Statement.{statement}
 use Rattle.faults.proofs.field.kind_alone.Tie as tie
@@ -11,7 +11,7 @@ alone-requires : tie.Need-alone-requires
 alone-requires c κs = search rules
 
 returns : tie.Need-returns
-unfolding kindAlone
+unfolding kind_alone
 returns c = rw (c.alone.ensures, c.before.is-kind.ensures)
 
 pub kind-alone-spec : {M : Type 1} → statement M

@@ -1,5 +1,5 @@
 -- `faults::field::mark_alone` meets its contract. Assumes nothing.
-use Rattle.faults.specs.Field.{markAlone}
+use Rattle.faults.specs.Field.{mark_alone}
 use borrow.Author.Rules.{rules}
 use Rattle.faults.proofs.field.mark_alone.Statement.{statement}
 use Rattle.faults.proofs.field.mark_alone.Tie as tie
@@ -14,7 +14,7 @@ alone-requires : tie.Need-alone-requires
 alone-requires c κs = search rules
 
 returns : tie.Need-returns
-unfolding markAlone
+unfolding mark_alone
 returns c = rw (c.alone.ensures, c.before.same.ensures)
 
 pub mark-alone-spec : {M : Type 1} → statement M

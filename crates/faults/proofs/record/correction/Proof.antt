@@ -1,5 +1,5 @@
 -- `faults::record::correction` meets its contract. Assumes nothing.
-use Rattle.faults.specs.Record.{correctionFault}
+use Rattle.faults.specs.Record.{correction_fault}
 use borrow.Author.Rules.{rules}
 use Rattle.faults.proofs.record.correction.Statement.{statement}
 use Rattle.faults.proofs.record.correction.Tie as tie
@@ -26,7 +26,7 @@ correction-from-requires : tie.Need-correction-from-requires
 correction-from-requires c κs = search rules
 
 returns : tie.Need-returns
-unfolding correctionFault
+unfolding correction_fault
 returns c = rw (c.correction-from.ensures, c.before.behind2.ensures, c.before.before.first2.ensures, c.before.before.before.first.ensures, c.before.before.before.before.behind.ensures, c.before.before.before.before.before.code-width.ensures, c.before.before.before.before.before.before.field_at.ensures)
 
 pub correction-spec : {M : Type 1} → statement M

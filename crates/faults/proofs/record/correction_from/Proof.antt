@@ -1,5 +1,5 @@
 -- `faults::record::correction_from` meets its contract. Assumes nothing.
-use Rattle.faults.specs.Record.{correctionFrom}
+use Rattle.faults.specs.Record.{correction_from}
 use borrow.Author.Rules.{rules}
 use Rattle.faults.proofs.record.correction_from.Statement.{statement}
 use Rattle.faults.proofs.record.correction_from.Tie as tie
@@ -44,7 +44,7 @@ on-field-requires-3 : tie.Need-on-field-requires-3
 on-field-requires-3 c κs = search rules
 
 returns : tie.Need-returns
-unfolding correctionFrom
+unfolding correction_from
 returns c = rw (c.on-field3.ensures, c.before.on-field2.ensures, c.before.before.on-record2.ensures, c.before.before.before.on-field.ensures, c.before.before.before.before.on-record.ensures, c.before.before.before.before.before.on-commas.ensures, c.before.before.before.before.before.before.k-part.ensures, c.before.before.before.before.before.before.before.mark-alone2.ensures, c.before.before.before.before.before.before.before.before.first.ensures, c.before.before.before.before.before.before.before.before.before.field_at.ensures, c.before.before.before.before.before.before.before.before.before.before.u-part.ensures, c.before.before.before.before.before.before.before.before.before.before.before.mark-alone.ensures, c.before.before.before.before.before.before.before.before.before.before.before.before.correction-code-alone.ensures)
 
 pub correction-from-spec : {M : Type 1} → statement M

@@ -1,5 +1,5 @@
 -- `faults::record::k_part` meets its contract. Assumes nothing.
-use Rattle.faults.specs.Record.{kFault}
+use Rattle.faults.specs.Record.{k_fault}
 use borrow.Author.Rules.{rules}
 use Rattle.faults.proofs.record.k_part.Statement.{statement}
 use Rattle.faults.proofs.record.k_part.Tie as tie
@@ -32,7 +32,7 @@ six-requires : tie.Need-six-requires
 six-requires c κs = search rules
 
 returns : tie.Need-returns
-unfolding kFault
+unfolding k_fault
 returns c = rw (c.six.ensures, c.before.rest.ensures, c.before.before.field-at5.ensures, c.before.before.before.field-at4.ensures, c.before.before.before.before.field-at3.ensures, c.before.before.before.before.before.field-at2.ensures, c.before.before.before.before.before.before.behind.ensures, c.before.before.before.before.before.before.before.field_at.ensures, c.before.before.before.before.before.before.before.before.number-for.ensures)
 
 pub k-part-spec : {M : Type 1} → statement M

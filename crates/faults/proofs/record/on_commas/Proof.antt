@@ -1,6 +1,6 @@
 -- `faults::record::on_commas` meets its contract. Assumes nothing.
 use mathlib.Core.Path.{sym}
-use Rattle.faults.specs.Record.{onCommas}
+use Rattle.faults.specs.Record.{on_commas}
 use borrow.Author.Tests.{le-leb, lt-leb}
 use borrow.Author.Rules.{rules}
 use Rattle.faults.proofs.record.on_commas.Statement.{statement}
@@ -10,7 +10,7 @@ cuts-requires : tie.Need-cuts-requires
 cuts-requires c κs = search rules
 
 returns : tie.Need-returns
-unfolding onCommas
+unfolding on_commas
 returns c = rw (sym c.before.cuts.ensures, le-leb _ _ c.if1.true)
 
 mul-t6 : tie.Need-overflow-mul-t6
@@ -20,7 +20,7 @@ add-t7 : tie.Need-overflow-add-t7
 add-t7 c = search rules
 
 returns-2 : tie.Need-returns-2
-unfolding onCommas
+unfolding on_commas
 returns-2 c = rw (sym c.before.cuts.ensures, lt-leb _ _ c.if1.false)
 
 pub on-commas-spec : {M : Type 1} → statement M

@@ -1,5 +1,5 @@
 -- `faults::record::report` meets its contract. Assumes nothing.
-use Rattle.faults.specs.Record.{reportFault}
+use Rattle.faults.specs.Record.{report_fault}
 use borrow.Author.Rules.{rules}
 use Rattle.faults.proofs.record.report.Statement.{statement}
 use Rattle.faults.proofs.record.report.Tie as tie
@@ -26,7 +26,7 @@ six-requires : tie.Need-six-requires
 six-requires c κs = search rules
 
 returns : tie.Need-returns
-unfolding reportFault
+unfolding report_fault
 returns c = rw (c.six.ensures, c.before.rest.ensures, c.before.before.field-at5.ensures, c.before.before.before.field-at4.ensures, c.before.before.before.before.field-at3.ensures, c.before.before.before.before.before.field-at2.ensures, c.before.before.before.before.before.before.field_at.ensures)
 
 pub report-spec : {M : Type 1} → statement M

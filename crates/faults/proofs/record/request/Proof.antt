@@ -1,5 +1,5 @@
 -- `faults::record::request` meets its contract. Assumes nothing.
-use Rattle.faults.specs.Record.{requestFault}
+use Rattle.faults.specs.Record.{request_fault}
 use borrow.Author.Rules.{rules}
 use Rattle.faults.proofs.record.request.Statement.{statement}
 use Rattle.faults.proofs.record.request.Tie as tie
@@ -35,7 +35,7 @@ on-field-requires-3 : tie.Need-on-field-requires-3
 on-field-requires-3 c κs = search rules
 
 returns : tie.Need-returns
-unfolding requestFault
+unfolding request_fault
 returns c = rw (c.on-field3.ensures, c.before.on-field2.ensures, c.before.before.on-field.ensures, c.before.before.before.on-commas.ensures, c.before.before.before.before.nothing-alone.ensures, c.before.before.before.before.before.rest.ensures, c.before.before.before.before.before.before.date-alone.ensures, c.before.before.before.before.before.before.before.field-at2.ensures, c.before.before.before.before.before.before.before.before.code-alone.ensures, c.before.before.before.before.before.before.before.before.before.field_at.ensures)
 
 pub request-spec : {M : Type 1} → statement M

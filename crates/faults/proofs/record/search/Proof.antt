@@ -1,5 +1,5 @@
 -- `faults::record::search` meets its contract. Assumes nothing.
-use Rattle.faults.specs.Record.{recordFault}
+use Rattle.faults.specs.Record.{record_fault}
 use borrow.Author.Rules.{rules}
 use Rattle.faults.proofs.record.search.Statement.{statement}
 use Rattle.faults.proofs.record.search.Tie as tie
@@ -29,19 +29,19 @@ report-requires-2 : tie.Need-report-requires-2
 report-requires-2 c κs = search rules
 
 returns : tie.Need-returns
-unfolding recordFault
+unfolding record_fault
 returns c = rw c.before.enum_told.given.1 c.report.ensures
 
 returns-2 : tie.Need-returns-2
-unfolding recordFault
+unfolding record_fault
 returns-2 c = rw c.before.enum-told2.given.1 c.correction.ensures
 
 returns-3 : tie.Need-returns-3
-unfolding recordFault
+unfolding record_fault
 returns-3 c = rw c.before.enum-told3.given.1 c.request.ensures
 
 returns-4 : tie.Need-returns-4
-unfolding recordFault
+unfolding record_fault
 returns-4 c = rw c.before.enum-told4.given.1 c.report2.ensures
 
 pub search-spec : {M : Type 1} → statement M

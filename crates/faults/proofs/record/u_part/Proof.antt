@@ -1,5 +1,5 @@
 -- `faults::record::u_part` meets its contract. Assumes nothing.
-use Rattle.faults.specs.Record.{uFault}
+use Rattle.faults.specs.Record.{u_fault}
 use borrow.Author.Rules.{rules}
 use Rattle.faults.proofs.record.u_part.Statement.{statement}
 use Rattle.faults.proofs.record.u_part.Tie as tie
@@ -26,7 +26,7 @@ six-requires : tie.Need-six-requires
 six-requires c κs = search rules
 
 returns : tie.Need-returns
-unfolding uFault
+unfolding u_fault
 returns c = rw (c.six.ensures, c.before.field-at5.ensures, c.before.before.field-at4.ensures, c.before.before.before.field-at3.ensures, c.before.before.before.before.field-at2.ensures, c.before.before.before.before.before.field_at.ensures, c.before.before.before.before.before.before.whole-for.ensures)
 
 pub u-part-spec : {M : Type 1} → statement M

@@ -1,5 +1,5 @@
 -- `faults::six::six` meets its contract. Assumes nothing.
-use Rattle.faults.specs.Six.{sixFault}
+use Rattle.faults.specs.Six.{six_fault}
 use borrow.Author.Rules.{rules}
 use Rattle.faults.proofs.six.six.Statement.{statement}
 use Rattle.faults.proofs.six.six.Tie as tie
@@ -23,7 +23,7 @@ on-numbers-requires : tie.Need-on-numbers-requires
 on-numbers-requires c κs = search rules
 
 returns : tie.Need-returns
-unfolding sixFault
+unfolding six_fault
 returns c = rw (c.on-numbers.ensures, c.before.on-field.ensures, c.before.before.date-alone.ensures, c.before.before.before.on-networks.ensures)
 
 pub six-spec : {M : Type 1} → statement M

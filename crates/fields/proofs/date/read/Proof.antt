@@ -1,15 +1,15 @@
--- `fields::date::read` meets its contract: the tests and what the calls answer say which way `dateFieldOf` goes. Assumes nothing.
+-- `fields::date::read` meets its contract: the tests and what the calls answer say which way `date_field_of` goes. Assumes nothing.
 use mathlib.Core.Path.{sym, ◌∙◌}
 use borrow.Author.Tests.{eq-eqb, ne_eqb}
 use native.Mathlib.Omega.{arith}
-use Rattle.fields.specs.Date.{dateFieldOf, dateFrom, dateFound}
+use Rattle.fields.specs.Date.{date_field_of, date_from, date_found}
 use Rattle.text.proofs.Spelling.{fixed_back}
 use borrow.Author.Rules.{rules}
 use Rattle.fields.proofs.date.read.Statement.{statement}
 use Rattle.fields.proofs.date.read.Tie as tie
 
 returns : tie.Need-returns
-unfolding dateFieldOf dateFrom dateFound
+unfolding date_field_of date_from date_found
 returns c = simp (ne_eqb _ _ c.if1.true)
 
 read-digits-requires : tie.Need-read-digits-requires
@@ -22,7 +22,7 @@ enum_told : tie.Need-enum-told
 enum_told c = search rules
 
 returns-2 : tie.Need-returns-2
-unfolding dateFieldOf dateFrom dateFound
+unfolding date_field_of date_from date_found
 returns-2 c =
     let d = c.before.before in
     simp (eq-eqb _ _ d.before.if1.false, sym d.read-digits.ensures ∙ c.enum_told.given.1)
@@ -48,7 +48,7 @@ enum-told-2 : tie.Need-enum-told-2
 enum-told-2 c = search rules
 
 returns-3 : tie.Need-returns-3
-unfolding dateFieldOf dateFrom dateFound
+unfolding date_field_of date_from date_found
 returns-3 c =
     let e = c.before.before in
     let n = e.before.before in
@@ -56,7 +56,7 @@ returns-3 c =
     simp (eq-eqb _ _ d.before.if1.false, sym d.read-digits.ensures ∙ n.n.given.1, sym e.day-of.ensures ∙ c.enum-told2.given.1)
 
 returns-4 : tie.Need-returns-4
-unfolding dateFieldOf dateFrom dateFound
+unfolding date_field_of date_from date_found
 returns-4 c =
     let e = c.before.before.before in
     let n = e.before.before in

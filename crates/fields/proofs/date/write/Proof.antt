@@ -1,7 +1,7 @@
 -- `fields::date::write` meets its contract. Assumes nothing.
 use mathlib.Core.Path.{sym}
 use Rattle.fields.specs.Date.{spelling}
-use Rattle.calendar.specs.Answers.{dateOf}
+use Rattle.calendar.specs.Answers.{date_of}
 use native.Mathlib.Omega.{arith}
 use Rattle.laws.proofs.Digits.{length_digits}
 use borrow.Author.Rules.{rules}
@@ -14,7 +14,7 @@ spell-requires c κs = search rules
 put-digits-requires : tie.Need-put-digits-requires
 put-digits-requires c κs =
     let s = c.before.before.before in
-    omega (arith, length_digits 8 (spelling (dateOf s.args.d.0)), s.requires.0)
+    omega (arith, length_digits 8 (spelling (date_of s.args.d.0)), s.requires.0)
 
 same_length : tie.Need-same-length
 same_length c = search rules

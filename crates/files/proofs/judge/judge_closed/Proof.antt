@@ -1,7 +1,7 @@
 -- `files::judge::judge_closed` meets its contract. Assumes nothing.
 use Prim.Native.Nat.{ℕ, ◌+◌, ◌≤◌, ◌-◌}
 use Rattle.laws.specs.Split.{between, split, EndsAt}
-use Rattle.files.specs.Judged.{lastLine, judged}
+use Rattle.files.specs.Judged.{last_line, judged}
 use mathlib.Core.Path.{◌≡◌, refl, sym, ap, ◌∙◌}
 use Rattle.files.proofs.JudgeLaws.{ended_at, turn-closing, turn-record, turn-fault, turn_end}
 use lib.ListN.{length, drop}
@@ -113,7 +113,7 @@ returns-3 c =
     let a = l.before.before.before.args in
     let e : l.loop.end ≡ length a.file.now = omega (arith, l.loop.invariant.1.1.0.to) in
     c.judge-last.ensures
-    ∙ sym (turn_end a.kind l.loop.i l.loop.invariant.1.1.0 (omega arith) ∙ ap (λ (n : ℕ). lastLine a.kind l.loop.i (between a.file.now l.loop.at n)) e)
+    ∙ sym (turn_end a.kind l.loop.i l.loop.invariant.1.1.0 (omega arith) ∙ ap (λ (n : ℕ). last_line a.kind l.loop.i (between a.file.now l.loop.at n)) e)
     ∙ l.loop.invariant.1.1.1
 
 pub judge-closed-spec : {M : Type 1} → statement M

@@ -1,6 +1,6 @@
 -- `files::values::read_report` meets its contract. Assumes nothing.
-use Rattle.files.specs.Values.{reportAt}
-use Rattle.layout.specs.Report.{reportOf}
+use Rattle.files.specs.Values.{report_at}
+use Rattle.layout.specs.Report.{report_of}
 use mathlib.Core.Path.{sym, ap, ◌∙◌}
 use borrow.Author.Rules.{rules}
 use Rattle.files.proofs.values.read_report.Statement.{statement}
@@ -31,26 +31,26 @@ enum-told-3 : tie.Need-enum-told-3
 enum-told-3 c = search rules
 
 returns : tie.Need-returns
-unfolding reportAt
+unfolding report_at
 returns c =
     let r = c.before.before in
     let p = r.before in
-    rw (sym p.before.before.before.find.ensures ∙ p.before.enum-told2.given.1, sym (ap reportOf p.piece.ensures) ∙ sym r.read.ensures ∙ c.enum-told3.given.1)
+    rw (sym p.before.before.before.find.ensures ∙ p.before.enum-told2.given.1, sym (ap report_of p.piece.ensures) ∙ sym r.read.ensures ∙ c.enum-told3.given.1)
 
 returns-2 : tie.Need-returns-2
-unfolding reportAt
+unfolding report_at
 returns-2 c = rw (sym c.before.before.before.find.ensures ∙ c.before.at.given.1)
 
 returns-3 : tie.Need-returns-3
-unfolding reportAt
+unfolding report_at
 returns-3 c = rw (sym c.before.before.find.ensures ∙ c.enum_told.given.1)
 
 returns-4 : tie.Need-returns-4
-unfolding reportAt
+unfolding report_at
 returns-4 c =
     let r = c.before.before.before in
     let p = r.before in
-    rw (sym p.before.before.before.find.ensures ∙ p.before.enum-told2.given.1, sym (ap reportOf p.piece.ensures) ∙ sym r.read.ensures ∙ c.before.x.given.1)
+    rw (sym p.before.before.before.find.ensures ∙ p.before.enum-told2.given.1, sym (ap report_of p.piece.ensures) ∙ sym r.read.ensures ∙ c.before.x.given.1)
 
 pub read-report-spec : {M : Type 1} → statement M
 read-report-spec =

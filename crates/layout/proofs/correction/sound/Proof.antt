@@ -1,7 +1,7 @@
 -- `layout::correction::sound` meets its contract. Assumes nothing.
 use mathlib.Core.Path.{sym, ◌∙◌}
 use borrow.Author.Tests.{not-true, not-false}
-use Rattle.layout.specs.Correction.{soundOf}
+use Rattle.layout.specs.Correction.{sound_of}
 use borrow.Author.Rules.{rules}
 use Rattle.layout.proofs.correction.sound.Statement.{statement}
 use Rattle.layout.proofs.correction.sound.Tie as tie
@@ -10,11 +10,11 @@ is-sound-requires : tie.Need-is-sound-requires
 is-sound-requires c κs = search rules
 
 returns : tie.Need-returns
-unfolding soundOf
+unfolding sound_of
 returns c = simp (sym c.before.is-sound.ensures ∙ not-true _ c.if1.true)
 
 returns-2 : tie.Need-returns-2
-unfolding soundOf
+unfolding sound_of
 returns-2 c = simp (sym c.before.is-sound.ensures ∙ not-false _ c.if1.false)
 
 pub sound-spec : {M : Type 1} → statement M

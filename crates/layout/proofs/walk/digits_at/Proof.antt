@@ -5,14 +5,14 @@ use native.Mathlib.Omega.{arith}
 use borrow.Author.Rules.{rules}
 use lib.ListN.{length, drop}
 use Rattle.text.proofs.Read.{bound, bound-more}
-use Rattle.layout.specs.Walk.{digitsAt}
+use Rattle.layout.specs.Walk.{digits_at}
 use Rattle.layout.proofs.DigitsWalk.{found, found_first, found-comma, found-digit, found-low, found-high, found-beyond, reach-within, reach-twelve}
 use Rattle.layout.proofs.walk.digits_at.Statement.{statement}
 use Rattle.layout.proofs.walk.digits_at.Tie as tie
 
 abbrev invariant-loop : tie.invariant-loop
 invariant-loop s at stop n₀ i₀ n i =
-    (at ≤ i) × ((i ≤ at + 12) × ((digitsAt s at ≡ found (at + 12 - i) n i (drop i s)) × (n < 2 * 10 ^ (i - at))))
+    (at ≤ i) × ((i ≤ at + 12) × ((digits_at s at ≡ found (at + 12 - i) n i (drop i s)) × (n < 2 * 10 ^ (i - at))))
 
 abbrev decreases-loop : tie.decreases-loop
 decreases-loop s at stop n₀ i₀ n i = stop - i

@@ -2,7 +2,7 @@
 use mathlib.Core.Path.{sym, ◌∙◌}
 use native.Mathlib.Omega.{arith}
 use borrow.Author.Rules.{rules}
-use Rattle.fields.specs.Kind.{maybeKindFrom}
+use Rattle.fields.specs.Kind.{maybe_kind_from}
 use Rattle.layout.proofs.WidthLaws.{kind-empty, kind-read}
 use Rattle.layout.proofs.walk.kind_at.Statement.{statement}
 use Rattle.layout.proofs.walk.kind_at.Tie as tie
@@ -29,13 +29,13 @@ enum_told : tie.Need-enum-told
 enum_told c = search rules
 
 returns-2 : tie.Need-returns-2
-unfolding maybeKindFrom
+unfolding maybe_kind_from
 returns-2 c =
     let f = c.before.before.before.before in
     sym (kind-read _ _ f.if1.false (sym c.before.before.read.ensures ∙ c.enum_told.given.1))
 
 returns-3 : tie.Need-returns-3
-unfolding maybeKindFrom
+unfolding maybe_kind_from
 returns-3 c =
     let f = c.before.before.before.before.before in
     sym (kind-read _ _ f.if1.false (sym c.before.before.before.read.ensures ∙ c.before.k.given.1))

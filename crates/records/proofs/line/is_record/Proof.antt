@@ -1,5 +1,5 @@
 -- `records::line::is_record` meets its contract. Assumes nothing.
-use Rattle.records.specs.Record.{isRecord}
+use Rattle.records.specs.Record.{is_record}
 use borrow.Author.Rules.{rules}
 use Rattle.records.proofs.line.is_record.Statement.{statement}
 use Rattle.records.proofs.line.is_record.Tie as tie
@@ -29,19 +29,19 @@ is-report-requires-2 : tie.Need-is-report-requires-2
 is-report-requires-2 c κs = search rules
 
 returns : tie.Need-returns
-unfolding isRecord
+unfolding is_record
 returns c = rw c.before.enum_told.given.1 c.is-report.ensures
 
 returns-2 : tie.Need-returns-2
-unfolding isRecord
+unfolding is_record
 returns-2 c = rw c.before.enum-told2.given.1 c.is-correction.ensures
 
 returns-3 : tie.Need-returns-3
-unfolding isRecord
+unfolding is_record
 returns-3 c = rw c.before.enum-told3.given.1 c.is-request.ensures
 
 returns-4 : tie.Need-returns-4
-unfolding isRecord
+unfolding is_record
 returns-4 c = rw c.before.enum-told4.given.1 c.is-report2.ensures
 
 pub is-record-spec : {M : Type 1} → statement M

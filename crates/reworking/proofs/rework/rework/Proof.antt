@@ -2,7 +2,7 @@
 use mathlib.Core.Path.{sym, ◌∙◌}
 use native.Mathlib.Omega.{arith}
 use borrow.Author.Tests.{not-true, not-false}
-use Rattle.store.specs.journals.Files.{fileCount}
+use Rattle.store.specs.journals.Files.{file_count}
 use Rattle.store.specs.Reads.{lent}
 use Rattle.store.proofs.Checks.{long, few-lines}
 use Rattle.store.proofs.Whole.{whole_long, whole-table}
@@ -54,7 +54,7 @@ rework-all-requires c κs =
     let room = long b (whole_long b whole) in
     let few = few-lines a.table.now (whole-table b whole) in
     let m = counted.line-count.ensures.0 in (
-      readable-sound a.table.now a.files.now a.regular.now a.corrections.now a.entries.now among.files-among.result whole (among_below a.n (fileCount a.files.now) among.files-among.result among.files-among.ensures),
+      readable-sound a.table.now a.files.now a.regular.now a.corrections.now a.entries.now among.files-among.result whole (among_below a.n (file_count a.files.now) among.files-among.result among.files-among.ensures),
       (
         (omega (arith, room.long-table, few, m), omega (arith, room.long-entries, few, m), omega (arith, roomy.if1.false, few, m), omega (arith, few, m)),
         store-fitting b whole among.files-among.result counted.line-count.result m,

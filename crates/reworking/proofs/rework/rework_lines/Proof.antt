@@ -3,7 +3,7 @@ use mathlib.Core.Path.{◌≡◌, subst}
 use Prim.Native.Nat.{ℕ, ◌-◌, ◌≤◌}
 use native.Mathlib.Omega.{arith}
 use lib.ListN.{length, take}
-use Rattle.store.specs.journals.Reads.{readFiles}
+use Rattle.store.specs.journals.Reads.{read_files}
 use Rattle.reworking.specs.Reworking.{LinesReworked}
 use Rattle.reworking.proofs.Lines.{none_yet, line-more, reworked-long, listed-long, reworked-few}
 use borrow.Author.Rules.{rules}
@@ -11,7 +11,7 @@ use Rattle.reworking.proofs.rework.rework_lines.Statement.{statement}
 use Rattle.reworking.proofs.rework.rework_lines.Tie as tie
 
 abbrev invariant-loop : tie.invariant-loop
-invariant-loop table files n regular corrections wanted w keys places c room₀ entries₀ m list₀ count₀ i₀ room entries list count i = (i ≤ m) × (length entries ≡ length entries₀) × (length list ≡ length list₀) × (count ≤ i) × LinesReworked (take n (readFiles files regular corrections)) table i entries₀ entries list₀ list count
+invariant-loop table files n regular corrections wanted w keys places c room₀ entries₀ m list₀ count₀ i₀ room entries list count i = (i ≤ m) × (length entries ≡ length entries₀) × (length list ≡ length list₀) × (count ≤ i) × LinesReworked (take n (read_files files regular corrections)) table i entries₀ entries list₀ list count
 
 abbrev decreases-loop : tie.decreases-loop
 decreases-loop table files n regular corrections wanted w keys places c room₀ entries₀ m list₀ count₀ i₀ room entries list count i = m - i
@@ -19,7 +19,7 @@ decreases-loop table files n regular corrections wanted w keys places c room₀ 
 loop-holds : tie.Need-loop-init invariant-loop decreases-loop
 loop-holds c =
     let a = c.before.before.before.before.before.before.args in
-    (search rules, search rules, search rules, search rules, none_yet (take a.n (readFiles a.files.now a.regular.now a.corrections.now)) a.table.now a.entries.now a.list.now)
+    (search rules, search rules, search rules, search rules, none_yet (take a.n (read_files a.files.now a.regular.now a.corrections.now)) a.table.now a.entries.now a.list.now)
 
 rework-line-requires : tie.Need-rework-line-requires invariant-loop decreases-loop
 rework-line-requires c κs =
@@ -46,7 +46,7 @@ loop-again c =
     let at-loop = line.before.before.before.before in
     let start = at-loop.before.before.before.before.before.before.before in
     let a = start.args in
-    let files = take a.n (readFiles a.files.now a.regular.now a.corrections.now) in
+    let files = take a.n (read_files a.files.now a.regular.now a.corrections.now) in
     let next = line-more files a.table.now a.entries.now a.list.now a.m at-loop.loop.i start.requires.1.1.1.1 line.before.before.before.loop-test.true at-loop.loop.entries _ at-loop.loop.list _ at-loop.loop.count noted.note.result line.rework-line.result at-loop.loop.invariant.4 line.rework-line.ensures noted.note.ensures in
     (search rules, reworked-long next, listed-long next, reworked-few next, next)
 
@@ -61,7 +61,7 @@ returns c =
     let at-loop = c.before in
     let a = at-loop.before.before.before.before.before.before.before.args in
     let e : at-loop.loop.i ≡ a.m = omega arith in
-    subst (λ (k : ℕ). LinesReworked (take a.n (readFiles a.files.now a.regular.now a.corrections.now)) a.table.now k a.entries.now at-loop.loop.entries a.list.now at-loop.loop.list at-loop.loop.count) e
+    subst (λ (k : ℕ). LinesReworked (take a.n (read_files a.files.now a.regular.now a.corrections.now)) a.table.now k a.entries.now at-loop.loop.entries a.list.now at-loop.loop.list at-loop.loop.count) e
     at-loop.loop.invariant.4
 
 pub rework-lines-spec : {M : Type 1} → statement M

@@ -7,16 +7,16 @@ use borrow.Author.Tests.{not-true, not-false}
 use borrow.Author.Rules.{rules}
 use lib.ListN.{get_or, drop}
 use Rattle.laws.specs.Split.{piece_of}
-use Rattle.fields.specs.Number.{digitsFieldOf}
+use Rattle.fields.specs.Number.{digits_field_of}
 use Rattle.laws.proofs.Digits.{digit_low, digit-high}
 use Rattle.text.proofs.Read.{bound, bound-more}
-use Rattle.rules.specs.Records.{fieldDigits}
+use Rattle.rules.specs.Records.{field_digits}
 use Rattle.rules.proofs.FirstRun.{run, run-start, run_on, run-last, run-ended, run_none}
 use Rattle.rules.proofs.records.first_field.Statement.{statement}
 use Rattle.rules.proofs.records.first_field.Tie as tie
 
 abbrev invariant-loop : tie.invariant-loop
-invariant-loop s most n₀ i₀ n i = (i ≤ most) × (fieldDigits (digitsFieldOf (piece_of 44 s 0)) ≡ run n (11 - i) (drop i s)) × (n < 2 * 10 ^ i)
+invariant-loop s most n₀ i₀ n i = (i ≤ most) × (field_digits (digits_field_of (piece_of 44 s 0)) ≡ run n (11 - i) (drop i s)) × (n < 2 * 10 ^ i)
 
 abbrev decreases-loop : tie.decreases-loop
 decreases-loop s most n₀ i₀ n i = most - i

@@ -1,4 +1,4 @@
--- `shown::number::of_fields` meets its contract: what the calls answer says which way `besideFirst` goes. Assumes nothing.
+-- `shown::number::of_fields` meets its contract: what the calls answer says which way `beside_first` goes. Assumes nothing.
 use mathlib.Core.Path.{sym, ◌∙◌}
 use borrow.Author.Rules.{rules}
 use Rattle.shown.proofs.number.of_fields.Statement.{statement}

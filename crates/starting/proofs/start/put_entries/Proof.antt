@@ -4,13 +4,13 @@ use borrow.Author.Rules.{rules}
 use Prim.Native.Nat.{◌-◌, ◌≤◌}
 use mathlib.Core.Path.{◌≡◌, refl, ◌∙◌}
 use lib.ListN.{length}
-use Rattle.starting.specs.Start.{entriesWith}
+use Rattle.starting.specs.Start.{entries_with}
 use Rattle.starting.proofs.Beginning.{entries_none, entries_next}
 use Rattle.starting.proofs.start.put_entries.Statement.{statement}
 use Rattle.starting.proofs.start.put_entries.Tie as tie
 
 abbrev invariant-loop : tie.invariant-loop
-invariant-loop room n entries₀ i₀ entries i = (i ≤ n) × (length entries ≡ length entries₀) × (entries ≡ entriesWith room i entries₀)
+invariant-loop room n entries₀ i₀ entries i = (i ≤ n) × (length entries ≡ length entries₀) × (entries ≡ entries_with room i entries₀)
 
 abbrev decreases-loop : tie.decreases-loop
 decreases-loop room n entries₀ i₀ entries i = n - i

@@ -2,7 +2,7 @@
 use native.Mathlib.Omega.{arith}
 use mathlib.Core.Path.{refl, sym, ◌∙◌}
 use borrow.Author.Tests.{not-true, not-false}
-use Rattle.store.specs.journals.Files.{files_of, recordsOf}
+use Rattle.store.specs.journals.Files.{files_of, records_of}
 use Rattle.store.proofs.Checks.{few-files, few-reports, few-corrections, counted, reports-bad, corrections-rest}
 use borrow.Author.Rules.{rules}
 use Rattle.store.proofs.readable.good_records.Statement.{statement}
@@ -24,7 +24,7 @@ good-reports-requires c κs = let s = c.before.before.before.before.before in
 returns : tie.Need-returns
 returns c = let s = c.before.before.before.before.before.before.before in
     let f = s.args.files.now in
-    reports-bad f s.args.regular.now s.args.corrections.now c.before.before.records-of.result (recordsOf 1 (files_of f)) (c.before.before.records-of.ensures ∙ counted f c.before.before.before.file-count.result c.before.before.before.file-count.ensures.0 0) refl (sym c.before.good-reports.ensures ∙ not-true _ c.if1.true)
+    reports-bad f s.args.regular.now s.args.corrections.now c.before.before.records-of.result (records_of 1 (files_of f)) (c.before.before.records-of.ensures ∙ counted f c.before.before.before.file-count.result c.before.before.before.file-count.ensures.0 0) refl (sym c.before.good-reports.ensures ∙ not-true _ c.if1.true)
 
 records-of-requires-2 : tie.Need-records-of-requires-2
 records-of-requires-2 c κs = let s = c.before.before.before.before.before.before.before in

@@ -8,12 +8,12 @@ use borrow.Author.Tests.{not-true, not-false}
 use Rattle.laws.specs.Lists.{table, all}
 use Rattle.laws.specs.Slots.{slot_at}
 use Rattle.laws.proofs.Tables.{all_none, all-next, all-not}
-use Rattle.store.specs.Records.{goodCorrection}
+use Rattle.store.specs.Records.{good_correction}
 use Rattle.store.proofs.records.good_corrections.Statement.{statement}
 use Rattle.store.proofs.records.good_corrections.Tie as tie
 
 abbrev invariant-loop : tie.invariant-loop
-invariant-loop corrections n i₀ i = (i ≤ n) × (all goodCorrection (table i (slot_at 0 98 corrections)) ≡ true)
+invariant-loop corrections n i₀ i = (i ≤ n) × (all good_correction (table i (slot_at 0 98 corrections)) ≡ true)
 
 abbrev decreases-loop : tie.decreases-loop
 decreases-loop corrections n i₀ i = n - i
@@ -27,7 +27,7 @@ good-correction-requires c κs = search rules
 returns : tie.Need-returns invariant-loop decreases-loop
 returns c = let at-loop = c.before.before.before in
     let a = at-loop.before.before.args in
-    sym (all-not goodCorrection a.n at-loop.loop.i (slot_at 0 98 a.corrections.now) (search rules) (sym c.before.good-correction.ensures ∙ not-true _ c.if1.true))
+    sym (all-not good_correction a.n at-loop.loop.i (slot_at 0 98 a.corrections.now) (search rules) (sym c.before.good-correction.ensures ∙ not-true _ c.if1.true))
 
 add-i : tie.Need-overflow-add-i invariant-loop decreases-loop
 add-i c = search rules
@@ -38,7 +38,7 @@ loop-less c = search rules
 loop-again : tie.Need-loop-preserved invariant-loop decreases-loop
 loop-again c = let at-loop = c.before.before.before in
     let a = at-loop.before.before.args in
-    (search rules, all-next goodCorrection at-loop.loop.i (slot_at 0 98 a.corrections.now) at-loop.loop.invariant.1 (sym c.before.good-correction.ensures ∙ not-false _ c.if1.false))
+    (search rules, all-next good_correction at-loop.loop.i (slot_at 0 98 a.corrections.now) at-loop.loop.invariant.1 (sym c.before.good-correction.ensures ∙ not-false _ c.if1.false))
 
 returns-2 : tie.Need-returns-2 invariant-loop decreases-loop
 returns-2 c = let e : c.before.loop.i ≡ c.before.before.before.args.n = omega arith in

@@ -7,7 +7,7 @@ use lib.Dec.{eqb}
 use lib.ListN.{length, drop}
 use Rattle.laws.specs.Lists.{any}
 use Rattle.laws.proofs.Loops.{any-on, any_found, any-passed}
-use Rattle.verdict.specs.correction_rules.Corrections.{isAmong}
+use Rattle.verdict.specs.correction_rules.Corrections.{is_among}
 use borrow.Author.Rules.{rules}
 use Rattle.verdict.proofs.correction_rules.among.Statement.{statement}
 use Rattle.verdict.proofs.correction_rules.among.Tie as tie
@@ -28,7 +28,7 @@ shared-slice-read-if1 : tie.Need-shared-slice-read-if1 invariant-loop decreases-
 shared-slice-read-if1 c = search rules
 
 returns : tie.Need-returns invariant-loop decreases-loop
-unfolding isAmong
+unfolding is_among
 returns c =
     let a = c.before.before.before in
     any_found (eqb a.before.args.code) 0 a.before.args.codes.now a.loop.i (omega arith) (eq-eqb _ _ (sym c.if1.true)) a.loop.invariant.1
@@ -47,7 +47,7 @@ loop-again c =
     )
 
 returns-2 : tie.Need-returns-2 invariant-loop decreases-loop
-unfolding isAmong
+unfolding is_among
 returns-2 c =
     let a = c.before in
     any-passed (eqb a.before.args.code) 0 a.before.args.codes.now a.loop.i (omega arith) a.loop.invariant.1

@@ -1,5 +1,5 @@
 -- `verdict::step::stand` meets its contract: the callees' contracts, one put into the other. Assumes nothing.
-use Rattle.verdict.specs.Step.{standOn}
+use Rattle.verdict.specs.Step.{stand_on}
 use borrow.Author.Rules.{rules}
 use Rattle.verdict.proofs.step.stand.Statement.{statement}
 use Rattle.verdict.proofs.step.stand.Tie as tie
@@ -14,7 +14,7 @@ why-after-requires : tie.Need-why-after-requires
 why-after-requires c κs = search rules
 
 returns : tie.Need-returns
-unfolding standOn
+unfolding stand_on
 returns c = rw (c.why-after.ensures, c.before.does.ensures, c.before.before.before.before.step.ensures)
 
 pub stand-spec : {M : Type 1} → statement M

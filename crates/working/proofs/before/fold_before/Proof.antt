@@ -4,15 +4,15 @@ use mathlib.Core.List.{foldl}
 use Prim.Native.Nat.{ℕ, ◌-◌, ◌≤◌}
 use native.Mathlib.Omega.{arith}
 use lib.ListN.{take}
-use Rattle.verdict.specs.Step.{firstStanding}
-use Rattle.working.specs.Working.{standBefore}
+use Rattle.verdict.specs.Step.{first_standing}
+use Rattle.working.specs.Working.{stand_before}
 use Rattle.working.proofs.WorkLaws.{before-turn}
 use borrow.Author.Rules.{rules}
 use Rattle.working.proofs.before.fold_before.Statement.{statement}
 use Rattle.working.proofs.before.fold_before.Tie as tie
 
 abbrev invariant-loop : tie.invariant-loop
-invariant-loop regular corrections line mark keys r s₀ i₀ s i = (i ≤ r) × (s ≡ foldl (standBefore line regular corrections mark) (firstStanding line) (take i keys))
+invariant-loop regular corrections line mark keys r s₀ i₀ s i = (i ≤ r) × (s ≡ foldl (stand_before line regular corrections mark) (first_standing line) (take i keys))
 
 abbrev decreases-loop : tie.decreases-loop
 decreases-loop regular corrections line mark keys r s₀ i₀ s i = r - i
@@ -51,7 +51,7 @@ returns c =
     let at-loop = c.before in
     let args = at-loop.before.before.before.before.before.args in
     let e : at-loop.loop.i ≡ args.r = omega arith in
-    at-loop.loop.invariant.1 ∙ ap (λ (i : ℕ). foldl (standBefore args.line args.regular.now args.corrections.now args.mark) (firstStanding args.line) (take i args.keys.now)) e
+    at-loop.loop.invariant.1 ∙ ap (λ (i : ℕ). foldl (stand_before args.line args.regular.now args.corrections.now args.mark) (first_standing args.line) (take i args.keys.now)) e
 
 pub fold-before-spec : {M : Type 1} → statement M
 fold-before-spec =

@@ -4,7 +4,7 @@ use Prim.Native.Nat.{ℕ, ◌+◌, ◌-◌, ◌≤◌, ◌<◌}
 use native.Mathlib.Omega.{arith}
 use lib.ListN.{length}
 use Rattle.laws.specs.Lists.{table}
-use Rattle.store.specs.journals.Files.{fileAt, recordsOf}
+use Rattle.store.specs.journals.Files.{file_at, records_of}
 use Rattle.store.proofs.journals.Counting.{records-none, records-next}
 use Rattle.store.specs.declared.journals.files.File.{File}
 use Rattle.working.specs.Working.{Gathered}
@@ -15,7 +15,7 @@ use Rattle.working.proofs.gather.gather.Tie as tie
 
 abbrev invariant-loop : tie.invariant-loop
 invariant-loop files n regular corrections number keys₀ r₀ reports₀ objections₀ k₀ keys r reports objections k =
-    (k ≤ n) × (length keys ≡ length keys₀) × Gathered k files regular corrections number keys r × (reports ≡ recordsOf 0 (table k (fileAt files))) × (objections ≡ recordsOf 1 (table k (fileAt files)))
+    (k ≤ n) × (length keys ≡ length keys₀) × Gathered k files regular corrections number keys r × (reports ≡ records_of 0 (table k (file_at files))) × (objections ≡ records_of 1 (table k (file_at files)))
 
 abbrev decreases-loop : tie.decreases-loop
 decreases-loop files n regular corrections number keys₀ r₀ reports₀ objections₀ k₀ keys r reports objections k = n - k
@@ -26,8 +26,8 @@ loop-holds c =
       search rules,
       search rules,
       gathered_none args.files.now args.regular.now args.corrections.now args.number args.keys.now,
-      records-none 0 (fileAt args.files.now),
-      records-none 1 (fileAt args.files.now),
+      records-none 0 (file_at args.files.now),
+      records-none 1 (file_at args.files.now),
     )
 
 file-at-requires : tie.Need-file-at-requires invariant-loop decreases-loop
@@ -105,8 +105,8 @@ loop-again c =
       search rules,
       search rules,
       gathered-turn args.files.now args.regular.now args.corrections.now args.number at-loop.loop.k f.result start.result at-loop.loop.keys _ at-loop.loop.r _ f.ensures.0 (start.ensures ∙ begun) at-loop.loop.invariant.2 c.before.before.before.before.gather-file.ensures,
-      ap (λ (m : ℕ). at-loop.loop.reports + m) c.before.records-in.ensures.0 ∙ records-next 0 (fileAt args.files.now) at-loop.loop.k at-loop.loop.reports f.result f.ensures.0 at-loop.loop.invariant.3,
-      ap (λ (m : ℕ). at-loop.loop.objections + m) c.records-in2.ensures.0 ∙ records-next 1 (fileAt args.files.now) at-loop.loop.k at-loop.loop.objections f.result f.ensures.0 at-loop.loop.invariant.4,
+      ap (λ (m : ℕ). at-loop.loop.reports + m) c.before.records-in.ensures.0 ∙ records-next 0 (file_at args.files.now) at-loop.loop.k at-loop.loop.reports f.result f.ensures.0 at-loop.loop.invariant.3,
+      ap (λ (m : ℕ). at-loop.loop.objections + m) c.records-in2.ensures.0 ∙ records-next 1 (file_at args.files.now) at-loop.loop.k at-loop.loop.objections f.result f.ensures.0 at-loop.loop.invariant.4,
     )
 
 same_length : tie.Need-same-length invariant-loop decreases-loop

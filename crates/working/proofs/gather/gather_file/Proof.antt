@@ -4,8 +4,8 @@ use mathlib.Core.Logic.{⊎_elim}
 use Prim.Native.Nat.{ℕ, ◌+◌, ◌-◌, ◌≤◌}
 use native.Mathlib.Omega.{arith}
 use lib.ListN.{length, length-set}
-use Rattle.store.specs.journals.Reads.{recordsAt}
-use Rattle.working.specs.Slips.{keysIn}
+use Rattle.store.specs.journals.Reads.{records_at}
+use Rattle.working.specs.Slips.{keys_in}
 use Rattle.working.specs.Working.{Behind}
 use Rattle.working.proofs.GatherLaws.{behind-none, behind-yes, behind-no}
 use borrow.Author.Rules.{rules}
@@ -13,7 +13,7 @@ use Rattle.working.proofs.gather.gather_file.Statement.{statement}
 use Rattle.working.proofs.gather.gather_file.Tie as tie
 
 abbrev invariant-loop : tie.invariant-loop
-invariant-loop regular corrections f start number keys₀ at count r₀ i₀ keys r i = (i ≤ count) × (length keys ≡ length keys₀) × (r ≤ at + i) × Behind keys₀ at (keysIn (recordsAt regular corrections) number f start i) keys r
+invariant-loop regular corrections f start number keys₀ at count r₀ i₀ keys r i = (i ≤ count) × (length keys ≡ length keys₀) × (r ≤ at + i) × Behind keys₀ at (keys_in (records_at regular corrections) number f start i) keys r
 
 abbrev decreases-loop : tie.decreases-loop
 decreases-loop regular corrections f start number keys₀ at count r₀ i₀ keys r i = count - i
@@ -24,7 +24,7 @@ cast-count c = search rules
 loop-holds : tie.Need-loop-init invariant-loop decreases-loop
 loop-holds c =
     let args = c.before.before.before.before.args in
-    (search rules, search rules, search rules, behind-none (recordsAt args.regular.now args.corrections.now) args.number args.f args.start args.keys.now args.at)
+    (search rules, search rules, search rules, behind-none (records_at args.regular.now args.corrections.now) args.number args.f args.start args.keys.now args.at)
 
 add-names : tie.Need-overflow-add-names invariant-loop decreases-loop
 add-names c = search rules
@@ -54,7 +54,7 @@ loop-again : tie.Need-loop-preserved invariant-loop decreases-loop
 loop-again c =
     let at-loop = c.before.before.before in
     let args = at-loop.before.before.before.before.before.args in
-    let r = recordsAt args.regular.now args.corrections.now in
+    let r = records_at args.regular.now args.corrections.now in
     let inv = at-loop.loop.invariant.3 in (
       search rules,
       ⊎_elim (λ w. rw w.2 (simp length-set at-loop.loop.invariant.1)) (λ w. rw w.1 at-loop.loop.invariant.1) c.if1.branch,
@@ -72,7 +72,7 @@ returns c =
     let at-loop = c.before in
     let args = at-loop.before.before.before.before.before.args in
     let e : at-loop.loop.i ≡ args.f.count = omega arith in
-    subst (λ (j : ℕ). Behind args.keys.now args.at (keysIn (recordsAt args.regular.now args.corrections.now) args.number args.f args.start j) at-loop.loop.keys at-loop.loop.r) e at-loop.loop.invariant.3
+    subst (λ (j : ℕ). Behind args.keys.now args.at (keys_in (records_at args.regular.now args.corrections.now) args.number args.f args.start j) at-loop.loop.keys at-loop.loop.r) e at-loop.loop.invariant.3
 
 pub gather-file-spec : {M : Type 1} → statement M
 gather-file-spec =

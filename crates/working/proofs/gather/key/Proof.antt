@@ -1,6 +1,6 @@
 -- `working::gather::key` meets its contract. Assumes nothing.
 use borrow.Author.Rules.{rules}
-use Rattle.working.specs.Slips.{keyBy}
+use Rattle.working.specs.Slips.{key_by}
 use Rattle.working.proofs.gather.key.Statement.{statement}
 use Rattle.working.proofs.gather.key.Tie as tie
 
@@ -29,7 +29,7 @@ add-result-2 : tie.Need-overflow-add-result-2
 add-result-2 c = search rules
 
 returns : tie.Need-returns
-unfolding keyBy
+unfolding key_by
 returns c = search rules
 
 pub key_spec : {M : Type 1} → statement M

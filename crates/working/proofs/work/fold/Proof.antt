@@ -5,15 +5,15 @@ use Prim.Native.Nat.{ℕ, ◌-◌, ◌≤◌}
 use native.Mathlib.Omega.{arith}
 use lib.ListN.{length, take}
 use lib.Seq.{length-take-le}
-use Rattle.verdict.specs.Step.{firstStanding}
-use Rattle.working.specs.Working.{standBehind}
+use Rattle.verdict.specs.Step.{first_standing}
+use Rattle.working.specs.Working.{stand_behind}
 use Rattle.working.proofs.WorkLaws.{fold-turn}
 use borrow.Author.Rules.{rules}
 use Rattle.working.proofs.work.fold.Statement.{statement}
 use Rattle.working.proofs.work.fold.Tie as tie
 
 abbrev invariant-loop : tie.invariant-loop
-invariant-loop regular corrections line keys r s₀ count₀ i₀ s count i = (i ≤ r) × (count ≡ i) × (s ≡ foldl (standBehind line regular corrections) (firstStanding line) (take i keys))
+invariant-loop regular corrections line keys r s₀ count₀ i₀ s count i = (i ≤ r) × (count ≡ i) × (s ≡ foldl (stand_behind line regular corrections) (first_standing line) (take i keys))
 
 abbrev decreases-loop : tie.decreases-loop
 decreases-loop regular corrections line keys r s₀ count₀ i₀ s count i = r - i
@@ -56,7 +56,7 @@ returns c =
     let at-loop = c.before in
     let args = at-loop.before.before.before.before.before.args in
     let e : at-loop.loop.i ≡ args.r = omega arith in
-    let stands = at-loop.loop.invariant.2 ∙ ap (λ (i : ℕ). foldl (standBehind args.line args.regular.now args.corrections.now) (firstStanding args.line) (take i args.keys.now)) e in
+    let stands = at-loop.loop.invariant.2 ∙ ap (λ (i : ℕ). foldl (stand_behind args.line args.regular.now args.corrections.now) (first_standing args.line) (take i args.keys.now)) e in
     let counted : at-loop.loop.count ≡ length (take args.r args.keys.now) = at-loop.loop.invariant.1 ∙ e ∙ sym (length-take-le args.r args.keys.now (omega arith)) in
     λ k. record { standing = stands k; count = counted k }
 

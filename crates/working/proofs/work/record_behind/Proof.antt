@@ -1,5 +1,5 @@
 -- `working::work::record_behind` meets its contract: the callee's contract. Assumes nothing.
-use Rattle.working.specs.Slips.{classBehind, eventBehind}
+use Rattle.working.specs.Slips.{class_behind, event_behind}
 use borrow.Author.Rules.{rules}
 use Rattle.working.proofs.work.record_behind.Statement.{statement}
 use Rattle.working.proofs.work.record_behind.Tie as tie
@@ -17,7 +17,7 @@ cast-t15 : tie.Need-overflow-cast-t15
 cast-t15 c = search rules
 
 returns : tie.Need-returns
-unfolding eventBehind classBehind
+unfolding event_behind class_behind
 returns c = rw c.says-behind.ensures
 
 pub record-behind-spec : {M : Type 1} → statement M

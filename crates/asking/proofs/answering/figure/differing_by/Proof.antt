@@ -3,7 +3,7 @@ use mathlib.Core.Path.{◌≡◌, ap, ◌∙◌}
 use Prim.Native.Nat.{ℕ, ◌-◌, ◌≤◌}
 use native.Mathlib.Omega.{arith}
 use lib.ListN.{take}
-use Rattle.store.specs.journals.Reads.{readFiles}
+use Rattle.store.specs.journals.Reads.{read_files}
 use Rattle.asking.specs.answering.Figure.{differing}
 use Rattle.asking.proofs.answering.Figures.{other_differs, differing-none, differing-more}
 use borrow.Author.Rules.{rules}
@@ -11,7 +11,7 @@ use Rattle.asking.proofs.answering.figure.differing_by.Statement.{statement}
 use Rattle.asking.proofs.answering.figure.differing_by.Tie as tie
 
 abbrev invariant-loop : tie.invariant-loop
-invariant-loop table files n regular corrections entries m wanted keys places c room₀ count₀ i₀ room count i = (i ≤ m) × (count ≤ i) × (count ≡ differing (take n (readFiles files regular corrections)) table entries i)
+invariant-loop table files n regular corrections entries m wanted keys places c room₀ count₀ i₀ room count i = (i ≤ m) × (count ≤ i) × (count ≡ differing (take n (read_files files regular corrections)) table entries i)
 
 abbrev decreases-loop : tie.decreases-loop
 decreases-loop table files n regular corrections entries m wanted keys places c room₀ count₀ i₀ room count i = m - i
@@ -19,7 +19,7 @@ decreases-loop table files n regular corrections entries m wanted keys places c 
 loop-holds : tie.Need-loop-init invariant-loop decreases-loop
 loop-holds c =
     let a = c.before.before.before.before.before.args in
-    (search rules, search rules, differing-none (take a.n (readFiles a.files.now a.regular.now a.corrections.now)) a.table.now a.entries.now)
+    (search rules, search rules, differing-none (take a.n (read_files a.files.now a.regular.now a.corrections.now)) a.table.now a.entries.now)
 
 line-standing-requires : tie.Need-line-standing-requires invariant-loop decreases-loop
 line-standing-requires c κs =
@@ -48,7 +48,7 @@ loop-again c =
     let stood = c.before.before in
     let at-loop = stood.before.before.before in
     let a = at-loop.before.before.before.before.before.before.args in
-    let files = take a.n (readFiles a.files.now a.regular.now a.corrections.now) in
+    let files = take a.n (read_files a.files.now a.regular.now a.corrections.now) in
     let other = c.before.is-other in (
       search rules,
       search rules,
@@ -60,7 +60,7 @@ returns c =
     let at-loop = c.before in
     let a = at-loop.before.before.before.before.before.before.args in
     let e : at-loop.loop.i ≡ a.m = omega arith in
-    at-loop.loop.invariant.2 ∙ ap (differing (take a.n (readFiles a.files.now a.regular.now a.corrections.now)) a.table.now a.entries.now) e
+    at-loop.loop.invariant.2 ∙ ap (differing (take a.n (read_files a.files.now a.regular.now a.corrections.now)) a.table.now a.entries.now) e
 
 pub differing-by-spec : {M : Type 1} → statement M
 differing-by-spec =

@@ -1,19 +1,19 @@
 -- `fields::code::Code::of_word` meets its contract. Assumes nothing.
 use borrow.Author.Tests.{lt-leb, le-leb}
-use Rattle.fields.specs.Code.{codeOfWord}
+use Rattle.fields.specs.Code.{code_of_word}
 use borrow.Author.Rules.{rules}
 use Rattle.fields.proofs.code.Code.of_word.Statement.{statement}
 use Rattle.fields.proofs.code.Code.of_word.Tie as tie
 
 returns : tie.Need-returns
-unfolding codeOfWord
+unfolding code_of_word
 returns c = simp (lt-leb _ _ c.if1.true)
 
 cast-t3 : tie.Need-overflow-cast-t3
 cast-t3 c = search rules
 
 returns-2 : tie.Need-returns-2
-unfolding codeOfWord
+unfolding code_of_word
 returns-2 c = simp (le-leb _ _ c.if1.false)
 
 pub of-word-spec : {M : Type 1} → statement M

@@ -1,7 +1,7 @@
 -- `fields::code::Code::read` meets its contract: the tests and what `read_digits` answers say which way `code_of` goes. Assumes nothing.
 use mathlib.Core.Path.{sym, ap, ◌∙◌}
 use native.Mathlib.Omega.{arith}
-use Rattle.fields.specs.Code.{codeFrom}
+use Rattle.fields.specs.Code.{code_from}
 use Rattle.fields.proofs.CodeLaws.{code-length, code-letter, code_read, three-below}
 use borrow.Author.Rules.{rules}
 use Rattle.fields.proofs.code.Code.read.Statement.{statement}
@@ -35,10 +35,10 @@ enum_told : tie.Need-enum-told
 enum_told c = search rules
 
 returns-3 : tie.Need-returns-3
-unfolding codeFrom
+unfolding code_from
 returns-3 c =
     let d = c.before.before in
-    sym (code_read _ d.read-digits.result (omega arith) d.before.before.if2.false d.read-digits.ensures ∙ ap codeFrom c.enum_told.given.1)
+    sym (code_read _ d.read-digits.result (omega arith) d.before.before.if2.false d.read-digits.ensures ∙ ap code_from c.enum_told.given.1)
 
 cast-t11 : tie.Need-overflow-cast-t11
 cast-t11 c =
@@ -46,10 +46,10 @@ cast-t11 c =
     omega (arith, three-below d.before.before.before.before.before.before.args.f.now c.before.n.given.0.0 (omega arith) (sym d.read-digits.ensures ∙ c.before.n.given.1))
 
 returns-4 : tie.Need-returns-4
-unfolding codeFrom
+unfolding code_from
 returns-4 c =
     let d = c.before.before.before in
-    sym (code_read _ d.read-digits.result (omega arith) d.before.before.if2.false d.read-digits.ensures ∙ ap codeFrom c.before.n.given.1)
+    sym (code_read _ d.read-digits.result (omega arith) d.before.before.if2.false d.read-digits.ensures ∙ ap code_from c.before.n.given.1)
 
 pub read_spec : {M : Type 1} → statement M
 read_spec =

@@ -3,13 +3,13 @@ use Rattle.text.proofs.Spelling.{fixed_back}
 use mathlib.Core.Path.{sym, ◌∙◌}
 use borrow.Author.Tests.{eq-eqb, ne_eqb}
 use native.Mathlib.Omega.{arith}
-use Rattle.fields.specs.CorrectionCode.{correctionCodeOf, correctionCodeFrom}
+use Rattle.fields.specs.CorrectionCode.{correction_code_of, correction_code_from}
 use borrow.Author.Rules.{rules}
 use Rattle.fields.proofs.correction_code.CorrectionCode.read.Statement.{statement}
 use Rattle.fields.proofs.correction_code.CorrectionCode.read.Tie as tie
 
 returns : tie.Need-returns
-unfolding correctionCodeOf correctionCodeFrom
+unfolding correction_code_of correction_code_from
 returns c = simp (ne_eqb _ _ c.if1.true)
 
 read-digits-requires : tie.Need-read-digits-requires
@@ -22,7 +22,7 @@ enum_told : tie.Need-enum-told
 enum_told c = search rules
 
 returns-2 : tie.Need-returns-2
-unfolding correctionCodeOf correctionCodeFrom
+unfolding correction_code_of correction_code_from
 returns-2 c =
     let d = c.before.before in
     simp (eq-eqb _ _ d.before.if1.false, sym d.read-digits.ensures ∙ c.enum_told.given.1)
@@ -33,7 +33,7 @@ cast-t6 c =
     omega (arith, (fixed_back 4 d.before.before.before.args.f.now c.before.n.given.0.0 (omega arith) (sym d.read-digits.ensures ∙ c.before.n.given.1)).1)
 
 returns-3 : tie.Need-returns-3
-unfolding correctionCodeOf correctionCodeFrom
+unfolding correction_code_of correction_code_from
 returns-3 c =
     let d = c.before.before.before in
     simp (eq-eqb _ _ d.before.if1.false, sym d.read-digits.ensures ∙ c.before.n.given.1)

@@ -1,13 +1,13 @@
 -- `fields::kind::MaybeKind::of_word` meets its contract. Assumes nothing.
 use mathlib.Core.Path.{sym, ◌∙◌}
 use borrow.Author.Tests.{eq-eqb, ne_eqb}
-use Rattle.fields.specs.Kind.{maybeKindOfWord, maybeKindFrom}
+use Rattle.fields.specs.Kind.{maybe_kind_of_word, maybe_kind_from}
 use borrow.Author.Rules.{rules}
 use Rattle.fields.proofs.kind.MaybeKind.of_word.Statement.{statement}
 use Rattle.fields.proofs.kind.MaybeKind.of_word.Tie as tie
 
 returns : tie.Need-returns
-unfolding maybeKindOfWord maybeKindFrom
+unfolding maybe_kind_of_word maybe_kind_from
 returns c = simp (eq-eqb _ _ c.if1.true)
 
 of-word-requires : tie.Need-of-word-requires
@@ -20,13 +20,13 @@ enum_told : tie.Need-enum-told
 enum_told c = search rules
 
 returns-2 : tie.Need-returns-2
-unfolding maybeKindOfWord maybeKindFrom
+unfolding maybe_kind_of_word maybe_kind_from
 returns-2 c =
     let d = c.before.before in
     simp (ne_eqb _ _ d.before.if1.false, sym d.of_word.ensures ∙ c.enum_told.given.1)
 
 returns-3 : tie.Need-returns-3
-unfolding maybeKindOfWord maybeKindFrom
+unfolding maybe_kind_of_word maybe_kind_from
 returns-3 c =
     let d = c.before.before.before in
     simp (ne_eqb _ _ d.before.if1.false, sym d.of_word.ensures ∙ c.before.k.given.1)

@@ -1,14 +1,14 @@
 -- `fields::number::Number::read` meets its contract: the tests and what the calls answer say which way `number_of` goes. Assumes nothing.
 use mathlib.Core.Path.{sym, ◌∙◌}
 use borrow.Author.Tests.{eq-eqb, ne_eqb, not-true, not-false}
-use Rattle.fields.specs.Number.{number_of, numberFrom}
+use Rattle.fields.specs.Number.{number_of, number_from}
 use Rattle.fields.proofs.NumberLaws.{digits-back, digits-counted}
 use borrow.Author.Rules.{rules}
 use Rattle.fields.proofs.number.Number.read.Statement.{statement}
 use Rattle.fields.proofs.number.Number.read.Tie as tie
 
 returns : tie.Need-returns
-unfolding number_of numberFrom
+unfolding number_of number_from
 returns c = simp (eq-eqb _ _ c.if1.true)
 
 read-requires : tie.Need-read-requires
@@ -21,7 +21,7 @@ enum_told : tie.Need-enum-told
 enum_told c = search rules
 
 returns-2 : tie.Need-returns-2
-unfolding number_of numberFrom
+unfolding number_of number_from
 returns-2 c =
     let d = c.before.before in
     simp (ne_eqb _ _ d.before.if1.false, sym d.read.ensures ∙ c.enum_told.given.1)
@@ -32,14 +32,14 @@ begins-block-requires c κs =
     ((digits-back _ _ e).1, digits-counted _ _ e)
 
 returns-3 : tie.Need-returns-3
-unfolding number_of numberFrom
+unfolding number_of number_from
 returns-3 c =
     let n = c.before.before.before in
     let d = n.before.before in
     simp (ne_eqb _ _ d.before.if1.false, sym d.read.ensures ∙ n.last.given.1, sym c.before.begins-block.ensures ∙ not-true _ c.if2.true)
 
 returns-4 : tie.Need-returns-4
-unfolding number_of numberFrom
+unfolding number_of number_from
 returns-4 c =
     let n = c.before.before.before in
     let d = n.before.before in

@@ -1,15 +1,15 @@
 -- `fields::number::Number::same` meets its contract. Assumes nothing.
 use borrow.Author.Tests.{eq-eqb, ne_eqb}
-use Rattle.fields.specs.Number.{sameNumber}
+use Rattle.fields.specs.Number.{same_number}
 use Rattle.fields.proofs.number.Number.same.Statement.{statement}
 use Rattle.fields.proofs.number.Number.same.Tie as tie
 
 returns : tie.Need-returns
-unfolding sameNumber
+unfolding same_number
 returns c = simp (ne_eqb _ _ c.if1.true)
 
 returns-2 : tie.Need-returns-2
-unfolding sameNumber
+unfolding same_number
 returns-2 c = simp (eq-eqb _ _ c.before.before.if1.false)
 
 pub same_spec : {M : Type 1} → statement M

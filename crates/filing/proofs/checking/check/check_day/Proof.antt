@@ -2,8 +2,8 @@
 use borrow.Author.Rules.{rules}
 use borrow.Author.Tests.{not-true, not-false}
 use mathlib.Core.Path.{sym, ◌∙◌}
-use Rattle.files.specs.Judged.{judgedFile}
-use Rattle.filing.specs.entering.Entering.{fileKind}
+use Rattle.files.specs.Judged.{judged_file}
+use Rattle.filing.specs.entering.Entering.{file_kind}
 use Rattle.filing.proofs.checking.CheckLaws.{day-outside, day-alike, day-new}
 use Rattle.filing.proofs.checking.check.check_day.Statement.{statement}
 use Rattle.filing.proofs.checking.check.check_day.Tie as tie
@@ -13,7 +13,7 @@ in-calendar-requires c κs = search rules
 
 returns : tie.Need-returns
 returns c = let a = c.before.before.before.before.args in
-    day-outside a.files.now a.kind a.code a.day.0 (judgedFile (fileKind a.kind) a.text.now)
+    day-outside a.files.now a.kind a.code a.day.0 (judged_file (file_kind a.kind) a.text.now)
     (sym c.before.in-calendar.ensures ∙ not-true _ c.if1.true)
 
 number-requires : tie.Need-number-requires
@@ -25,7 +25,7 @@ filed-already-requires c κs = search rules
 returns-2 : tie.Need-returns-2
 returns-2 c = let d = c.before.before.before.before in
     let a = d.before.before.before.args in
-    day-alike a.files.now a.kind a.code a.day.0 (judgedFile (fileKind a.kind) a.text.now)
+    day-alike a.files.now a.kind a.code a.day.0 (judged_file (file_kind a.kind) a.text.now)
     (sym d.in-calendar.ensures ∙ not-false _ c.before.before.before.if1.false)
     c.before.before.number.result c.before.before.number.ensures c.before.filed-already.result c.before.filed-already.ensures c.if2.true
 
@@ -35,7 +35,7 @@ check-text-requires c κs = search rules
 returns-3 : tie.Need-returns-3
 returns-3 c = let d = c.before.before.before.before.before in
     let a = d.before.before.before.args in
-    day-new a.files.now a.kind a.code a.day.0 (judgedFile (fileKind a.kind) a.text.now)
+    day-new a.files.now a.kind a.code a.day.0 (judged_file (file_kind a.kind) a.text.now)
     (sym d.in-calendar.ensures ∙ not-false _ c.before.before.before.before.if1.false)
     c.before.before.before.number.result c.before.before.before.number.ensures c.before.before.filed-already.result c.before.before.filed-already.ensures c.before.if2.false
     c.check-text.result c.check-text.ensures

@@ -2,7 +2,7 @@
 use borrow.Author.Rules.{rules}
 use mathlib.Core.Path.{sym, ap, ◌∙◌}
 use Rattle.records.specs.declared.names.kind.FileKind.{FileKind}
-use Rattle.files.specs.Judged.{judgedFile}
+use Rattle.files.specs.Judged.{judged_file}
 use Rattle.filing.proofs.checking.check.check_text.Statement.{statement}
 use Rattle.filing.proofs.checking.check.check_text.Tie as tie
 
@@ -24,13 +24,13 @@ check-room-requires c κs = search rules
 returns : tie.Need-returns
 returns c = let f = c.before.before.before.before in
     let a = f.before.before.before.args in
-    let j = sym (c.before.before.before.judge.ensures ∙ ap (λ (k : FileKind). judgedFile k a.text.now) f.file-kind.ensures) ∙ c.before.place.given.1 in
+    let j = sym (c.before.before.before.judge.ensures ∙ ap (λ (k : FileKind). judged_file k a.text.now) f.file-kind.ensures) ∙ c.before.place.given.1 in
     rw j
 
 returns-2 : tie.Need-returns-2
 returns-2 c = let f = c.before.before.before.before.before in
     let a = f.before.before.before.args in
-    let j = sym (c.before.before.before.before.judge.ensures ∙ ap (λ (k : FileKind). judgedFile k a.text.now) f.file-kind.ensures) ∙ c.before.before.m.given.1 in
+    let j = sym (c.before.before.before.before.judge.ensures ∙ ap (λ (k : FileKind). judged_file k a.text.now) f.file-kind.ensures) ∙ c.before.before.m.given.1 in
     rw j c.check-room.ensures
 
 pub check-text-spec : {M : Type 1} → statement M

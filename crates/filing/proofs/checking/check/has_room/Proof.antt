@@ -3,7 +3,7 @@ use native.Mathlib.Omega.{arith}
 use borrow.Author.Rules.{rules}
 use mathlib.Core.Path.{ap, ◌∙◌}
 use Prim.Native.Nat.{ℕ}
-use Rattle.store.specs.journals.Files.{fileAt, recordsOf}
+use Rattle.store.specs.journals.Files.{file_at, records_of}
 use Rattle.laws.specs.Lists.{table}
 use Rattle.filing.proofs.checking.CheckLaws.{used-fits, room-left, room-none}
 use Rattle.filing.proofs.checking.check.has_room.Statement.{statement}
@@ -28,13 +28,13 @@ most-requires c κs = search rules
 sub-result : tie.Need-overflow-sub-result
 sub-result c = let s = c.before.before.before.before.before.before in
     let n = c.before.before.before.before.file-count in
-    let q = c.before.records-of.ensures ∙ ap (λ (k : ℕ). recordsOf k (table n.result (fileAt s.args.files.now))) c.before.before.number.ensures in
+    let q = c.before.records-of.ensures ∙ ap (λ (k : ℕ). records_of k (table n.result (file_at s.args.files.now))) c.before.before.number.ensures in
     omega (arith, c.most.ensures, used-fits s.args.files.now s.requires.1 s.args.kind n.result c.before.records-of.result n.ensures.0 q)
 
 returns-2 : tie.Need-returns-2
 returns-2 c = let s = c.before.before.before.before.before.before in
     let n = c.before.before.before.before.file-count in
-    let q = c.before.records-of.ensures ∙ ap (λ (k : ℕ). recordsOf k (table n.result (fileAt s.args.files.now))) c.before.before.number.ensures in
+    let q = c.before.records-of.ensures ∙ ap (λ (k : ℕ). records_of k (table n.result (file_at s.args.files.now))) c.before.before.number.ensures in
     rw c.most.ensures (room-left s.args.files.now s.requires.1 s.args.kind n.result c.before.records-of.result n.ensures.0 q s.args.m c.before.before.before.if1.false)
 
 pub has-room-spec : {M : Type 1} → statement M

@@ -2,7 +2,7 @@
 use mathlib.Core.Path.{◌≡◌, refl}
 use mathlib.Core.Bool.{Bool, true, false, ◌&&◌}
 use lib.Dec.{eqb}
-use Rattle.store.specs.journals.Files.{sameFile}
+use Rattle.store.specs.journals.Files.{same_file}
 use Rattle.store.specs.declared.journals.files.File.{File}
 use Rattle.filing.proofs.checking.check.same_file.Statement.{statement}
 use Rattle.filing.proofs.checking.check.same_file.Tie as tie
@@ -18,8 +18,8 @@ turned false true false = refl
 turned false false true = refl
 turned false false false = refl
 
-day-first : (f g : File) → ((eqb f.day g.day && eqb f.publisher g.publisher) && eqb f.kind g.kind) ≡ sameFile f g
-unfolding sameFile
+day-first : (f g : File) → ((eqb f.day g.day && eqb f.publisher g.publisher) && eqb f.kind g.kind) ≡ same_file f g
+unfolding same_file
 day-first f g = turned (eqb f.kind g.kind) (eqb f.publisher g.publisher) (eqb f.day g.day)
 
 returns : tie.Need-returns

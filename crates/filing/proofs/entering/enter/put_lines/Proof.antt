@@ -4,14 +4,14 @@ use borrow.Author.Rules.{rules}
 use mathlib.Core.Path.{◌≡◌, refl, ◌∙◌}
 use Prim.Native.Nat.{◌+◌, ◌-◌, ◌≤◌, ◌<◌}
 use lib.ListN.{length, drop}
-use Rattle.files.specs.Cursor.{lineStart}
-use Rattle.filing.specs.entering.Entering.{journalWith, first_lines}
+use Rattle.files.specs.Cursor.{line_start}
+use Rattle.filing.specs.entering.Entering.{journal_with, first_lines}
 use Rattle.filing.proofs.entering.Writing.{line-here, room-here, places-fit, start, lines_none, lines_next, lines-done}
 use Rattle.filing.proofs.entering.enter.put_lines.Statement.{statement}
 use Rattle.filing.proofs.entering.enter.put_lines.Tie as tie
 
 abbrev invariant-loop : tie.invariant-loop
-invariant-loop journal₀ width from text m at₀ i₀ journal at i = (i ≤ m) × ((at ≡ lineStart text i) × ((length journal ≡ length journal₀) × (journalWith width journal (from + i) (drop i (first_lines m text)) ≡ journalWith width journal₀ from (first_lines m text))))
+invariant-loop journal₀ width from text m at₀ i₀ journal at i = (i ≤ m) × ((at ≡ line_start text i) × ((length journal ≡ length journal₀) × (journal_with width journal (from + i) (drop i (first_lines m text)) ≡ journal_with width journal₀ from (first_lines m text))))
 
 abbrev decreases-loop : tie.decreases-loop
 decreases-loop journal₀ width from text m at₀ i₀ journal at i = m - i

@@ -6,15 +6,15 @@ use lib.ListN.{length, take}
 use Rattle.laws.specs.Lists.{table}
 use Rattle.laws.proofs.Tables.{lay-none, lay-next}
 use Rattle.order.specs.groups.Groups.{tag}
-use Rattle.store.specs.journals.Reads.{recordsAt}
-use Rattle.filing.specs.renewing.Turns.{filedFrom, frontFrom}
+use Rattle.store.specs.journals.Reads.{records_at}
+use Rattle.filing.specs.renewing.Turns.{filed_from, front_from}
 use borrow.Author.Rules.{rules}
 use Rattle.filing.proofs.renewing.named.lay_tags.Statement.{statement}
 use Rattle.filing.proofs.renewing.named.lay_tags.Tie as tie
 
 abbrev invariant-loop : tie.invariant-loop
 invariant-loop regular corrections f start count wanted₀ i₀ wanted i =
-    (i ≤ count) × (length wanted ≡ length wanted₀) × (take i wanted ≡ table i (λ (k : ℕ). tag (frontFrom (filedFrom (recordsAt regular corrections) f start) k) k))
+    (i ≤ count) × (length wanted ≡ length wanted₀) × (take i wanted ≡ table i (λ (k : ℕ). tag (front_from (filed_from (records_at regular corrections) f start) k) k))
 
 abbrev decreases-loop : tie.decreases-loop
 decreases-loop regular corrections f start count wanted₀ i₀ wanted i = count - i
@@ -22,7 +22,7 @@ decreases-loop regular corrections f start count wanted₀ i₀ wanted i = count
 loop-holds : tie.Need-loop-init invariant-loop decreases-loop
 loop-holds c =
     let args = c.before.before.before.args in
-    (search rules, search rules, lay-none (λ (k : ℕ). tag (frontFrom (filedFrom (recordsAt args.regular.now args.corrections.now) args.f args.start) k) k) args.wanted.now)
+    (search rules, search rules, lay-none (λ (k : ℕ). tag (front_from (filed_from (records_at args.regular.now args.corrections.now) args.f args.start) k) k) args.wanted.now)
 
 tag-at-requires : tie.Need-tag-at-requires invariant-loop decreases-loop
 tag-at-requires c κs = search rules
@@ -45,7 +45,7 @@ loop-again c =
     let args = at-loop.before.before.before.before.args in (
       search rules,
       search rules,
-      lay-next (λ (k : ℕ). tag (frontFrom (filedFrom (recordsAt args.regular.now args.corrections.now) args.f args.start) k) k) at-loop.loop.wanted at-loop.loop.i c.tag_at.result (omega arith) c.tag_at.ensures at-loop.loop.invariant.2,
+      lay-next (λ (k : ℕ). tag (front_from (filed_from (records_at args.regular.now args.corrections.now) args.f args.start) k) k) at-loop.loop.wanted at-loop.loop.i c.tag_at.result (omega arith) c.tag_at.ensures at-loop.loop.invariant.2,
     )
 
 same_length : tie.Need-same-length invariant-loop decreases-loop
@@ -56,7 +56,7 @@ returns c =
     let at-loop = c.before in
     let args = at-loop.before.before.before.before.args in
     let e : at-loop.loop.i ≡ args.count = omega arith in
-    subst (λ (j : ℕ). take j at-loop.loop.wanted ≡ table j (λ (k : ℕ). tag (frontFrom (filedFrom (recordsAt args.regular.now args.corrections.now) args.f args.start) k) k)) e at-loop.loop.invariant.2
+    subst (λ (j : ℕ). take j at-loop.loop.wanted ≡ table j (λ (k : ℕ). tag (front_from (filed_from (records_at args.regular.now args.corrections.now) args.f args.start) k) k)) e at-loop.loop.invariant.2
 
 pub lay-tags-spec : {M : Type 1} → statement M
 lay-tags-spec =

@@ -5,8 +5,8 @@ use native.Mathlib.Omega.{arith}
 use lib.ListN.{take, drop}
 use Rattle.laws.specs.Lists.{any}
 use Rattle.laws.proofs.Loops.{any-on, any_found, any-passed}
-use Rattle.store.specs.journals.Reads.{recordsAt}
-use Rattle.filing.specs.renewing.Turns.{filedFrom, earlier}
+use Rattle.store.specs.journals.Reads.{records_at}
+use Rattle.filing.specs.renewing.Turns.{filed_from, earlier}
 use Rattle.filing.proofs.renewing.Repeats.{part_length, part_at}
 use borrow.Author.Rules.{rules}
 use Rattle.filing.proofs.renewing.named.named_among.Statement.{statement}
@@ -14,7 +14,7 @@ use Rattle.filing.proofs.renewing.named.named_among.Tie as tie
 
 abbrev invariant-loop : tie.invariant-loop
 invariant-loop regular corrections f start j number wanted w from m i₀ i =
-    (i ≤ m) × (any (λ (g : ℕ). earlier (filedFrom (recordsAt regular corrections) f start) j number (g % 16384)) (drop i (take m (drop from (take w wanted)))) ≡ any (λ (g : ℕ). earlier (filedFrom (recordsAt regular corrections) f start) j number (g % 16384)) (take m (drop from (take w wanted))))
+    (i ≤ m) × (any (λ (g : ℕ). earlier (filed_from (records_at regular corrections) f start) j number (g % 16384)) (drop i (take m (drop from (take w wanted)))) ≡ any (λ (g : ℕ). earlier (filed_from (records_at regular corrections) f start) j number (g % 16384)) (take m (drop from (take w wanted))))
 
 abbrev decreases-loop : tie.decreases-loop
 decreases-loop regular corrections f start j number wanted w from m i₀ i = m - i
@@ -42,7 +42,7 @@ returns c =
     let start = at-loop.before.before.before.before in
     let args = start.args in
     let h : at-loop.loop.i < args.m = omega arith in
-    any_found (λ (g : ℕ). earlier (filedFrom (recordsAt args.regular.now args.corrections.now) args.f args.start) args.j args.number (g % 16384)) 0 (take args.m (drop args.from (take args.w args.wanted.now))) at-loop.loop.i (omega (arith, part_length args.wanted.now args.w args.from args.m start.requires.1.1 start.requires.1.2)) (ap (λ (g : ℕ). earlier (filedFrom (recordsAt args.regular.now args.corrections.now) args.f args.start) args.j args.number (g % 16384)) (part_at args.wanted.now args.w args.from args.m start.requires.1.1 start.requires.1.2 at-loop.loop.i h) ∙ sym c.before.is-earlier.ensures ∙ c.if1.true) at-loop.loop.invariant.1
+    any_found (λ (g : ℕ). earlier (filed_from (records_at args.regular.now args.corrections.now) args.f args.start) args.j args.number (g % 16384)) 0 (take args.m (drop args.from (take args.w args.wanted.now))) at-loop.loop.i (omega (arith, part_length args.wanted.now args.w args.from args.m start.requires.1.1 start.requires.1.2)) (ap (λ (g : ℕ). earlier (filed_from (records_at args.regular.now args.corrections.now) args.f args.start) args.j args.number (g % 16384)) (part_at args.wanted.now args.w args.from args.m start.requires.1.1 start.requires.1.2 at-loop.loop.i h) ∙ sym c.before.is-earlier.ensures ∙ c.if1.true) at-loop.loop.invariant.1
 
 add-i : tie.Need-overflow-add-i invariant-loop decreases-loop
 add-i c = search rules
@@ -57,7 +57,7 @@ loop-again c =
     let args = start.args in
     let h : at-loop.loop.i < args.m = omega arith in (
       search rules,
-      any-on (λ (g : ℕ). earlier (filedFrom (recordsAt args.regular.now args.corrections.now) args.f args.start) args.j args.number (g % 16384)) 0 (take args.m (drop args.from (take args.w args.wanted.now))) at-loop.loop.i (omega (arith, part_length args.wanted.now args.w args.from args.m start.requires.1.1 start.requires.1.2)) (ap (λ (g : ℕ). earlier (filedFrom (recordsAt args.regular.now args.corrections.now) args.f args.start) args.j args.number (g % 16384)) (part_at args.wanted.now args.w args.from args.m start.requires.1.1 start.requires.1.2 at-loop.loop.i h) ∙ sym c.before.is-earlier.ensures ∙ c.if1.false) at-loop.loop.invariant.1,
+      any-on (λ (g : ℕ). earlier (filed_from (records_at args.regular.now args.corrections.now) args.f args.start) args.j args.number (g % 16384)) 0 (take args.m (drop args.from (take args.w args.wanted.now))) at-loop.loop.i (omega (arith, part_length args.wanted.now args.w args.from args.m start.requires.1.1 start.requires.1.2)) (ap (λ (g : ℕ). earlier (filed_from (records_at args.regular.now args.corrections.now) args.f args.start) args.j args.number (g % 16384)) (part_at args.wanted.now args.w args.from args.m start.requires.1.1 start.requires.1.2 at-loop.loop.i h) ∙ sym c.before.is-earlier.ensures ∙ c.if1.false) at-loop.loop.invariant.1,
     )
 
 returns-2 : tie.Need-returns-2 invariant-loop decreases-loop
@@ -65,7 +65,7 @@ returns-2 c =
     let at-loop = c.before in
     let start = at-loop.before.before.before.before in
     let args = start.args in
-    any-passed (λ (g : ℕ). earlier (filedFrom (recordsAt args.regular.now args.corrections.now) args.f args.start) args.j args.number (g % 16384)) 0 (take args.m (drop args.from (take args.w args.wanted.now))) at-loop.loop.i (omega (arith, part_length args.wanted.now args.w args.from args.m start.requires.1.1 start.requires.1.2)) at-loop.loop.invariant.1
+    any-passed (λ (g : ℕ). earlier (filed_from (records_at args.regular.now args.corrections.now) args.f args.start) args.j args.number (g % 16384)) 0 (take args.m (drop args.from (take args.w args.wanted.now))) at-loop.loop.i (omega (arith, part_length args.wanted.now args.w args.from args.m start.requires.1.1 start.requires.1.2)) at-loop.loop.invariant.1
 
 pub named-among-spec : {M : Type 1} → statement M
 named-among-spec =

@@ -5,10 +5,10 @@ use native.Mathlib.Omega.{arith}
 use borrow.Author.Rules.{rules}
 use lib.ListN.{take, length-take}
 use Rattle.laws.specs.Lists.{any}
-use Rattle.store.specs.journals.Reads.{recordsAt}
+use Rattle.store.specs.journals.Reads.{records_at}
 use Rattle.working.specs.indexing.Index.{front}
 use Rattle.working.proofs.indexing.Grouping.{group-within, group_at}
-use Rattle.filing.specs.renewing.Turns.{filedFrom, earlier}
+use Rattle.filing.specs.renewing.Turns.{filed_from, earlier}
 use Rattle.filing.proofs.renewing.Repeats.{tagged-ordered, named-group}
 use Rattle.filing.proofs.renewing.Stages.{all_read}
 use Rattle.filing.proofs.renewing.named.named_before.Statement.{statement}
@@ -22,7 +22,7 @@ search-requires c κs =
     let start = c.before.before.before.before in
     let args = start.args in
     let t = start.requires.1.1 in
-    (t.few, tagged-ordered (filedFrom (recordsAt args.regular.now args.corrections.now) args.f args.start) args.wanted.now args.w t)
+    (t.few, tagged-ordered (filed_from (records_at args.regular.now args.corrections.now) args.f args.start) args.wanted.now args.w t)
 
 add-search : tie.Need-overflow-add-search
 add-search c = search rules
@@ -35,20 +35,20 @@ search-requires-2 c κs =
     let start = c.before.before.before.before.before in
     let args = start.args in
     let t = start.requires.1.1 in
-    (t.few, tagged-ordered (filedFrom (recordsAt args.regular.now args.corrections.now) args.f args.start) args.wanted.now args.w t)
+    (t.few, tagged-ordered (filed_from (records_at args.regular.now args.corrections.now) args.f args.start) args.wanted.now args.w t)
 
 sub-named-among-all : tie.Need-overflow-sub-named-among-all
 sub-named-among-all c =
     let start = c.before.before.before.before.before.before in
     let args = start.args in
-    let in_order = tagged-ordered (filedFrom (recordsAt args.regular.now args.corrections.now) args.f args.start) args.wanted.now args.w start.requires.1.1 in
+    let in_order = tagged-ordered (filed_from (records_at args.regular.now args.corrections.now) args.f args.start) args.wanted.now args.w start.requires.1.1 in
     omega (arith, (group-within (take args.w args.wanted.now) (front args.number.first.0) in_order c.before.search.result c.search2.result c.before.search.ensures c.search2.ensures).0)
 
 named-among-all-requires : tie.Need-named-among-all-requires
 named-among-all-requires c κs =
     let start = c.before.before.before.before.before.before in
     let args = start.args in
-    let in_order = tagged-ordered (filedFrom (recordsAt args.regular.now args.corrections.now) args.f args.start) args.wanted.now args.w start.requires.1.1 in
+    let in_order = tagged-ordered (filed_from (records_at args.regular.now args.corrections.now) args.f args.start) args.wanted.now args.w start.requires.1.1 in
     let within = group-within (take args.w args.wanted.now) (front args.number.first.0) in_order c.before.search.result c.search2.result c.before.search.ensures c.search2.ensures in
     (start.requires.0, (start.requires.1.0, start.requires.1.1.few, omega (arith, within.0, within.1, length-take args.w args.wanted.now)))
 
@@ -57,10 +57,10 @@ returns c =
     let to = c.before in
     let start = to.before.before.before.before.before.before in
     let args = start.args in
-    let f = filedFrom (recordsAt args.regular.now args.corrections.now) args.f args.start in
+    let f = filed_from (records_at args.regular.now args.corrections.now) args.f args.start in
     let t = start.requires.1.1 in
     let in_order = tagged-ordered f args.wanted.now args.w t in
-    let all : args.j ≤ args.w = omega (arith, start.requires.1.0, t.counted, all_read (recordsAt args.regular.now args.corrections.now) args.f args.start) in
+    let all : args.j ≤ args.w = omega (arith, start.requires.1.0, t.counted, all_read (records_at args.regular.now args.corrections.now) args.f args.start) in
     c.named-among-all.ensures
     ∙ ap (any (λ (g : ℕ). earlier f args.j args.number (g % 16384)))
     (group_at (take args.w args.wanted.now) (front args.number.first.0) in_order to.before.search.result to.search2.result to.before.search.ensures to.search2.ensures)

@@ -1,5 +1,5 @@
 -- `filing::renewing::named::number_at` meets its contract: the callees' contracts, one put into the other. Assumes nothing.
-use Rattle.store.specs.journals.Reads.{recordsAt}
+use Rattle.store.specs.journals.Reads.{records_at}
 use Rattle.filing.proofs.renewing.Stages.{number_read}
 use borrow.Author.Rules.{rules}
 use Rattle.filing.proofs.renewing.named.number_at.Statement.{statement}
@@ -19,7 +19,7 @@ returns c =
     let start = c.before.before.before.before in
     let args = start.args in
     rw (c.number_in.ensures, c.before.record-at.ensures)
-    (number_read (recordsAt args.regular.now args.corrections.now) args.f args.start args.place start.requires.1)
+    (number_read (records_at args.regular.now args.corrections.now) args.f args.start args.place start.requires.1)
 
 pub number-at-spec : {M : Type 1} → statement M
 number-at-spec = tie.close (tie.spec add-record-at record-at-requires number-in-requires returns)

@@ -1,5 +1,5 @@
 -- `filing::renewing::named::tag_at` meets its contract: the callee's contract. Assumes nothing.
-use Rattle.filing.specs.renewing.Turns.{frontFrom}
+use Rattle.filing.specs.renewing.Turns.{front_from}
 use borrow.Author.Rules.{rules}
 use Rattle.filing.proofs.renewing.named.tag_at.Statement.{statement}
 use Rattle.filing.proofs.renewing.named.tag_at.Tie as tie
@@ -14,7 +14,7 @@ add-result : tie.Need-overflow-add-result
 add-result c = search rules
 
 returns : tie.Need-returns
-unfolding frontFrom
+unfolding front_from
 returns c = rw c.before.before.number-at.ensures
 
 pub tag-at-spec : {M : Type 1} → statement M

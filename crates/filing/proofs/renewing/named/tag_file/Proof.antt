@@ -2,8 +2,8 @@
 use mathlib.Core.Path.{sym}
 use native.Mathlib.Omega.{arith}
 use borrow.Author.Rules.{rules}
-use Rattle.store.specs.journals.Reads.{recordsAt}
-use Rattle.filing.specs.renewing.Turns.{filedFrom}
+use Rattle.store.specs.journals.Reads.{records_at}
+use Rattle.filing.specs.renewing.Turns.{filed_from}
 use Rattle.filing.proofs.renewing.Repeats.{tagged}
 use Rattle.filing.proofs.renewing.Stages.{all_read}
 use Rattle.filing.proofs.renewing.named.tag_file.Statement.{statement}
@@ -22,8 +22,8 @@ returns : tie.Need-returns
 returns c =
     let start = c.before.before.before.before.before.before.before in
     let args = start.args in
-    tagged (filedFrom (recordsAt args.regular.now args.corrections.now) args.f args.start) _ _ args.f.count
-    (sym (all_read (recordsAt args.regular.now args.corrections.now) args.f args.start)) (omega (arith, start.requires.within)) c.before.before.lay-all-tags.ensures c.sort.ensures
+    tagged (filed_from (records_at args.regular.now args.corrections.now) args.f args.start) _ _ args.f.count
+    (sym (all_read (records_at args.regular.now args.corrections.now) args.f args.start)) (omega (arith, start.requires.within)) c.before.before.lay-all-tags.ensures c.sort.ensures
 
 pub tag-file-spec : {M : Type 1} → statement M
 tag-file-spec = tie.close (tie.spec cast-count lay-all-tags-requires sort-requires returns)

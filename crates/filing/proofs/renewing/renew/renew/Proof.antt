@@ -2,7 +2,7 @@
 use mathlib.Core.Path.{◌≡◌, refl}
 use Prim.Native.Nat.{◌+◌, ◌-◌}
 use native.Mathlib.Omega.{arith}
-use Rattle.store.specs.journals.Files.{fileCount}
+use Rattle.store.specs.journals.Files.{file_count}
 use Rattle.filing.proofs.renewing.Loop.{workable, in-last, counted-last, renewed-last}
 use borrow.Author.Rules.{rules}
 use Rattle.filing.proofs.renewing.renew.renew.Statement.{statement}
@@ -12,7 +12,7 @@ file-count-requires : tie.Need-file-count-requires
 file-count-requires c κs =
     let start = c.before.before.before.before.before in
     let a = start.args in
-    let able = workable a.table.now a.files.now a.regular.now a.corrections.now a.entries.now start.requires.0 (fileCount a.files.now) a.entries.now refl refl in
+    let able = workable a.table.now a.files.now a.regular.now a.corrections.now a.entries.now start.requires.0 (file_count a.files.now) a.entries.now refl refl in
     omega (arith, able.sound.listed)
 
 sub-last : tie.Need-overflow-sub-last
@@ -24,7 +24,7 @@ file-at-requires : tie.Need-file-at-requires
 file-at-requires c κs =
     let start = c.before.before.before.before.before.before in
     let a = start.args in
-    let able = workable a.table.now a.files.now a.regular.now a.corrections.now a.entries.now start.requires.0 (fileCount a.files.now) a.entries.now refl refl in
+    let able = workable a.table.now a.files.now a.regular.now a.corrections.now a.entries.now start.requires.0 (file_count a.files.now) a.entries.now refl refl in
     omega (arith, able.sound.listed, start.requires.1, c.file-count.ensures.0)
 
 records-of-requires : tie.Need-records-of-requires
@@ -32,7 +32,7 @@ records-of-requires c κs =
     let counted = c.before in
     let start = counted.before.before.before.before.before.before in
     let a = start.args in
-    let able = workable a.table.now a.files.now a.regular.now a.corrections.now a.entries.now start.requires.0 (fileCount a.files.now) a.entries.now refl refl in
+    let able = workable a.table.now a.files.now a.regular.now a.corrections.now a.entries.now start.requires.0 (file_count a.files.now) a.entries.now refl refl in
     (omega (arith, able.sound.listed, start.requires.1, counted.file-count.ensures.0), omega (arith, able.sound.few, start.requires.1, counted.file-count.ensures.0))
 
 renew-file-requires : tie.Need-renew-file-requires
@@ -42,7 +42,7 @@ renew-file-requires c κs =
     let counted = read.before in
     let start = counted.before.before.before.before.before.before in
     let a = start.args in
-    let n : counted.file-count.result - 1 + 1 ≡ fileCount a.files.now = omega (arith, start.requires.1, counted.file-count.ensures.0) in (
+    let n : counted.file-count.result - 1 + 1 ≡ file_count a.files.now = omega (arith, start.requires.1, counted.file-count.ensures.0) in (
       workable a.table.now a.files.now a.regular.now a.corrections.now a.entries.now start.requires.0 counted.file-count.result a.entries.now counted.file-count.ensures.0 refl,
       in-last a.table.now a.files.now a.regular.now a.corrections.now a.entries.now start.requires.0 (counted.file-count.result - 1) read.file-at.result sums.records-of.result read.file-at.ensures.0 sums.records-of.ensures n,
     )
@@ -58,7 +58,7 @@ returns c =
     let counted = read.before in
     let start = counted.before.before.before.before.before.before in
     let a = start.args in
-    let n : counted.file-count.result - 1 + 1 ≡ fileCount a.files.now = omega (arith, start.requires.1, counted.file-count.ensures.0) in (
+    let n : counted.file-count.result - 1 + 1 ≡ file_count a.files.now = omega (arith, start.requires.1, counted.file-count.ensures.0) in (
       counted-last a.table.now a.files.now a.regular.now a.corrections.now a.entries.now start.requires.0 (counted.file-count.result - 1) read.file-at.result sums.records-of.result read.file-at.ensures.0 sums.records-of.ensures n _ read.file-at.result.count done.renew-file.result done.renew-file.ensures refl,
       renewed-last a.table.now a.files.now a.regular.now a.corrections.now a.entries.now start.requires.0 (counted.file-count.result - 1) read.file-at.result sums.records-of.result read.file-at.ensures.0 sums.records-of.ensures n _ read.file-at.result.count done.renew-file.result done.renew-file.ensures refl,
     )

@@ -3,8 +3,8 @@ use mathlib.Core.Path.{◌≡◌, subst}
 use Prim.Native.Nat.{ℕ, ◌-◌, ◌≤◌}
 use native.Mathlib.Omega.{arith}
 use lib.ListN.{length}
-use Rattle.store.specs.journals.Reads.{recordsAt, readFiles}
-use Rattle.filing.specs.renewing.Turns.{filedFrom, Staged}
+use Rattle.store.specs.journals.Reads.{records_at, read_files}
+use Rattle.filing.specs.renewing.Turns.{filed_from, Staged}
 use Rattle.filing.proofs.renewing.Loop.{staged-none, staged-turn, still-workable}
 use borrow.Author.Rules.{rules}
 use Rattle.filing.proofs.renewing.renew.renew_records.Statement.{statement}
@@ -13,7 +13,7 @@ use Rattle.filing.proofs.renewing.renew.renew_records.Tie as tie
 abbrev invariant-loop : tie.invariant-loop
 invariant-loop lines files n regular corrections wanted w keys places c room₀ entries₀ f start count sum₀ j₀ room entries sum j =
     (j ≤ count) × (length entries ≡ length entries₀)
-    × Staged (readFiles files regular corrections) (filedFrom (recordsAt regular corrections) f start) j lines entries₀ entries sum
+    × Staged (read_files files regular corrections) (filed_from (records_at regular corrections) f start) j lines entries₀ entries sum
 
 abbrev decreases-loop : tie.decreases-loop
 decreases-loop lines files n regular corrections wanted w keys places c room₀ entries₀ f start count sum₀ j₀ room entries sum j = count - j
@@ -24,7 +24,7 @@ cast-count c = search rules
 loop-holds : tie.Need-loop-init invariant-loop decreases-loop
 loop-holds c =
     let args = c.before.before.before.before.before.before.args in
-    (search rules, search rules, staged-none (readFiles args.files.now args.regular.now args.corrections.now) (filedFrom (recordsAt args.regular.now args.corrections.now) args.f args.start) args.lines.now args.entries.now)
+    (search rules, search rules, staged-none (read_files args.files.now args.regular.now args.corrections.now) (filed_from (records_at args.regular.now args.corrections.now) args.f args.start) args.lines.now args.entries.now)
 
 renew-record-requires : tie.Need-renew-record-requires invariant-loop decreases-loop
 renew-record-requires c κs =
@@ -52,7 +52,7 @@ loop-again c =
     let args = at-loop.before.before.before.before.before.before.before.args in (
       search rules,
       search rules,
-      staged-turn (readFiles args.files.now args.regular.now args.corrections.now) (filedFrom (recordsAt args.regular.now args.corrections.now) args.f args.start) args.lines.now args.entries.now at-loop.loop.entries _ at-loop.loop.j at-loop.loop.sum done.renew-record.result at-loop.loop.invariant.2 done.renew-record.ensures,
+      staged-turn (read_files args.files.now args.regular.now args.corrections.now) (filed_from (records_at args.regular.now args.corrections.now) args.f args.start) args.lines.now args.entries.now at-loop.loop.entries _ at-loop.loop.j at-loop.loop.sum done.renew-record.result at-loop.loop.invariant.2 done.renew-record.ensures,
     )
 
 same_length : tie.Need-same-length invariant-loop decreases-loop
@@ -63,7 +63,7 @@ returns c =
     let at-loop = c.before in
     let args = at-loop.before.before.before.before.before.before.before.args in
     let e : at-loop.loop.j ≡ args.f.count = omega arith in
-    subst (λ (k : ℕ). Staged (readFiles args.files.now args.regular.now args.corrections.now) (filedFrom (recordsAt args.regular.now args.corrections.now) args.f args.start) k args.lines.now args.entries.now at-loop.loop.entries at-loop.loop.sum) e at-loop.loop.invariant.2
+    subst (λ (k : ℕ). Staged (read_files args.files.now args.regular.now args.corrections.now) (filed_from (records_at args.regular.now args.corrections.now) args.f args.start) k args.lines.now args.entries.now at-loop.loop.entries at-loop.loop.sum) e at-loop.loop.invariant.2
 
 pub renew-records-spec : {M : Type 1} → statement M
 renew-records-spec =

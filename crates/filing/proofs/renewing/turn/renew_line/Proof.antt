@@ -16,7 +16,7 @@ work-indexed-requires c κs =
 put-entry-requires : tie.Need-put-entry-requires
 put-entry-requires c κs =
     let start = c.before.before.before.before.before.before.before.before.before.before.before.before.before.before in
-    omega (arith, start.requires.0.entryRoom, start.requires.0.fewLines, start.requires.1.1)
+    omega (arith, start.requires.0.entry_room, start.requires.0.few_lines, start.requires.1.1)
 
 same_length : tie.Need-same-length
 same_length c = search rules

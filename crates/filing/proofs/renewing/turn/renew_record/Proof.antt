@@ -1,7 +1,7 @@
 -- `filing::renewing::turn::renew_record` meets its contract: an earlier record names the number, or it is worked out. Assumes nothing.
 use mathlib.Core.Path.{sym, ◌∙◌}
-use Rattle.store.specs.journals.Reads.{recordsAt}
-use Rattle.filing.specs.renewing.Turns.{filedFrom}
+use Rattle.store.specs.journals.Reads.{records_at}
+use Rattle.filing.specs.renewing.Turns.{filed_from}
 use Rattle.filing.proofs.renewing.Steps.{seen-before, seen_first}
 use native.Mathlib.Omega.{arith}
 use borrow.Author.Rules.{rules}
@@ -22,7 +22,7 @@ returns c =
     let read = named.before in
     let start = read.before.before.before.before.before.before in
     let args = start.args in
-    seen-before args.lines.now args.files.now args.regular.now args.corrections.now args.entries.now args.n start.requires.0 (filedFrom (recordsAt args.regular.now args.corrections.now) args.f args.start) args.j read.number-at.result read.number-at.ensures (sym c.if1.true ∙ named.named-before.ensures)
+    seen-before args.lines.now args.files.now args.regular.now args.corrections.now args.entries.now args.n start.requires.0 (filed_from (records_at args.regular.now args.corrections.now) args.f args.start) args.j read.number-at.result read.number-at.ensures (sym c.if1.true ∙ named.named-before.ensures)
 
 renew-number-requires : tie.Need-renew-number-requires
 renew-number-requires c κs = search rules
@@ -38,7 +38,7 @@ returns-2 c =
     let read = named.before in
     let start = read.before.before.before.before.before.before in
     let args = start.args in
-    seen_first args.lines.now args.files.now args.regular.now args.corrections.now args.entries.now args.n start.requires.0 (filedFrom (recordsAt args.regular.now args.corrections.now) args.f args.start) args.j read.number-at.result read.number-at.ensures _ done.renew-number.result (sym left.if1.false ∙ named.named-before.ensures) done.renew-number.ensures
+    seen_first args.lines.now args.files.now args.regular.now args.corrections.now args.entries.now args.n start.requires.0 (filed_from (records_at args.regular.now args.corrections.now) args.f args.start) args.j read.number-at.result read.number-at.ensures _ done.renew-number.result (sym left.if1.false ∙ named.named-before.ensures) done.renew-number.ensures
 
 pub renew-record-spec : {M : Type 1} → statement M
 renew-record-spec =

@@ -1,9 +1,9 @@
 -- `layout::correction::Correction::write` meets its contract: there is room for what is left, and what the calls lay, one behind the other, is the text. Assumes nothing.
 use Rattle.laws.proofs.Overlay.{room-first, room_next, laid_then, laid-length}
-use Rattle.layout.specs.Part.{partText}
-use Rattle.layout.specs.Putting.{headText, betweenParts}
+use Rattle.layout.specs.Part.{part_text}
+use Rattle.layout.specs.Putting.{head_text, between_parts}
 use Rattle.layout.proofs.PutLaws.{correction-parts}
-use Rattle.layout.proofs.CorrectionLaws.{whole, room-correction, betweenOn, partsOn}
+use Rattle.layout.proofs.CorrectionLaws.{whole, room-correction, between_on, parts_on}
 use Rattle.layout.proofs.correction.Correction.write.Statement.{statement}
 use Rattle.layout.proofs.correction.Correction.write.Tie as tie
 
@@ -11,14 +11,14 @@ put-head-requires : tie.Need-put-head-requires
 put-head-requires c κs =
     let s = c.before.before.before.before.before in
     let v = s.args.self in
-    (room-first (headText v.code) (partsOn v) (room-correction v s.args.out.now s.args.at s.requires.0), (correction-parts v s.requires.1).0)
+    (room-first (head_text v.code) (parts_on v) (room-correction v s.args.out.now s.args.at s.requires.0), (correction-parts v s.requires.1).0)
 
 write-requires : tie.Need-write-requires
 write-requires c κs =
     let w1 = c.before.before.before in
     let s = w1.before.before.before.before.before.before in
     let v = s.args.self in
-    (room-first (partText v.u) (betweenOn v) (room_next (partsOn v) (room-correction v s.args.out.now s.args.at s.requires.0) w1.put-head.ensures), (correction-parts v s.requires.1).1)
+    (room-first (part_text v.u) (between_on v) (room_next (parts_on v) (room-correction v s.args.out.now s.args.at s.requires.0) w1.put-head.ensures), (correction-parts v s.requires.1).1)
 
 put-between-requires : tie.Need-put-between-requires
 put-between-requires c κs =
@@ -26,7 +26,7 @@ put-between-requires c κs =
     let w1 = w2.before.before.before.before in
     let s = w1.before.before.before.before.before.before in
     let v = s.args.self in
-    room-first betweenParts (partText v.k) (room_next (betweenOn v) (room_next (partsOn v) (room-correction v s.args.out.now s.args.at s.requires.0) w1.put-head.ensures) w2.write.ensures)
+    room-first between_parts (part_text v.k) (room_next (between_on v) (room_next (parts_on v) (room-correction v s.args.out.now s.args.at s.requires.0) w1.put-head.ensures) w2.write.ensures)
 
 write-requires-2 : tie.Need-write-requires-2
 write-requires-2 c κs =
@@ -35,8 +35,8 @@ write-requires-2 c κs =
     let w1 = w2.before.before.before.before in
     let s = w1.before.before.before.before.before.before in
     let v = s.args.self in
-    let r1 = room_next (partsOn v) (room-correction v s.args.out.now s.args.at s.requires.0) w1.put-head.ensures in
-    ((room_next (partText v.k) (room_next (betweenOn v) r1 w2.write.ensures) w3.put-between.ensures).fits, (correction-parts v s.requires.1).2)
+    let r1 = room_next (parts_on v) (room-correction v s.args.out.now s.args.at s.requires.0) w1.put-head.ensures in
+    ((room_next (part_text v.k) (room_next (between_on v) r1 w2.write.ensures) w3.put-between.ensures).fits, (correction-parts v s.requires.1).2)
 
 same_length : tie.Need-same-length
 same_length c = laid-length (laid_then c.before.before.before.before.before.before.before.before.before.before.before.before.before.before.put-head.ensures (laid_then c.before.before.before.before.before.before.before.before.before.before.write.ensures (laid_then c.before.before.before.before.before.before.put-between.ensures c.before.before.write2.ensures)))

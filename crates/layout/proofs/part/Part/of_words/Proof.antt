@@ -1,4 +1,4 @@
--- `layout::part::Part::of_words` meets its contract: the count, the number and each word say which way `partOfWords` goes. Assumes nothing.
+-- `layout::part::Part::of_words` meets its contract: the count, the number and each word say which way `part_of_words` goes. Assumes nothing.
 use mathlib.Core.Path.{sym, ◌∙◌}
 use borrow.Author.Tests.{not-true, not-false}
 use Rattle.layout.proofs.PartLaws.{words_count, words-number, words-rest, rest-1, rest-2, rest-3, rest-4, rest-5}

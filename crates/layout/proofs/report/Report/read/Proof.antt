@@ -1,6 +1,6 @@
 -- `layout::report::Report::read` meets its contract. Assumes nothing.
 use mathlib.Core.Path.{sym, ◌∙◌}
-use Rattle.layout.specs.Report.{reportOf, reportFrom}
+use Rattle.layout.specs.Report.{report_of, report_from}
 use borrow.Author.Rules.{rules}
 use Rattle.layout.proofs.report.Report.read.Statement.{statement}
 use Rattle.layout.proofs.report.Report.read.Tie as tie
@@ -15,14 +15,14 @@ enum_told : tie.Need-enum-told
 enum_told c = search rules
 
 returns : tie.Need-returns
-unfolding reportOf reportFrom
+unfolding report_of report_from
 returns c = simp (sym c.before.before.read.ensures ∙ c.enum_told.given.1)
 
 of-part-requires : tie.Need-of-part-requires
 of-part-requires c κs = search rules
 
 returns-2 : tie.Need-returns-2
-unfolding reportOf reportFrom
+unfolding report_of report_from
 returns-2 c = simp (sym c.before.before.before.before.read.ensures ∙ c.before.before.p.given.1) c.of_part.ensures
 
 pub read_spec : {M : Type 1} → statement M

@@ -1,8 +1,8 @@
--- `layout::request::Request::read` meets its contract: the count of the commas and each field's reader say which way `requestOf` goes. Assumes nothing.
+-- `layout::request::Request::read` meets its contract: the count of the commas and each field's reader say which way `request_of` goes. Assumes nothing.
 use mathlib.Core.Path.{sym, ap, ◌∙◌}
 use lib.ListN.{length}
 use Rattle.fields.specs.Code.{code_of}
-use Rattle.fields.specs.Date.{maybeDateOf}
+use Rattle.fields.specs.Date.{maybe_date_of}
 use Rattle.layout.proofs.RequestLaws.{request-count, request-three, three-1, three-2, three-3, three-4}
 use borrow.Author.Rules.{rules}
 use Rattle.layout.proofs.request.Request.read.Statement.{statement}
@@ -48,7 +48,7 @@ returns-3 c =
     let k1 = c.before.before.before.before in
     let l = k1.before.before.before.before.before in
     let p1 = ap code_of (sym k1.before.before.before.before.piece.ensures) ∙ sym k1.before.before.before.read.ensures ∙ k1.before.code.given.1 in
-    sym (request-three _ (sym l.before.cuts.ensures ∙ l.if1.false) ∙ three-2 _ _ _ p1 (ap maybeDateOf (sym c.before.before.before.piece2.ensures) ∙ sym c.before.before.read2.ensures ∙ c.enum-told2.given.1))
+    sym (request-three _ (sym l.before.cuts.ensures ∙ l.if1.false) ∙ three-2 _ _ _ p1 (ap maybe_date_of (sym c.before.before.before.piece2.ensures) ∙ sym c.before.before.read2.ensures ∙ c.enum-told2.given.1))
 
 piece-requires-3 : tie.Need-piece-requires-3
 piece-requires-3 c κs = search rules
@@ -59,7 +59,7 @@ returns-4 c =
     let k1 = k2.before.before.before.before.before in
     let l = k1.before.before.before.before.before in
     let p1 = ap code_of (sym k1.before.before.before.before.piece.ensures) ∙ sym k1.before.before.before.read.ensures ∙ k1.before.code.given.1 in
-    let p2 = ap maybeDateOf (sym k2.before.before.before.before.piece2.ensures) ∙ sym k2.before.before.before.read2.ensures ∙ k2.before.from.given.1 in
+    let p2 = ap maybe_date_of (sym k2.before.before.before.before.piece2.ensures) ∙ sym k2.before.before.before.read2.ensures ∙ k2.before.from.given.1 in
     sym (request-three _ (sym l.before.cuts.ensures ∙ l.if1.false) ∙ three-3 _ _ _ p1 p2 (λ e. c.if2.true (ap length c.before.piece3.ensures ∙ e)))
 
 returns-5 : tie.Need-returns-5
@@ -68,7 +68,7 @@ returns-5 c =
     let k1 = k2.before.before.before.before.before in
     let l = k1.before.before.before.before.before in
     let p1 = ap code_of (sym k1.before.before.before.before.piece.ensures) ∙ sym k1.before.before.before.read.ensures ∙ k1.before.code.given.1 in
-    let p2 = ap maybeDateOf (sym k2.before.before.before.before.piece2.ensures) ∙ sym k2.before.before.before.read2.ensures ∙ k2.before.from.given.1 in
+    let p2 = ap maybe_date_of (sym k2.before.before.before.before.piece2.ensures) ∙ sym k2.before.before.before.read2.ensures ∙ k2.before.from.given.1 in
     sym (request-three _ (sym l.before.cuts.ensures ∙ l.if1.false) ∙ three-4 _ _ _ p1 p2 (ap length (sym c.before.piece3.ensures) ∙ c.if2.false))
 
 pub read_spec : {M : Type 1} → statement M

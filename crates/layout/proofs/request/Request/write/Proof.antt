@@ -1,7 +1,7 @@
 -- `layout::request::Request::write` meets its contract: there is room for what is left, and what the calls lay, one behind the other, is the text. Assumes nothing.
 use Rattle.laws.proofs.Overlay.{room-first, room-byte, room_next, laid_then, laid-length}
-use Rattle.fields.specs.Code.{codeText}
-use Rattle.fields.specs.Date.{maybeDateText}
+use Rattle.fields.specs.Code.{code_text}
+use Rattle.fields.specs.Date.{maybe_date_text}
 use Rattle.layout.proofs.PutLaws.{request-fields}
 use Rattle.layout.proofs.RequestLaws.{whole, room-request, left2, left3, left4}
 use Rattle.layout.proofs.request.Request.write.Statement.{statement}
@@ -12,7 +12,7 @@ write-requires c κs =
     let s = c.before.before.before in
     let v = s.args.self in
     let r1 = room-request v s.args.out.now s.args.at s.requires.0 in
-    (room-first (codeText v.code) (left2 v) r1, (request-fields v s.requires.1).0)
+    (room-first (code_text v.code) (left2 v) r1, (request-fields v s.requires.1).0)
 
 put-byte-requires : tie.Need-put-byte-requires
 put-byte-requires c κs =
@@ -32,7 +32,7 @@ write-requires-2 c κs =
     let r1 = room-request v s.args.out.now s.args.at s.requires.0 in
     let r2 = room_next (left2 v) r1 w1.write.ensures in
     let r3 = room_next (left3 v) r2 w2.put_byte.ensures in
-    (room-first (maybeDateText v.from) (left4 v) r3, (request-fields v s.requires.1).1)
+    (room-first (maybe_date_text v.from) (left4 v) r3, (request-fields v s.requires.1).1)
 
 put-byte-requires-2 : tie.Need-put-byte-requires-2
 put-byte-requires-2 c κs =

@@ -1,6 +1,6 @@
 -- `records::names::name::day_of_six` meets its contract. Assumes nothing.
 use Rattle.records.proofs.names.NameLaws.{six-long}
-use Rattle.records.specs.names.Name.{dayOfSix}
+use Rattle.records.specs.names.Name.{day_of_six}
 use borrow.Author.Rules.{rules}
 use Rattle.records.proofs.names.name.day_of_six.Statement.{statement}
 use Rattle.records.proofs.names.name.day_of_six.Tie as tie
@@ -21,7 +21,7 @@ enum_told : tie.Need-enum-told
 enum_told c = search rules
 
 returns-2 : tie.Need-returns-2
-unfolding dayOfSix
+unfolding day_of_six
 returns-2 c = rw (← c.before.before.full-year.ensures, c.enum_told.given.1)
 
 cast-month : tie.Need-overflow-cast-month
@@ -34,7 +34,7 @@ day-of-requires : tie.Need-day-of-requires
 day-of-requires c κs = search rules
 
 returns-3 : tie.Need-returns-3
-unfolding dayOfSix
+unfolding day_of_six
 returns-3 c =
     let y = c.before.before.before.before in
     rw (← y.full-year.ensures, c.before.before.year.given.1) c.day-of.ensures

@@ -1,5 +1,5 @@
 -- `records::names::name::six` meets its contract. Assumes nothing.
-use Rattle.records.specs.names.Name.{sixOf}
+use Rattle.records.specs.names.Name.{six_of}
 use mathlib.Core.Path.{refl}
 use borrow.Author.Rules.{rules}
 use Rattle.records.proofs.names.name.six.Statement.{statement}
@@ -27,7 +27,7 @@ add-result-2 : tie.Need-overflow-add-result-2
 add-result-2 c = search rules
 
 returns : tie.Need-returns
-unfolding sixOf
+unfolding six_of
 returns c = refl
 
 pub six-spec : {M : Type 1} → statement M

@@ -8,12 +8,12 @@ use borrow.Author.Tests.{not-true, not-false}
 use Rattle.laws.specs.Lists.{table, all}
 use Rattle.laws.specs.Slots.{slot_at}
 use Rattle.laws.proofs.Tables.{all_none, all-next, all-not}
-use Rattle.store.specs.entry_slots.Entries.{goodEntry}
+use Rattle.store.specs.entry_slots.Entries.{good_entry}
 use Rattle.store.proofs.entry_slots.entry.good_entries.Statement.{statement}
 use Rattle.store.proofs.entry_slots.entry.good_entries.Tie as tie
 
 abbrev invariant-loop : tie.invariant-loop
-invariant-loop entries n i₀ i = (i ≤ n) × (all goodEntry (table i (slot_at 0 100 entries)) ≡ true)
+invariant-loop entries n i₀ i = (i ≤ n) × (all good_entry (table i (slot_at 0 100 entries)) ≡ true)
 
 abbrev decreases-loop : tie.decreases-loop
 decreases-loop entries n i₀ i = n - i
@@ -27,7 +27,7 @@ good-entry-requires c κs = search rules
 returns : tie.Need-returns invariant-loop decreases-loop
 returns c = let at-loop = c.before.before.before in
     let a = at-loop.before.before.args in
-    sym (all-not goodEntry a.n at-loop.loop.i (slot_at 0 100 a.entries.now) (search rules) (sym c.before.good-entry.ensures ∙ not-true _ c.if1.true))
+    sym (all-not good_entry a.n at-loop.loop.i (slot_at 0 100 a.entries.now) (search rules) (sym c.before.good-entry.ensures ∙ not-true _ c.if1.true))
 
 add-i : tie.Need-overflow-add-i invariant-loop decreases-loop
 add-i c = search rules
@@ -38,7 +38,7 @@ loop-less c = search rules
 loop-again : tie.Need-loop-preserved invariant-loop decreases-loop
 loop-again c = let at-loop = c.before.before.before in
     let a = at-loop.before.before.args in
-    (search rules, all-next goodEntry at-loop.loop.i (slot_at 0 100 a.entries.now) at-loop.loop.invariant.1 (sym c.before.good-entry.ensures ∙ not-false _ c.if1.false))
+    (search rules, all-next good_entry at-loop.loop.i (slot_at 0 100 a.entries.now) at-loop.loop.invariant.1 (sym c.before.good-entry.ensures ∙ not-false _ c.if1.false))
 
 returns-2 : tie.Need-returns-2 invariant-loop decreases-loop
 returns-2 c = let e : c.before.loop.i ≡ c.before.before.before.args.n = omega arith in

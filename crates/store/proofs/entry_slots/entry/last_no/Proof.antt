@@ -1,7 +1,7 @@
 -- `store::entry_slots::entry::last_no` meets its contract. Assumes nothing.
 use mathlib.Core.Path.{refl}
 use lib.Dec.{lit<}
-use Rattle.store.specs.entry_slots.Entries.{lastNo}
+use Rattle.store.specs.entry_slots.Entries.{last_no}
 use borrow.Author.Rules.{rules}
 use Rattle.store.proofs.entry_slots.entry.last_no.Statement.{statement}
 use Rattle.store.proofs.entry_slots.entry.last_no.Tie as tie
@@ -19,11 +19,11 @@ add-result : tie.Need-overflow-add-result
 add-result c = search rules
 
 returns : tie.Need-returns
-unfolding lastNo
+unfolding last_no
 returns c = rw c.enum_told.given.1 (refl, lit< tt)
 
 returns-2 : tie.Need-returns-2
-unfolding lastNo
+unfolding last_no
 returns-2 c = (rw c.before.before.last.given.1, search rules)
 
 pub last-no-spec : {M : Type 1} → statement M

@@ -1,27 +1,27 @@
 -- `store::entry_slots::place::good_open` meets its contract. Assumes nothing.
 use native.Mathlib.Omega.{arith}
 use borrow.Author.Tests.{le-leb, lt-leb}
-use Rattle.store.specs.entry_slots.Places.{goodOpen}
+use Rattle.store.specs.entry_slots.Places.{good_open}
 use Rattle.store.proofs.entry_slots.place.good_open.Statement.{statement}
 use Rattle.store.proofs.entry_slots.place.good_open.Tie as tie
 
 returns : tie.Need-returns
-unfolding goodOpen
+unfolding good_open
 returns c = let p = c.before.before.before.args.p in
     rw (lt-leb p.report.date.0 18992 (omega arith))
 
 returns-2 : tie.Need-returns-2
-unfolding goodOpen
+unfolding good_open
 returns-2 c = let p = c.before.before.before.before.before.before.args.p in
     rw (le-leb p.report.date.0 18992 (omega arith), lt-leb p.report.losing.0 999 (omega arith))
 
 returns-3 : tie.Need-returns-3
-unfolding goodOpen
+unfolding good_open
 returns-3 c = let p = c.before.before.before.before.before.before.before.before.before.args.p in
     rw (le-leb p.report.date.0 18992 (omega arith), le-leb p.report.losing.0 999 (omega arith), lt-leb p.report.gaining.0 999 (omega arith))
 
 returns-4 : tie.Need-returns-4
-unfolding goodOpen
+unfolding good_open
 returns-4 c = let p = c.before.before.before.before.before.before.before.before.before.before.args.p in
     rw (le-leb p.report.date.0 18992 (omega arith), le-leb p.report.losing.0 999 (omega arith), le-leb p.report.gaining.0 999 (omega arith))
 

@@ -1,7 +1,7 @@
 -- `store::entry_slots::place::good_place` meets its contract. Assumes nothing.
 use native.Mathlib.Omega.{arith}
 use mathlib.Core.Path.{ap, ◌∙◌}
-use Rattle.store.specs.entry_slots.Places.{goodOpen}
+use Rattle.store.specs.entry_slots.Places.{good_open}
 use Rattle.store.proofs.entry_slots.Places.{good-free, good-beyond, good-taken}
 use borrow.Author.Rules.{rules}
 use Rattle.store.proofs.entry_slots.place.good_place.Statement.{statement}
@@ -44,7 +44,7 @@ good-open-requires c κs = search rules
 
 returns-3 : tie.Need-returns-3
 returns-3 c = let a = c.before.before.before.before.before.before.before.args in
-    c.good-open.ensures ∙ ap goodOpen c.before.open_at.ensures ∙ good-taken a.entries.now a.at c.before.before.before.before.wide.result (omega arith) c.before.before.before.before.wide.ensures.0 c.before.before.before.if1.false c.before.before.if2.false
+    c.good-open.ensures ∙ ap good_open c.before.open_at.ensures ∙ good-taken a.entries.now a.at c.before.before.before.before.wide.result (omega arith) c.before.before.before.before.wide.ensures.0 c.before.before.before.if1.false c.before.before.if2.false
 
 pub good-place-spec : {M : Type 1} → statement M
 good-place-spec =

@@ -1,5 +1,5 @@
 -- `store::journals::files::file_count` meets its contract. Assumes nothing.
-use Rattle.store.specs.journals.Files.{fileCount}
+use Rattle.store.specs.journals.Files.{file_count}
 use borrow.Author.Rules.{rules}
 use Rattle.store.proofs.journals.files.file_count.Statement.{statement}
 use Rattle.store.proofs.journals.files.file_count.Tie as tie
@@ -11,7 +11,7 @@ cast-result : tie.Need-overflow-cast-result
 cast-result c = search rules
 
 returns : tie.Need-returns
-unfolding fileCount
+unfolding file_count
 returns c = (c.get2.ensures, search rules)
 
 pub file-count-spec : {M : Type 1} → statement M

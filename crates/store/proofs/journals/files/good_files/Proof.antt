@@ -7,12 +7,12 @@ use mathlib.Core.Path.{◌≡◌, sym, ap, ◌∙◌}
 use borrow.Author.Tests.{not-true, not-false}
 use Rattle.laws.specs.Lists.{table, all}
 use Rattle.laws.proofs.Tables.{all_none, all-next, all-not}
-use Rattle.store.specs.journals.Files.{fileAt, goodFile}
+use Rattle.store.specs.journals.Files.{file_at, good_file}
 use Rattle.store.proofs.journals.files.good_files.Statement.{statement}
 use Rattle.store.proofs.journals.files.good_files.Tie as tie
 
 abbrev invariant-loop : tie.invariant-loop
-invariant-loop files n i₀ i = (i ≤ n) × (all goodFile (table i (fileAt files)) ≡ true)
+invariant-loop files n i₀ i = (i ≤ n) × (all good_file (table i (file_at files)) ≡ true)
 
 abbrev decreases-loop : tie.decreases-loop
 decreases-loop files n i₀ i = n - i
@@ -29,8 +29,8 @@ good-file-requires c κs = search rules
 returns : tie.Need-returns invariant-loop decreases-loop
 returns c = let at-loop = c.before.before.before.before in
     let a = at-loop.before.before.args in
-    sym (all-not goodFile a.n at-loop.loop.i (fileAt a.files.now) (search rules)
-    (ap goodFile (sym c.before.before.file-at.ensures.0) ∙ sym c.before.good-file.ensures ∙ not-true _ c.if1.true))
+    sym (all-not good_file a.n at-loop.loop.i (file_at a.files.now) (search rules)
+    (ap good_file (sym c.before.before.file-at.ensures.0) ∙ sym c.before.good-file.ensures ∙ not-true _ c.if1.true))
 
 add-i : tie.Need-overflow-add-i invariant-loop decreases-loop
 add-i c = search rules
@@ -42,8 +42,8 @@ loop-again : tie.Need-loop-preserved invariant-loop decreases-loop
 loop-again c = let at-loop = c.before.before.before.before in
     let a = at-loop.before.before.args in (
       search rules,
-      all-next goodFile at-loop.loop.i (fileAt a.files.now) at-loop.loop.invariant.1
-          (ap goodFile (sym c.before.before.file-at.ensures.0) ∙ sym c.before.good-file.ensures ∙ not-false _ c.if1.false),
+      all-next good_file at-loop.loop.i (file_at a.files.now) at-loop.loop.invariant.1
+          (ap good_file (sym c.before.before.file-at.ensures.0) ∙ sym c.before.good-file.ensures ∙ not-false _ c.if1.false),
     )
 
 returns-2 : tie.Need-returns-2 invariant-loop decreases-loop

@@ -1,5 +1,5 @@
 -- `store::journals::files::put_file` meets its contract. Assumes nothing.
-use Rattle.store.specs.journals.Files.{fileSlot}
+use Rattle.store.specs.journals.Files.{file_slot}
 use Rattle.laws.specs.Words.{low_first}
 use borrow.Author.Rules.{rules}
 use Rattle.store.proofs.journals.files.put_file.Statement.{statement}
@@ -42,7 +42,7 @@ same_length : tie.Need-same-length
 same_length c = search rules
 
 returns : tie.Need-returns
-unfolding fileSlot low_first
+unfolding file_slot low_first
 returns c = c.before.before.write.ensures
 
 pub put-file-spec : {M : Type 1} → statement M

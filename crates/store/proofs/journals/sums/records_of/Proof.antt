@@ -4,13 +4,13 @@ use Prim.Native.Nat.{ℕ, ◌+◌, ◌-◌, ◌≤◌, ◌*◌}
 use mathlib.Core.Path.{ap, ◌∙◌, ◌≡◌}
 use native.Mathlib.Omega.{arith}
 use Rattle.laws.specs.Lists.{table}
-use Rattle.store.specs.journals.Files.{fileAt, recordsOf}
+use Rattle.store.specs.journals.Files.{file_at, records_of}
 use Rattle.store.proofs.journals.Counting.{records-none, records-next}
 use Rattle.store.proofs.journals.sums.records_of.Statement.{statement}
 use Rattle.store.proofs.journals.sums.records_of.Tie as tie
 
 abbrev invariant-loop : tie.invariant-loop
-invariant-loop files n kind sum₀ i₀ sum i = (i ≤ n) × (sum ≤ i * 16777216) × (sum ≡ recordsOf kind (table i (fileAt files)))
+invariant-loop files n kind sum₀ i₀ sum i = (i ≤ n) × (sum ≤ i * 16777216) × (sum ≡ records_of kind (table i (file_at files)))
 
 abbrev decreases-loop : tie.decreases-loop
 decreases-loop files n kind sum₀ i₀ sum i = n - i
@@ -39,7 +39,7 @@ loop-again c = let at-loop = c.before.before.before in
       search rules,
       omega arith,
       ap (λ (r : ℕ). at-loop.loop.sum + r) c.records-in.ensures.0
-          ∙ records-next a.kind (fileAt a.files.now) at-loop.loop.i at-loop.loop.sum c.before.file-at.result c.before.file-at.ensures.0 at-loop.loop.invariant.2,
+          ∙ records-next a.kind (file_at a.files.now) at-loop.loop.i at-loop.loop.sum c.before.file-at.result c.before.file-at.ensures.0 at-loop.loop.invariant.2,
     )
 
 returns : tie.Need-returns invariant-loop decreases-loop

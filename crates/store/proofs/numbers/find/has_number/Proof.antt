@@ -3,7 +3,7 @@ use mathlib.Core.Path.{sym, ap, ◌∙◌}
 use Prim.Native.Nat.{◌+◌, ◌*◌}
 use native.Mathlib.Omega.{arith}
 use borrow.Author.Rules.{rules}
-use Rattle.fields.specs.Number.{sameNumber}
+use Rattle.fields.specs.Number.{same_number}
 use Rattle.store.proofs.numbers.Finding.{told-apart}
 use Rattle.store.proofs.numbers.Keys.{number_read}
 use Rattle.store.proofs.numbers.find.has_number.Statement.{statement}
@@ -34,7 +34,7 @@ returns-2 : tie.Need-returns-2
 returns-2 c =
     let a = c.before.before.before.before.before.before.args in
     let l = c.before.before.line-at in
-    c.same.ensures ∙ ap (sameNumber a.number) (number_read a.lines.now a.i l.result l.ensures)
+    c.same.ensures ∙ ap (same_number a.number) (number_read a.lines.now a.i l.result l.ensures)
 
 pub has-number-spec : {M : Type 1} → statement M
 has-number-spec =

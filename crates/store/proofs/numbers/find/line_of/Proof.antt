@@ -5,14 +5,14 @@ use native.Mathlib.Nat.{zero-add}
 use mathlib.Core.Path.{sym, ◌∙◌}
 use Rattle.laws.specs.Lists.{table}
 use Rattle.laws.proofs.Loops.{Searched}
-use Rattle.fields.specs.Number.{sameNumber}
+use Rattle.fields.specs.Number.{same_number}
 use Rattle.store.specs.numbers.Lines.{number_at}
 use Rattle.store.proofs.numbers.Finding.{find-on, find-here, find_none}
 use Rattle.store.proofs.numbers.find.line_of.Statement.{statement}
 use Rattle.store.proofs.numbers.find.line_of.Tie as tie
 
 abbrev invariant-loop : tie.invariant-loop
-invariant-loop lines n number low i₀ i = Searched (sameNumber number) (table n (number_at lines)) i
+invariant-loop lines n number low i₀ i = Searched (same_number number) (table n (number_at lines)) i
 
 abbrev decreases-loop : tie.decreases-loop
 decreases-loop lines n number low i₀ i = n - i

@@ -1,5 +1,5 @@
 -- `store::numbers::lines::line_count` meets its contract. Assumes nothing.
-use Rattle.store.specs.numbers.Lines.{lineCount}
+use Rattle.store.specs.numbers.Lines.{line_count}
 use borrow.Author.Rules.{rules}
 use Rattle.store.proofs.numbers.lines.line_count.Statement.{statement}
 use Rattle.store.proofs.numbers.lines.line_count.Tie as tie
@@ -11,7 +11,7 @@ cast-result : tie.Need-overflow-cast-result
 cast-result c = search rules
 
 returns : tie.Need-returns
-unfolding lineCount
+unfolding line_count
 returns c = (c.get2.ensures, search rules)
 
 pub line-count-spec : {M : Type 1} → statement M

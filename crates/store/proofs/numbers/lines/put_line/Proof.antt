@@ -1,5 +1,5 @@
 -- `store::numbers::lines::put_line` meets its contract. Assumes nothing.
-use Rattle.store.specs.numbers.Lines.{lineSlot}
+use Rattle.store.specs.numbers.Lines.{line_slot}
 use Rattle.laws.specs.Words.{low_first}
 use borrow.Author.Rules.{rules}
 use Rattle.store.proofs.numbers.lines.put_line.Statement.{statement}
@@ -63,7 +63,7 @@ same_length : tie.Need-same-length
 same_length c = search rules
 
 returns : tie.Need-returns
-unfolding lineSlot low_first
+unfolding line_slot low_first
 returns c = c.before.before.write.ensures
 
 pub put-line-spec : {M : Type 1} → statement M

@@ -3,15 +3,15 @@ use borrow.Author.Rules.{rules}
 use Prim.Native.Nat.{◌-◌}
 use mathlib.Core.Path.{◌≡◌, refl, sym, ◌∙◌}
 use lib.ListN.{drop}
-use Rattle.laws.specs.Lists.{table, noneTwice}
-use Rattle.fields.specs.Number.{sameNumber}
+use Rattle.laws.specs.Lists.{table, none_twice}
+use Rattle.fields.specs.Number.{same_number}
 use Rattle.store.specs.numbers.Lines.{number_at}
 use Rattle.store.proofs.numbers.Keys.{number_read, each_on, each-here, each-passed}
 use Rattle.store.proofs.numbers.twice.each_once.Statement.{statement}
 use Rattle.store.proofs.numbers.twice.each_once.Tie as tie
 
 abbrev invariant-loop : tie.invariant-loop
-invariant-loop lines n i₀ i = noneTwice sameNumber (drop i (table n (number_at lines))) ≡ noneTwice sameNumber (table n (number_at lines))
+invariant-loop lines n i₀ i = none_twice same_number (drop i (table n (number_at lines))) ≡ none_twice same_number (table n (number_at lines))
 
 abbrev decreases-loop : tie.decreases-loop
 decreases-loop lines n i₀ i = n - i

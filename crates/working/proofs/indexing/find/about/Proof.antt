@@ -1,5 +1,5 @@
 -- `working::indexing::find::about` meets its contract: the callees' contracts, one put into the other. Assumes nothing.
-use Rattle.working.specs.indexing.Index.{aboutKey}
+use Rattle.working.specs.indexing.Index.{about_key}
 use borrow.Author.Rules.{rules}
 use Rattle.working.proofs.indexing.find.about.Statement.{statement}
 use Rattle.working.proofs.indexing.find.about.Tie as tie
@@ -11,7 +11,7 @@ same-requires : tie.Need-same-requires
 same-requires c κs = search rules
 
 returns : tie.Need-returns
-unfolding aboutKey
+unfolding about_key
 returns c = rw (c.same.ensures, c.before.number_behind.ensures)
 
 pub about-spec : {M : Type 1} → statement M

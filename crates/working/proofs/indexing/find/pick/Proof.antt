@@ -8,13 +8,13 @@ use native.Mathlib.Omega.{arith}
 use lib.ListN.{length, take, drop, get_or, length-set}
 use Rattle.laws.specs.Lists.{keep}
 use Rattle.working.specs.Working.{Behind}
-use Rattle.working.specs.indexing.Index.{aboutKey, keysBehind}
+use Rattle.working.specs.indexing.Index.{about_key, keys_behind}
 use borrow.Author.Rules.{rules}
 use Rattle.working.proofs.indexing.find.pick.Statement.{statement}
 use Rattle.working.proofs.indexing.find.pick.Tie as tie
 
 abbrev invariant-loop : tie.invariant-loop
-invariant-loop regular corrections number keys places c from m out₀ r₀ i₀ out r i = (i ≤ m) × (length out ≡ length out₀) × (r ≤ i) × Behind out₀ 0 (keep (aboutKey regular corrections number) (keysBehind (take c keys) (take i (drop from (take c places))))) out r
+invariant-loop regular corrections number keys places c from m out₀ r₀ i₀ out r i = (i ≤ m) × (length out ≡ length out₀) × (r ≤ i) × Behind out₀ 0 (keep (about_key regular corrections number) (keys_behind (take c keys) (take i (drop from (take c places))))) out r
 
 abbrev decreases-loop : tie.decreases-loop
 decreases-loop regular corrections number keys places c from m out₀ r₀ i₀ out r i = m - i
@@ -22,7 +22,7 @@ decreases-loop regular corrections number keys places c from m out₀ r₀ i₀ 
 loop-holds : tie.Need-loop-init invariant-loop decreases-loop
 loop-holds c =
     let args = c.before.before.before.before.before.args in
-    (search rules, search rules, search rules, pick-none (aboutKey args.regular.now args.corrections.now args.number) args.out.now)
+    (search rules, search rules, search rules, pick-none (about_key args.regular.now args.corrections.now args.number) args.out.now)
 
 add-key-of : tie.Need-overflow-add-key-of invariant-loop decreases-loop
 add-key-of c = search rules
@@ -60,7 +60,7 @@ loop-again c =
     let at-loop = read.before.before.before in
     let start = at-loop.before.before.before.before.before.before in
     let args = start.args in
-    let q = aboutKey args.regular.now args.corrections.now args.number in
+    let q = about_key args.regular.now args.corrections.now args.number in
     let few : args.c ≤ length args.places.now = start.requires.1 in
     let h : args.from + at-loop.loop.i < args.c = omega arith in
     let in-first : args.from + at-loop.loop.i < length (take args.c args.places.now) = omega (arith, length-take-le args.c args.places.now few) in
@@ -81,7 +81,7 @@ returns c =
     let at-loop = c.before in
     let args = at-loop.before.before.before.before.before.before.args in
     let e : at-loop.loop.i ≡ args.m = omega arith in
-    subst (λ (j : ℕ). Behind args.out.now 0 (keep (aboutKey args.regular.now args.corrections.now args.number) (keysBehind (take args.c args.keys.now) (take j (drop args.from (take args.c args.places.now))))) at-loop.loop.out at-loop.loop.r) e at-loop.loop.invariant.3
+    subst (λ (j : ℕ). Behind args.out.now 0 (keep (about_key args.regular.now args.corrections.now args.number) (keys_behind (take args.c args.keys.now) (take j (drop args.from (take args.c args.places.now))))) at-loop.loop.out at-loop.loop.r) e at-loop.loop.invariant.3
 
 pub pick_spec : {M : Type 1} → statement M
 pick_spec =

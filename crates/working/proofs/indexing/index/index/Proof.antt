@@ -1,6 +1,6 @@
 -- `working::indexing::index::index` meets its contract: the callees' contracts put together (`tags-laid`). Assumes nothing.
 use lib.ListN.{take}
-use Rattle.working.specs.indexing.Index.{frontBehind}
+use Rattle.working.specs.indexing.Index.{front_behind}
 use Rattle.working.proofs.indexing.Listing.{room-all, listed-long}
 use Rattle.working.proofs.indexing.Grouping.{tags-laid}
 use borrow.Author.Rules.{rules}
@@ -35,7 +35,7 @@ returns c =
       candidates = g;
       few = room-all args.files.now args.regular.now args.corrections.now (take args.w args.wanted.now) args.n start.requires.0 _ listed.list_all.result g;
       grouped =
-          tags-laid (frontBehind args.regular.now args.corrections.now) _ _ _ listed.list_all.result
+          tags-laid (front_behind args.regular.now args.corrections.now) _ _ _ listed.list_all.result
           (listed-long args.files.now args.regular.now args.corrections.now (take args.w args.wanted.now) args.n _ listed.list_all.result g) tagged.lay-all-tags.ensures c.sort.ensures;
     }
 

@@ -2,7 +2,7 @@
 use mathlib.Core.Path.{◌∙◌}
 use borrow.Author.Rules.{rules}
 use lib.ListN.{take}
-use Rattle.working.specs.indexing.Index.{front, isWanted}
+use Rattle.working.specs.indexing.Index.{front, is_wanted}
 use Rattle.working.proofs.indexing.Grouping.{group-some}
 use Rattle.working.proofs.indexing.index.is_wanted.Statement.{statement}
 use Rattle.working.proofs.indexing.index.is_wanted.Tie as tie
@@ -23,7 +23,7 @@ is-below-requires : tie.Need-is-below-requires
 is-below-requires c κs = search rules
 
 returns : tie.Need-returns
-unfolding isWanted
+unfolding is_wanted
 returns c =
     let from = c.before.before in
     let start = from.before in

@@ -6,13 +6,13 @@ use native.Mathlib.Omega.{arith}
 use lib.ListN.{length, take, get_or}
 use Rattle.laws.specs.Lists.{table}
 use Rattle.order.specs.groups.Groups.{tag}
-use Rattle.working.specs.indexing.Index.{frontBehind}
+use Rattle.working.specs.indexing.Index.{front_behind}
 use borrow.Author.Rules.{rules}
 use Rattle.working.proofs.indexing.index.lay_tags.Statement.{statement}
 use Rattle.working.proofs.indexing.index.lay_tags.Tie as tie
 
 abbrev invariant-loop : tie.invariant-loop
-invariant-loop regular corrections keys c places₀ i₀ places i = (i ≤ c) × (length places ≡ length places₀) × (take i places ≡ table i (λ (k : ℕ). tag (frontBehind regular corrections (get_or keys k 0)) k))
+invariant-loop regular corrections keys c places₀ i₀ places i = (i ≤ c) × (length places ≡ length places₀) × (take i places ≡ table i (λ (k : ℕ). tag (front_behind regular corrections (get_or keys k 0)) k))
 
 abbrev decreases-loop : tie.decreases-loop
 decreases-loop regular corrections keys c places₀ i₀ places i = c - i
@@ -20,7 +20,7 @@ decreases-loop regular corrections keys c places₀ i₀ places i = c - i
 loop-holds : tie.Need-loop-init invariant-loop decreases-loop
 loop-holds c =
     let args = c.before.before.before.before.args in
-    (search rules, search rules, lay-none (λ (k : ℕ). tag (frontBehind args.regular.now args.corrections.now (get_or args.keys.now k 0)) k) args.places.now)
+    (search rules, search rules, lay-none (λ (k : ℕ). tag (front_behind args.regular.now args.corrections.now (get_or args.keys.now k 0)) k) args.places.now)
 
 mul-tag-behind : tie.Need-overflow-mul-tag-behind invariant-loop decreases-loop
 mul-tag-behind c = search rules
@@ -49,7 +49,7 @@ loop-again c =
     let args = at-loop.before.before.before.before.before.args in (
       search rules,
       search rules,
-      lay-next (λ (k : ℕ). tag (frontBehind args.regular.now args.corrections.now (get_or args.keys.now k 0)) k) at-loop.loop.places at-loop.loop.i c.tag-behind.result (omega arith) c.tag-behind.ensures at-loop.loop.invariant.2,
+      lay-next (λ (k : ℕ). tag (front_behind args.regular.now args.corrections.now (get_or args.keys.now k 0)) k) at-loop.loop.places at-loop.loop.i c.tag-behind.result (omega arith) c.tag-behind.ensures at-loop.loop.invariant.2,
     )
 
 same_length : tie.Need-same-length invariant-loop decreases-loop
@@ -60,7 +60,7 @@ returns c =
     let at-loop = c.before in
     let args = at-loop.before.before.before.before.before.args in
     let e : at-loop.loop.i ≡ args.c = omega arith in
-    subst (λ (j : ℕ). take j at-loop.loop.places ≡ table j (λ (k : ℕ). tag (frontBehind args.regular.now args.corrections.now (get_or args.keys.now k 0)) k)) e at-loop.loop.invariant.2
+    subst (λ (j : ℕ). take j at-loop.loop.places ≡ table j (λ (k : ℕ). tag (front_behind args.regular.now args.corrections.now (get_or args.keys.now k 0)) k)) e at-loop.loop.invariant.2
 
 pub lay-tags-spec : {M : Type 1} → statement M
 lay-tags-spec =

@@ -5,16 +5,16 @@ use mathlib.Core.Logic.{⊎_elim}
 use Prim.Native.Nat.{ℕ, ◌+◌, ◌-◌, ◌≤◌}
 use native.Mathlib.Omega.{arith}
 use lib.ListN.{length, take, length-set}
-use Rattle.store.specs.journals.Reads.{recordsAt}
+use Rattle.store.specs.journals.Reads.{records_at}
 use Rattle.working.specs.Working.{Behind}
-use Rattle.working.specs.indexing.Index.{candidate, listedIn}
+use Rattle.working.specs.indexing.Index.{candidate, listed_in}
 use Rattle.working.proofs.indexing.Listing.{file-none, file-yes, file-no, candidate-at}
 use borrow.Author.Rules.{rules}
 use Rattle.working.proofs.indexing.index.list_file.Statement.{statement}
 use Rattle.working.proofs.indexing.index.list_file.Tie as tie
 
 abbrev invariant-loop : tie.invariant-loop
-invariant-loop regular corrections f start wanted w marks keys₀ at count r₀ i₀ keys r i = (i ≤ count) × (length keys ≡ length keys₀) × (r ≤ at + i) × Behind keys₀ at (listedIn (candidate (recordsAt regular corrections) (take w wanted)) (recordsAt regular corrections) f start i) keys r
+invariant-loop regular corrections f start wanted w marks keys₀ at count r₀ i₀ keys r i = (i ≤ count) × (length keys ≡ length keys₀) × (r ≤ at + i) × Behind keys₀ at (listed_in (candidate (records_at regular corrections) (take w wanted)) (records_at regular corrections) f start i) keys r
 
 abbrev decreases-loop : tie.decreases-loop
 decreases-loop regular corrections f start wanted w marks keys₀ at count r₀ i₀ keys r i = count - i
@@ -25,7 +25,7 @@ cast-count c = search rules
 loop-holds : tie.Need-loop-init invariant-loop decreases-loop
 loop-holds c =
     let args = c.before.before.before.before.args in
-    let r = recordsAt args.regular.now args.corrections.now in
+    let r = records_at args.regular.now args.corrections.now in
     (search rules, search rules, search rules, file-none (candidate r (take args.w args.wanted.now)) r args.f args.start args.keys.now args.at)
 
 add-is-candidate : tie.Need-overflow-add-is-candidate invariant-loop decreases-loop
@@ -56,7 +56,7 @@ loop-again : tie.Need-loop-preserved invariant-loop decreases-loop
 loop-again c =
     let at-loop = c.before.before.before in
     let args = at-loop.before.before.before.before.before.args in
-    let r = recordsAt args.regular.now args.corrections.now in
+    let r = records_at args.regular.now args.corrections.now in
     let p = candidate r (take args.w args.wanted.now) in
     let inv = at-loop.loop.invariant.3 in (
       search rules,
@@ -74,9 +74,9 @@ returns : tie.Need-returns invariant-loop decreases-loop
 returns c =
     let at-loop = c.before in
     let args = at-loop.before.before.before.before.before.args in
-    let r = recordsAt args.regular.now args.corrections.now in
+    let r = records_at args.regular.now args.corrections.now in
     let e : at-loop.loop.i ≡ args.f.count = omega arith in
-    subst (λ (j : ℕ). Behind args.keys.now args.at (listedIn (candidate r (take args.w args.wanted.now)) r args.f args.start j) at-loop.loop.keys at-loop.loop.r) e at-loop.loop.invariant.3
+    subst (λ (j : ℕ). Behind args.keys.now args.at (listed_in (candidate r (take args.w args.wanted.now)) r args.f args.start j) at-loop.loop.keys at-loop.loop.r) e at-loop.loop.invariant.3
 
 pub list-file-spec : {M : Type 1} → statement M
 list-file-spec =

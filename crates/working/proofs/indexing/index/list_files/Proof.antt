@@ -4,7 +4,7 @@ use Prim.Native.Nat.{ℕ, ◌+◌, ◌-◌, ◌≤◌, ◌<◌}
 use native.Mathlib.Omega.{arith}
 use lib.ListN.{length, take}
 use Rattle.laws.specs.Lists.{table}
-use Rattle.store.specs.journals.Files.{fileAt, recordsOf}
+use Rattle.store.specs.journals.Files.{file_at, records_of}
 use Rattle.store.specs.declared.journals.files.File.{File}
 use Rattle.store.proofs.journals.Counting.{records-none, records-next}
 use Rattle.working.proofs.GatherLaws.{in-turn, begins, reports-few, objections-few}
@@ -16,7 +16,7 @@ use Rattle.working.proofs.indexing.index.list_files.Tie as tie
 
 abbrev invariant-loop : tie.invariant-loop
 invariant-loop files n regular corrections wanted w marks keys₀ reports₀ objections₀ r₀ k₀ keys reports objections r k =
-    (k ≤ n) × (length keys ≡ length keys₀) × (reports ≡ recordsOf 0 (table k (fileAt files))) × (objections ≡ recordsOf 1 (table k (fileAt files)))
+    (k ≤ n) × (length keys ≡ length keys₀) × (reports ≡ records_of 0 (table k (file_at files))) × (objections ≡ records_of 1 (table k (file_at files)))
     × Listed k files regular corrections (take w wanted) keys r
 
 abbrev decreases-loop : tie.decreases-loop
@@ -25,7 +25,7 @@ decreases-loop files n regular corrections wanted w marks keys₀ reports₀ obj
 loop-holds : tie.Need-loop-init invariant-loop decreases-loop
 loop-holds c =
     let args = c.before.before.before.before.args in
-    (search rules, search rules, records-none 0 (fileAt args.files.now), records-none 1 (fileAt args.files.now), files-none args.files.now args.regular.now args.corrections.now (take args.w args.wanted.now) args.keys.now)
+    (search rules, search rules, records-none 0 (file_at args.files.now), records-none 1 (file_at args.files.now), files-none args.files.now args.regular.now args.corrections.now (take args.w args.wanted.now) args.keys.now)
 
 file-at-requires : tie.Need-file-at-requires invariant-loop decreases-loop
 file-at-requires c κs = omega (arith, c.before.before.before.before.before.before.requires.0.listed)
@@ -98,8 +98,8 @@ loop-again c =
     let q = begun.begin.ensures ∙ begins args.n args.files.now args.regular.now args.corrections.now start.requires.0 at-loop.loop.k f.result at-loop.loop.reports at-loop.loop.objections (omega arith) f.ensures.0 inv.2 inv.3 in (
       search rules,
       listed.list-file.auto.1.1.1.1.1.1.1.0 ∙ inv.1,
-      ap (λ (m : ℕ). at-loop.loop.reports + m) c.before.records-in.ensures.0 ∙ records-next 0 (fileAt args.files.now) at-loop.loop.k at-loop.loop.reports f.result f.ensures.0 inv.2,
-      ap (λ (m : ℕ). at-loop.loop.objections + m) c.records-in2.ensures.0 ∙ records-next 1 (fileAt args.files.now) at-loop.loop.k at-loop.loop.objections f.result f.ensures.0 inv.3,
+      ap (λ (m : ℕ). at-loop.loop.reports + m) c.before.records-in.ensures.0 ∙ records-next 0 (file_at args.files.now) at-loop.loop.k at-loop.loop.reports f.result f.ensures.0 inv.2,
+      ap (λ (m : ℕ). at-loop.loop.objections + m) c.records-in2.ensures.0 ∙ records-next 1 (file_at args.files.now) at-loop.loop.k at-loop.loop.objections f.result f.ensures.0 inv.3,
       files-more args.files.now args.regular.now args.corrections.now (take args.w args.wanted.now) at-loop.loop.k f.result begun.begin.result at-loop.loop.keys _ at-loop.loop.r _ f.ensures.0 q inv.4 listed.list-file.ensures,
     )
 

@@ -1,5 +1,5 @@
 -- `working::indexing::index::tag_behind` meets its contract: the callee's contract. Assumes nothing.
-use Rattle.working.specs.indexing.Index.{frontBehind}
+use Rattle.working.specs.indexing.Index.{front_behind}
 use borrow.Author.Rules.{rules}
 use Rattle.working.proofs.indexing.index.tag_behind.Statement.{statement}
 use Rattle.working.proofs.indexing.index.tag_behind.Tie as tie
@@ -14,7 +14,7 @@ add-result : tie.Need-overflow-add-result
 add-result c = search rules
 
 returns : tie.Need-returns
-unfolding frontBehind
+unfolding front_behind
 returns c = rw c.before.before.number_behind.ensures
 
 pub tag-behind-spec : {M : Type 1} → statement M

@@ -5,14 +5,14 @@ use native.Mathlib.Omega.{arith}
 use lib.ListN.{length}
 use Rattle.laws.specs.Lists.{table}
 use Rattle.laws.specs.Overlay.{overlay}
-use Rattle.working.specs.overview.Lines.{lineTag}
+use Rattle.working.specs.overview.Lines.{line_tag}
 use Rattle.working.proofs.overview.Wanting.{tags-none, tags-more}
 use borrow.Author.Rules.{rules}
 use Rattle.working.proofs.overview.lines.lay_tags.Statement.{statement}
 use Rattle.working.proofs.overview.lines.lay_tags.Tie as tie
 
 abbrev invariant-loop : tie.invariant-loop
-invariant-loop lines m wanted₀ i₀ wanted i = (i ≤ m) × (length wanted ≡ length wanted₀) × (wanted ≡ overlay wanted₀ 0 (table i (lineTag lines)))
+invariant-loop lines m wanted₀ i₀ wanted i = (i ≤ m) × (length wanted ≡ length wanted₀) × (wanted ≡ overlay wanted₀ 0 (table i (line_tag lines)))
 
 abbrev decreases-loop : tie.decreases-loop
 decreases-loop lines m wanted₀ i₀ wanted i = m - i
@@ -49,7 +49,7 @@ returns c =
     let at-loop = c.before in
     let args = at-loop.before.before.before.args in
     let e : at-loop.loop.i ≡ args.m = omega arith in
-    at-loop.loop.invariant.2 ∙ ap (λ (k : ℕ). overlay args.wanted.now 0 (table k (lineTag args.lines.now))) e
+    at-loop.loop.invariant.2 ∙ ap (λ (k : ℕ). overlay args.wanted.now 0 (table k (line_tag args.lines.now))) e
 
 pub lay-tags-spec : {M : Type 1} → statement M
 lay-tags-spec =

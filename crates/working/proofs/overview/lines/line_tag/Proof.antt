@@ -3,7 +3,7 @@ use mathlib.Core.Path.{ap}
 use Prim.Native.Nat.{◌+◌, ◌*◌, ◌%◌}
 use Rattle.store.specs.declared.numbers.lines.Line.{Line}
 use borrow.Author.Rules.{rules}
-use Rattle.working.specs.overview.Lines.{lineTag}
+use Rattle.working.specs.overview.Lines.{line_tag}
 use Rattle.working.proofs.overview.lines.line_tag.Statement.{statement}
 use Rattle.working.proofs.overview.lines.line_tag.Tie as tie
 
@@ -17,7 +17,7 @@ add-result : tie.Need-overflow-add-result
 add-result c = search rules
 
 returns : tie.Need-returns
-unfolding lineTag
+unfolding line_tag
 returns c = ap (λ (l : Line). l.number.first.0 % 281474976710656 * 16384 + c.before.before.before.before.before.args.i) c.before.before.before.line-at.ensures
 
 pub line-tag-spec : {M : Type 1} → statement M
