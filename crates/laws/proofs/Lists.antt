@@ -99,8 +99,8 @@ module _ {A : Type 0} where
   pub mem_below : {a : A} (n : ℕ) (f : ℕ → A) → Memᴰ a (table n f) → (i : ℕ) × (i < n) × (a ≡ f i)
   unfolding table
   mem_below zero f m = absurd (Memᴰ.not-nil m)
-  mem_below (suc n) f m =
-      ⊎_elim (λ k. let w = mem_below n f k in (w.0, omega (arith, w.1), w.2)) (λ k. (n, omega arith, Memᴰ.eq_of_singleton k))
+  mem_below {a = a} (suc n) f m =
+      ⊎_elim (λ k. let w = mem_below {a = a} n f k in (w.0, omega (arith, w.1), w.2)) (λ k. (n, omega arith, Memᴰ.eq_of_singleton k))
       (Memᴰ.append_cases (table n f) m)
 
   pub mem-table : {a : A} (n : ℕ) (f : ℕ → A) → Memᴰ a (table n f) → (i : ℕ) × (a ≡ f i)
