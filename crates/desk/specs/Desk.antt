@@ -5,6 +5,7 @@ use Rattle.io.specs.Counts.{IsPrefixLen}
 use Rattle.desk.specs.declared.file.Whole.{Whole}
 use Rattle.desk.specs.declared.file.Whole.TheVariants.{Bytes, TooLong, Failed}
 use Rattle.desk.specs.declared.page.Page.{Page}
+use Rattle.desk.specs.declared.page.Stream.{Stream}
 
 -- a number, and 0 where it is negative
 abbrev pub plain_of : ℤ → ℕ
@@ -25,8 +26,8 @@ path_of (b ∷ folder) name = (b ∷ folder) ++ (47 ∷ name)
 abbrev pub Within : Whole → List ℕ → Type 0
 Within (Bytes n) buf = IsPrefixLen n buf
 Within TooLong buf = Unit
-Within Failed buf = Unit
+Within (Failed e) buf = Unit
 
 -- a page on which nothing stands
-abbrev pub empty_page : ℤ → Page
-empty_page fd = record { fd = fd; used = 0; failed = false }
+abbrev pub empty_page : Stream → Page
+empty_page to = record { to = to; used = 0; failed = false }
