@@ -3,8 +3,8 @@ ghost use Rattle.std.specs.Prelude.{◌≡◌, ◌≤◌, length};
 ghost use Rattle.commands.specs.Given.{name_start, name_in};
 
 use crate::LONGEST;
-use desk::file;
 use desk::file::Whole;
+use desk::{Host, file};
 
 // Where the last component of a path begins: behind its last slash.
 fn name_at(path: &[u8]) -> usize
@@ -38,15 +38,19 @@ pub enum Given {
 }
 
 // Reads a file whole.
-pub fn load(path: &[u8], text: &mut [u8; LONGEST]) -> Given {
-    match file::load(path, text) {
+pub fn load(rt: &impl Host, path: &[u8], text: &mut [u8; LONGEST]) -> Given {
+    match file::load(rt, path, text) {
         Whole::Bytes(n) => Given::Bytes(n),
         Whole::TooLong => {
-            words::complain(path, b"longer than 2 MB, and no file of this exchange is");
+            words::complain(
+                rt,
+                path,
+                b"longer than 2 MB, and no file of this exchange is",
+            );
             Given::Unreadable
         }
-        Whole::Failed => {
-            words::failed(path);
+        Whole::Failed(e) => {
+            words::failed(rt, path, e);
             Given::Unreadable
         }
     }

@@ -3,18 +3,20 @@ ghost use Rattle.store.specs.Reads.{lent};
 ghost use Rattle.commands.specs.Status.{Ends, Opens};
 
 use crate::end;
+use desk::Host;
 use disk::{CORRECTIONS, ENTRIES, FILES, REGULAR, TABLE, saved};
 
 // The store is damaged: `refused` 44.
-pub fn damaged(folder: &[u8]) -> u8
+pub fn damaged(rt: &impl Host, folder: &[u8]) -> u8
     ensures { Ends 1 result }
 {
-    words::refusal::refused(folder, 44);
-    end::refused(44)
+    words::refusal::refused(rt, folder, 44);
+    end::refused(rt, 44)
 }
 
 // Loads the store: 0; or the status of the command, where it can't go on and has told why.
 pub fn open(
+    rt: &impl Host,
     folder: &[u8],
     table: &mut [u8; TABLE],
     files: &mut [u8; FILES],
@@ -24,10 +26,10 @@ pub fn open(
 ) -> u8
     ensures { Opens result (lent table.new files.new regular.new corrections.new entries.new) }
 {
-    match saved::load(folder, table, files, regular, corrections, entries) {
+    match saved::load(rt, folder, table, files, regular, corrections, entries) {
         saved::Loaded::Ready => 0,
         saved::Loaded::Missing => 2,
-        saved::Loaded::OtherList => words::wants_rework(folder),
-        saved::Loaded::Damaged => damaged(folder),
+        saved::Loaded::OtherList => words::wants_rework(rt, folder),
+        saved::Loaded::Damaged => damaged(rt, folder),
     }
 }

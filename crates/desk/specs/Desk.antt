@@ -1,5 +1,5 @@
 -- What the contracts of the desk cite. Assumes nothing: these are definitions.
-use Rattle.std.specs.Prelude.{ℕ, ◌+◌, min, ◌≡◌, false, List, [], ◌∷◌, ◌++◌, ℤ, pos, negsuc, length}
+use Rattle.std.specs.Prelude.{ℕ, ◌+◌, min, ◌≡◌, None, List, [], ◌∷◌, ◌++◌, ℤ, pos, negsuc, length}
 use Rattle.laws.specs.Overlay.{overlay}
 use Rattle.io.specs.Counts.{IsPrefixLen}
 use Rattle.desk.specs.declared.file.Whole.{Whole}
@@ -30,4 +30,4 @@ Within (Failed e) buf = Unit
 
 -- a page on which nothing stands
 abbrev pub empty_page : Stream → Page
-empty_page to = record { to = to; used = 0; failed = false }
+empty_page to = record { to = to; used = 0; failed = None }

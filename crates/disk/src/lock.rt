@@ -1,39 +1,45 @@
 // The lock: STORE/lock, with the number of the process that changes the store.
-use desk::{place, plain};
+use desk::{Host, out, place};
+use std::io::{Error, ErrorKind, Write};
 use words::{complain, failed};
 
 // There is a lock already, or it can't be made.
-fn refused(folder: &[u8]) -> bool {
-    if os::errno() == libc::EEXIST {
+fn refused(rt: &impl Host, folder: &[u8], error: Error) -> bool {
+    if error.kind() == ErrorKind::AlreadyExists {
         complain(
+            rt,
             folder,
             b"another process is changing this store; nothing was done. Try again when it is done; where there is none, remove the file lock in it",
         );
         return false;
     }
-    failed(folder);
-    complain(folder, b"the store can't be locked; nothing was done");
+    failed(rt, folder, error);
+    complain(rt, folder, b"the store can't be locked; nothing was done");
     false
+}
+
+// Writes the number of the process, and a line end.
+fn sign<F: Write>(file: &mut F, process: u32) -> Result<(), Error> {
+    let told = out::number(file, u64::from(process));
+    let _ = file.write_all(b"\n");
+    told
 }
 
 // Takes the lock, and answers whether it has it; where it has not, the reason has been told.
-pub fn take(folder: &[u8]) -> bool {
-    let fd = place::create(folder, b"lock");
-    if fd < 0 {
-        return refused(folder);
-    }
-    let told = io::print_decimal(fd, plain(libc::getpid()));
-    io::write_all(fd, b"\n");
-    libc::close(fd);
-    if told {
+pub fn take(rt: &impl Host, folder: &[u8]) -> bool {
+    let told = match place::create(rt, folder, b"lock") {
+        Err(e) => return refused(rt, folder, e),
+        Ok(mut file) => sign(&mut file, rt.process_id()),
+    };
+    let Err(error) = told else {
         return true;
-    }
-    failed(folder);
-    complain(folder, b"the store can't be locked; nothing was done");
-    place::unlink(folder, b"lock");
+    };
+    failed(rt, folder, error);
+    complain(rt, folder, b"the store can't be locked; nothing was done");
+    let _ = place::unlink(rt, folder, b"lock");
     false
 }
 
-pub fn release(folder: &[u8]) {
-    place::unlink(folder, b"lock");
+pub fn release(rt: &impl Host, folder: &[u8]) {
+    let _ = place::unlink(rt, folder, b"lock");
 }

@@ -3,6 +3,8 @@ use crate::head::HEAD;
 use crate::list::LINE;
 use crate::{CORRECTIONS, ENTRIES, FILES, REGULAR, TABLE, head, list};
 use desk::{file, same, within};
+use std::fs::OpenFile;
+use std::io::{Error, Read, Write};
 
 // What a file was found to be.
 #[derive(Drop)]
@@ -14,30 +16,30 @@ pub enum Found {
     Damaged,
 }
 
-fn fill(
-    fd: i32,
+fn fill<F: Read>(
+    file: &mut F,
     table: &mut [u8; TABLE],
     files: &mut [u8; FILES],
     regular: &mut [u8; REGULAR],
     corrections: &mut [u8; CORRECTIONS],
     entries: &mut [u8; ENTRIES],
 ) -> bool {
-    if !file::fill(fd, table) {
+    if !file::fill(file, table) {
         return false;
     }
-    if !file::fill(fd, files) {
+    if !file::fill(file, files) {
         return false;
     }
-    if !file::fill(fd, regular) {
+    if !file::fill(file, regular) {
         return false;
     }
-    if !file::fill(fd, corrections) {
+    if !file::fill(file, corrections) {
         return false;
     }
-    if !file::fill(fd, entries) {
+    if !file::fill(file, entries) {
         return false;
     }
-    file::at_end(fd)
+    file::at_end(file)
 }
 
 // How many bytes of the list's line were read: a head of version 1 has none.
@@ -47,11 +49,11 @@ enum Line {
     Missing,
 }
 
-fn read_line(fd: i32, head: &[u8; HEAD], line: &mut [u8; LINE]) -> Line {
+fn read_line<F: Read>(file: &mut F, head: &[u8; HEAD], line: &mut [u8; LINE]) -> Line {
     if head::is_first(head) {
         return Line::Bytes(0);
     }
-    if file::fill(fd, line) {
+    if file::fill(file, line) {
         return Line::Bytes(LINE);
     }
     Line::Missing
@@ -82,8 +84,8 @@ fn judged(
 }
 
 // A file is whole that has a head which is right for what follows, the five buffers, and nothing behind them.
-pub fn read(
-    fd: i32,
+pub fn read<F: Read>(
+    file: &mut F,
     table: &mut [u8; TABLE],
     files: &mut [u8; FILES],
     regular: &mut [u8; REGULAR],
@@ -92,49 +94,35 @@ pub fn read(
 ) -> Found {
     let mut head = [0u8; HEAD];
     let mut line = [0u8; LINE];
-    if !file::fill(fd, &mut head) {
+    if !file::fill(file, &mut head) {
         return Found::Damaged;
     }
-    let Line::Bytes(k) = read_line(fd, &head, &mut line) else {
+    let Line::Bytes(k) = read_line(file, &head, &mut line) else {
         return Found::Damaged;
     };
-    if !fill(fd, table, files, regular, corrections, entries) {
+    if !fill(file, table, files, regular, corrections, entries) {
         return Found::Damaged;
     }
     judged(&head, &line, k, table, files, regular, corrections)
 }
 
-// Writes them with the line of this program's list, and answers whether they are on the device.
-pub fn write(
-    fd: i32,
+// Writes them with the line of this program's list. Where it answers no error, they are on the device.
+pub fn write<F: Write + OpenFile>(
+    file: &mut F,
     table: &[u8; TABLE],
     files: &[u8; FILES],
     regular: &[u8; REGULAR],
     corrections: &[u8; CORRECTIONS],
     entries: &[u8; ENTRIES],
-) -> bool {
+) -> Result<(), Error> {
     let line = list::line();
     let head = head::head_of(&line, table, files, regular, corrections);
-    if !io::write_all(fd, &head) {
-        return false;
-    }
-    if !io::write_all(fd, &line) {
-        return false;
-    }
-    if !io::write_all(fd, table) {
-        return false;
-    }
-    if !io::write_all(fd, files) {
-        return false;
-    }
-    if !io::write_all(fd, regular) {
-        return false;
-    }
-    if !io::write_all(fd, corrections) {
-        return false;
-    }
-    if !io::write_all(fd, entries) {
-        return false;
-    }
-    libc::fsync(fd) == 0
+    file.write_all(&head)?;
+    file.write_all(&line)?;
+    file.write_all(table)?;
+    file.write_all(files)?;
+    file.write_all(regular)?;
+    file.write_all(corrections)?;
+    file.write_all(entries)?;
+    file.sync_all()
 }

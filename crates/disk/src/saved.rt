@@ -6,7 +6,8 @@ ghost use Rattle.disk.specs.Saved.{Loads};
 
 use crate::parts::Found;
 use crate::{CORRECTIONS, ENTRIES, FILES, REGULAR, TABLE, parts};
-use desk::place;
+use desk::{Host, place};
+use std::io::{Error, ErrorKind};
 use words::{complain, failed};
 
 #[derive(Drop)]
@@ -20,11 +21,12 @@ pub enum Loaded {
     Damaged,
 }
 
-fn missing(folder: &[u8]) -> Loaded
+fn missing(rt: &impl Host, folder: &[u8], error: Error) -> Loaded
     ensures { result ≡ Missing }
 {
-    failed(folder);
+    failed(rt, folder, error);
     complain(
+        rt,
         folder,
         b"no store can be read there; 'dagskimra start' makes one",
     );
@@ -33,6 +35,7 @@ fn missing(folder: &[u8]) -> Loaded
 
 // Reads the store of a folder, and judges it last: what is said to be loaded reads as a store.
 pub fn load(
+    rt: &impl Host,
     folder: &[u8],
     table: &mut [u8; TABLE],
     files: &mut [u8; FILES],
@@ -42,12 +45,10 @@ pub fn load(
 ) -> Loaded
     ensures { Loads result (lent table.new files.new regular.new corrections.new entries.new) }
 {
-    let fd = place::open_read(folder, b"store");
-    if fd < 0 {
-        return missing(folder);
-    }
-    let found = parts::read(fd, table, files, regular, corrections, entries);
-    libc::close(fd);
+    let found = match place::open_read(rt, folder, b"store") {
+        Err(e) => return missing(rt, folder, e),
+        Ok(mut file) => parts::read(&mut file, table, files, regular, corrections, entries),
+    };
     if !store::readable::readable(table, files, regular, corrections, entries) {
         return Loaded::Damaged;
     }
@@ -59,21 +60,22 @@ pub fn load(
 }
 
 // The new file could not be made: the old one is as it was, and nothing is beside it.
-fn given_up(folder: &[u8]) -> bool {
-    failed(folder);
-    place::unlink(folder, b"store.new");
-    complain(folder, b"the store can't be written, and is as it was");
+fn given_up(rt: &impl Host, folder: &[u8], error: Error) -> bool {
+    failed(rt, folder, error);
+    let _ = place::unlink(rt, folder, b"store.new");
+    complain(rt, folder, b"the store can't be written, and is as it was");
     false
 }
 
 // Has the new file take the old one's name.
-fn renamed(folder: &[u8]) -> bool {
-    if place::rename(folder, b"store.new", b"store") != 0 {
-        return given_up(folder);
+fn renamed(rt: &impl Host, folder: &[u8]) -> bool {
+    if let Err(e) = place::rename(rt, folder, b"store.new", b"store") {
+        return given_up(rt, folder, e);
     }
-    if place::sync(folder) != 0 {
-        failed(folder);
+    if let Err(e) = place::sync(rt, folder) {
+        failed(rt, folder, e);
         complain(
+            rt,
             folder,
             b"the store has changed, and a loss of power may still undo the change",
         );
@@ -85,6 +87,7 @@ fn renamed(folder: &[u8]) -> bool {
 // Writes the store beside the old one, and has it take the old one's name. Answers whether it is on the device; where it is not, the
 // reason has been told.
 pub fn save(
+    rt: &impl Host,
     folder: &[u8],
     table: &[u8; TABLE],
     files: &[u8; FILES],
@@ -93,28 +96,21 @@ pub fn save(
     entries: &[u8; ENTRIES],
 ) -> bool {
     // one that a process left that was killed
-    place::unlink(folder, b"store.new");
-    let fd = place::create(folder, b"store.new");
-    if fd < 0 {
-        return given_up(folder);
+    let _ = place::unlink(rt, folder, b"store.new");
+    let written = match place::create(rt, folder, b"store.new") {
+        Err(e) => Err(e),
+        Ok(mut file) => parts::write(&mut file, table, files, regular, corrections, entries),
+    };
+    match written {
+        Err(e) => given_up(rt, folder, e),
+        Ok(()) => renamed(rt, folder),
     }
-    if !parts::write(fd, table, files, regular, corrections, entries) {
-        let told = given_up(folder);
-        libc::close(fd);
-        return told;
-    }
-    if libc::close(fd) != 0 {
-        return given_up(folder);
-    }
-    renamed(folder)
 }
 
 // Whether there is a store in the folder.
-pub fn is_there(folder: &[u8]) -> bool {
-    let fd = place::open_read(folder, b"store");
-    if fd < 0 {
-        return os::errno() != libc::ENOENT;
+pub fn is_there(rt: &impl Host, folder: &[u8]) -> bool {
+    match place::open_read(rt, folder, b"store") {
+        Ok(_) => true,
+        Err(e) => e.kind() != ErrorKind::NotFound,
     }
-    libc::close(fd);
-    true
 }

@@ -2,45 +2,46 @@
 use crate::kept::{KEPT, Told};
 use crate::{kept, list};
 use commands::fault;
-use desk::page;
+use desk::{Host, page};
 use page::{Page, ROOM};
 
 // PATH `filed` COUNT, or PATH `refused` NO, for 4 with PLACE, FIELD and CAUSE behind it
-fn answer(first: Page, room: &mut [u8; ROOM], path: &[u8], told: Told) -> Page {
-    let mut p = page::text(first, room, path);
+fn answer(rt: &impl Host, first: Page, room: &mut [u8; ROOM], path: &[u8], told: Told) -> Page {
+    let mut p = page::text(rt, first, room, path);
     if told.number == 0 {
-        p = page::text(p, room, b"\tfiled\t");
-        p = page::number(p, room, told.value as u64);
-        return page::line_end(p, room);
+        p = page::text(rt, p, room, b"\tfiled\t");
+        p = page::number(rt, p, room, told.value as u64);
+        return page::line_end(rt, p, room);
     }
-    p = page::text(p, room, b"\trefused\t");
+    p = page::text(rt, p, room, b"\trefused\t");
     if told.number == 4 {
-        p = fault::columns(p, room, told.value, told.field, told.cause);
+        p = fault::columns(rt, p, room, told.value, told.field, told.cause);
     } else {
-        p = page::number(p, room, told.number as u64);
+        p = page::number(rt, p, room, told.number as u64);
     }
-    page::line_end(p, room)
+    page::line_end(rt, p, room)
 }
 
 // Why a file was refused; of a 4 it was said when the file was looked into.
-fn say(path: &[u8], number: u8) {
+fn say(rt: &impl Host, path: &[u8], number: u8) {
     if number == 0 {
         return;
     }
     if number == 4 {
         return;
     }
-    words::refusal::refused(path, number);
+    words::refusal::refused(rt, path, number);
 }
 
-fn line(p: Page, room: &mut [u8; ROOM], offer: &[u8], told: Told) -> Page {
+fn line(rt: &impl Host, p: Page, room: &mut [u8; ROOM], offer: &[u8], told: Told) -> Page {
     let at = list::path_at(offer);
-    say(&offer[at..], told.number);
-    answer(p, room, &offer[at..], told)
+    say(rt, &offer[at..], told.number);
+    answer(rt, p, room, &offer[at..], told)
 }
 
 // The lines of the first n offers of a list.
 pub fn print(
+    rt: &impl Host,
     first: Page,
     room: &mut [u8; ROOM],
     offers: &[u8],
@@ -60,7 +61,7 @@ pub fn print(
             if n <= k {
                 return p;
             }
-            p = line(p, room, &offers[at..end], kept::at(kept, k));
+            p = line(rt, p, room, &offers[at..end], kept::at(kept, k));
             k += 1;
         }
         at = end + 1;

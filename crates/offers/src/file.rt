@@ -6,10 +6,10 @@ use crate::offer::Offered;
 use crate::{MOST, answers, gather, kept, list, offer};
 use commands::given::Given;
 use commands::{LONGEST, end, given};
-use desk::{args, page, within};
+use desk::place::PATH_MAX;
+use desk::{Host, args, page, within};
 use disk::saved::Loaded;
 use disk::{CORRECTIONS, ENTRIES, FILES, REGULAR, TABLE, lock, saved};
-use libc::{STDERR_FILENO, STDOUT_FILENO};
 use page::ROOM;
 
 // How far a round of offers came: as many were answered; one at least was filed; one at least was refused; it stopped at a file that
@@ -37,8 +37,8 @@ fn nothing_done() -> Round {
 }
 
 // Its entries are of another holiday list: nothing is answered either.
-fn wants_rework(folder: &[u8]) -> Round {
-    words::wants_rework(folder);
+fn wants_rework(rt: &impl Host, folder: &[u8]) -> Round {
+    words::wants_rework(rt, folder);
     nothing_done()
 }
 
@@ -53,26 +53,26 @@ fn all_refused(total: usize) -> Round {
 }
 
 // How far the work has come, for a person who waits. What is said next is written over it, and is longer.
-fn progress(terminal: bool, k: usize, total: usize) {
+fn progress(rt: &impl Host, terminal: bool, k: usize, total: usize) {
     if !terminal {
         return;
     }
-    io::write_all(STDERR_FILENO, b"file ");
-    io::print_decimal(STDERR_FILENO, k as u64);
-    io::write_all(STDERR_FILENO, b" of ");
-    io::print_decimal(STDERR_FILENO, total as u64);
+    words::text(rt, b"file ");
+    words::number(rt, k);
+    words::text(rt, b" of ");
+    words::number(rt, total);
     if k == total {
-        io::write_all(STDERR_FILENO, b"\n");
+        words::text(rt, b"\n");
     } else {
-        io::write_all(STDERR_FILENO, b"\r");
+        words::text(rt, b"\r");
     }
 }
 
-fn watched(total: usize) -> bool {
+fn watched(rt: &impl Host, total: usize) -> bool {
     if total < 20 {
         return false;
     }
-    libc::isatty(STDERR_FILENO) == 1
+    rt.is_watched()
 }
 
 // After one more answer.
@@ -101,6 +101,7 @@ fn with_stop(r: Round) -> Round {
 
 // Offers what one line of the list names, and keeps the answer.
 fn offer_line(
+    rt: &impl Host,
     r: Round,
     line: &[u8],
     text: &mut [u8; LONGEST],
@@ -117,6 +118,7 @@ fn offer_line(
         return with_stop(r);
     }
     let Offered::Answer(told) = offer::offer(
+        rt,
         list::publisher(line),
         &line[at..],
         text,
@@ -134,6 +136,7 @@ fn offer_line(
 
 // Offers every line of the list, up to one that can't be read.
 fn offer_each(
+    rt: &impl Host,
     offers: &[u8],
     sep: u8,
     total: usize,
@@ -145,7 +148,7 @@ fn offer_each(
     corrections: &mut [u8; CORRECTIONS],
     entries: &mut [u8; ENTRIES],
 ) -> Round {
-    let terminal = watched(total);
+    let terminal = watched(rt, total);
     let mut r = first_round();
     let mut at = 0;
     while at < offers.len() {
@@ -155,6 +158,7 @@ fn offer_each(
         }
         if at < end {
             r = offer_line(
+                rt,
                 r,
                 &offers[at..end],
                 text,
@@ -168,7 +172,7 @@ fn offer_each(
             if r.stopped {
                 return r;
             }
-            progress(terminal, r.answered, total);
+            progress(rt, terminal, r.answered, total);
         }
         at = end + 1;
     }
@@ -177,6 +181,7 @@ fn offer_each(
 
 // Offers the files and saves the store where one was filed.
 fn file_loaded(
+    rt: &impl Host,
     folder: &[u8],
     offers: &[u8],
     sep: u8,
@@ -190,6 +195,7 @@ fn file_loaded(
 ) -> Round {
     let mut text = [0u8; LONGEST];
     let r = offer_each(
+        rt,
         offers,
         sep,
         total,
@@ -204,13 +210,14 @@ fn file_loaded(
     if !r.filed {
         return r;
     }
-    if saved::save(folder, table, files, regular, corrections, entries) {
+    if saved::save(rt, folder, table, files, regular, corrections, entries) {
         return r;
     }
     nothing_done()
 }
 
 fn file_locked(
+    rt: &impl Host,
     folder: &[u8],
     offers: &[u8],
     sep: u8,
@@ -223,6 +230,7 @@ fn file_locked(
     let mut corrections = [0u8; CORRECTIONS];
     let mut entries = [0u8; ENTRIES];
     match saved::load(
+        rt,
         folder,
         &mut table,
         &mut files,
@@ -232,8 +240,9 @@ fn file_locked(
     ) {
         Loaded::Missing => nothing_done(),
         Loaded::Damaged => all_refused(total),
-        Loaded::OtherList => wants_rework(folder),
+        Loaded::OtherList => wants_rework(rt, folder),
         Loaded::Ready => file_loaded(
+            rt,
             folder,
             offers,
             sep,
@@ -249,10 +258,11 @@ fn file_locked(
 }
 
 // Prints what was answered.
-fn print(offers: &[u8], sep: u8, r: Round, kept: &[usize; KEPT]) -> u8 {
+fn print(rt: &impl Host, offers: &[u8], sep: u8, r: Round, kept: &[usize; KEPT]) -> u8 {
     let mut room = [0u8; ROOM];
     let p = answers::print(
-        page::begin(STDOUT_FILENO),
+        rt,
+        page::begin(page::Stream::Out),
         &mut room,
         offers,
         sep,
@@ -260,101 +270,110 @@ fn print(offers: &[u8], sep: u8, r: Round, kept: &[usize; KEPT]) -> u8 {
         kept,
     );
     if r.stopped {
-        return end::done(p, &room, 2);
+        return end::done(rt, p, &room, 2);
     }
     if r.refused {
-        return end::done(p, &room, 1);
+        return end::done(rt, p, &room, 1);
     }
-    end::done(p, &room, 0)
+    end::done(rt, p, &room, 0)
 }
 
-fn file_offers(folder: &[u8], offers: &[u8], sep: u8, total: usize) -> u8 {
+fn file_offers(rt: &impl Host, folder: &[u8], offers: &[u8], sep: u8, total: usize) -> u8 {
     // until it is answered otherwise, a file is refused with 44
     let mut kept = [44usize; KEPT];
-    if !lock::take(folder) {
+    if !lock::take(rt, folder) {
         return 2;
     }
-    let r = file_locked(folder, offers, sep, total, &mut kept);
-    lock::release(folder);
-    print(offers, sep, r, &kept)
+    let r = file_locked(rt, folder, offers, sep, total, &mut kept);
+    lock::release(rt, folder);
+    print(rt, offers, sep, r, &kept)
 }
 
-fn no_tab(path: &[u8], line: usize) -> u8 {
-    words::text(b"dagskimra: ");
-    words::text(path);
-    words::text(b": line ");
-    io::print_decimal(STDERR_FILENO, line as u64);
-    words::text(b" is no PUBLISHER, tab and PATH; nothing was filed\n");
+fn no_tab(rt: &impl Host, path: &[u8], line: usize) -> u8 {
+    words::text(rt, b"dagskimra: ");
+    words::text(rt, path);
+    words::text(rt, b": line ");
+    words::number(rt, line);
+    words::text(rt, b" is no PUBLISHER, tab and PATH; nothing was filed\n");
     2
 }
 
-fn too_many(path: &[u8]) -> u8 {
+fn too_many(rt: &impl Host, path: &[u8]) -> u8 {
     words::complain(
+        rt,
         path,
         b"more than 16384 files for one command; nothing was filed",
     );
     2
 }
 
-fn file_counted(folder: &[u8], path: &[u8], offers: &[u8], sep: u8) -> u8 {
+fn file_counted(rt: &impl Host, folder: &[u8], path: &[u8], offers: &[u8], sep: u8) -> u8 {
     match list::count(offers, sep) {
-        Counted::TooMany => too_many(path),
-        Counted::NoTab(line) => no_tab(path, line),
-        Counted::Offers(total) => file_offers(folder, offers, sep, total),
+        Counted::TooMany => too_many(rt, path),
+        Counted::NoTab(line) => no_tab(rt, path, line),
+        Counted::Offers(total) => file_offers(rt, folder, offers, sep, total),
     }
 }
 
-fn file_text(folder: &[u8], path: &[u8], text: &[u8; LONGEST], n: usize, sep: u8) -> u8 {
+fn file_text(
+    rt: &impl Host,
+    folder: &[u8],
+    path: &[u8],
+    text: &[u8; LONGEST],
+    n: usize,
+    sep: u8,
+) -> u8 {
     let all: &[u8] = text;
     let k = within(n, all);
-    file_counted(folder, path, &all[..k], sep)
+    file_counted(rt, folder, path, &all[..k], sep)
 }
 
 // file STORE --list LIST
-fn file_list(folder: &[u8], path: &[u8]) -> u8 {
+fn file_list(rt: &impl Host, folder: &[u8], path: &[u8]) -> u8 {
     let mut text = [0u8; LONGEST];
-    match given::load(path, &mut text) {
+    match given::load(rt, path, &mut text) {
         Given::Unreadable => 2,
-        Given::Bytes(n) => file_text(folder, path, &text, n, b'\n'),
+        Given::Bytes(n) => file_text(rt, folder, path, &text, n, b'\n'),
     }
 }
 
 // file STORE PUBLISHER FILE...
-fn file_args(folder: &[u8], count: usize) -> u8 {
+fn file_args(rt: &impl Host, folder: &[u8], count: usize) -> u8 {
     let mut text = [0u8; LONGEST];
-    match gather::gather(&mut text, 4, count) {
+    match gather::gather(rt, &mut text, 4, count) {
         Gathered::TooLong => 2,
-        Gathered::Bytes(n) => file_text(folder, b"file", &text, n, 0),
+        Gathered::Bytes(n) => file_text(rt, folder, b"file", &text, n, 0),
     }
 }
 
-fn usage(wrong: &[u8]) -> u8 {
+fn usage(rt: &impl Host, wrong: &[u8]) -> u8 {
     words::usage(
+        rt,
         wrong,
         b"file STORE PUBLISHER FILE...\n       dagskimra file STORE --list LIST",
     )
 }
 
-fn list_at(folder: &[u8], count: usize) -> u8 {
+fn list_at(rt: &impl Host, folder: &[u8], count: usize) -> u8 {
     if count != 5 {
-        return usage(b"--list takes one list");
+        return usage(rt, b"--list takes one list");
     }
-    let mut path = io::buffer();
-    let n = args::path(4, &mut path);
-    file_list(folder, &path[..n])
+    let mut path = [0u8; PATH_MAX];
+    let n = args::path(rt, 4, &mut path);
+    file_list(rt, folder, &path[..n])
 }
 
-pub fn run(count: usize) -> u8 {
+pub fn run(rt: &impl Host, count: usize) -> u8 {
     if count < 5 {
-        return usage(b"file takes a folder, a publisher and files, or a list");
+        return usage(rt, b"file takes a folder, a publisher and files, or a list");
     }
-    let mut folder = io::buffer();
-    let n = args::path(2, &mut folder);
+    let mut folder = [0u8; PATH_MAX];
+    let n = args::path(rt, 2, &mut folder);
     if n == 0 {
-        return usage(b"STORE is empty or too long");
+        return usage(rt, b"STORE is empty or too long");
     }
-    if args::is(3, b"--list") {
-        return list_at(&folder[..n], count);
+    if args::is(rt, 3, b"--list") {
+        return list_at(rt, &folder[..n], count);
     }
-    file_args(&folder[..n], count)
+    file_args(rt, &folder[..n], count)
 }

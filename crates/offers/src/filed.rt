@@ -6,6 +6,7 @@ ghost use Rattle.offers.specs.Filed.{plainly, told_of, FilesTold};
 
 use crate::kept::Told;
 use calendar::dates::CalendarDays;
+use desk::Host;
 use disk::{CORRECTIONS, ENTRIES, FILES, REGULAR, TABLE};
 use faults::cause::{Cause, FaultPlace};
 use filing::checking::answer::Answer;
@@ -23,10 +24,17 @@ fn plain(a: Answer, value: usize) -> Told
     }
 }
 
-fn fault(path: &[u8], kind: Filable, text: &[u8], at: FaultPlace, cause: Cause) -> Told
+fn fault(
+    rt: &impl Host,
+    path: &[u8],
+    kind: Filable,
+    text: &[u8],
+    at: FaultPlace,
+    cause: Cause,
+) -> Told
     ensures { result ≡ told_of (Fault at cause) }
 {
-    words::fault::refused(path, kind.file_kind(), text, at, cause);
+    words::fault::refused(rt, path, kind.file_kind(), text, at, cause);
     Told {
         number: 4,
         value: at.place,
@@ -35,12 +43,12 @@ fn fault(path: &[u8], kind: Filable, text: &[u8], at: FaultPlace, cause: Cause) 
     }
 }
 
-fn as_told(path: &[u8], kind: Filable, text: &[u8], a: Answer) -> Told
+fn as_told(rt: &impl Host, path: &[u8], kind: Filable, text: &[u8], a: Answer) -> Told
     ensures { result ≡ told_of a }
 {
     match a {
         Answer::Filed(count) => plain(a, count),
-        Answer::Fault(at, cause) => fault(path, kind, text, at, cause),
+        Answer::Fault(at, cause) => fault(rt, path, kind, text, at, cause),
         Answer::Unreadable => plain(a, 0),
         Answer::NoCode => plain(a, 0),
         Answer::NoDay => plain(a, 0),
@@ -51,6 +59,7 @@ fn as_told(path: &[u8], kind: Filable, text: &[u8], a: Answer) -> Told
 
 // Files a file, and tells what filing answers.
 pub fn file(
+    rt: &impl Host,
     path: &[u8],
     table: &[u8; TABLE],
     files: &mut [u8; FILES],
@@ -75,5 +84,5 @@ pub fn file(
         day,
         text,
     );
-    as_told(path, kind, text, answer)
+    as_told(rt, path, kind, text, answer)
 }

@@ -1,6 +1,7 @@
 // The offers of a command line as a list: PUBLISHER, a tab, PATH and a zero each.
 use commands::LONGEST;
-use desk::{args, copy_in};
+use desk::place::PATH_MAX;
+use desk::{Host, args, copy_in};
 use fields::code::{Code, CodeRead};
 
 #[derive(Drop)]
@@ -20,9 +21,9 @@ fn publisher(word: &[u8]) -> [u8; 4] {
     code
 }
 
-fn publisher_at(k: usize) -> [u8; 4] {
-    let mut word = io::buffer();
-    let n = args::path(k, &mut word);
+fn publisher_at(rt: &impl Host, k: usize) -> [u8; 4] {
+    let mut word = [0u8; PATH_MAX];
+    let n = args::path(rt, k, &mut word);
     publisher(&word[..n])
 }
 
@@ -34,16 +35,25 @@ fn put(list: &mut [u8], at: usize, code: &[u8; 4], path: &[u8]) -> usize {
     copy_in(list, c, b"\0")
 }
 
-fn put_arg(list: &mut [u8; LONGEST], at: usize, code: &[u8; 4], k: usize) -> Gathered {
-    let mut path = io::buffer();
-    let n = args::path(k, &mut path);
-    if os::errno() != 0 {
-        words::failed(b"a path");
-        return Gathered::TooLong;
-    }
+fn put_arg(
+    rt: &impl Host,
+    list: &mut [u8; LONGEST],
+    at: usize,
+    code: &[u8; 4],
+    k: usize,
+) -> Gathered {
+    let mut path = [0u8; PATH_MAX];
+    let n = match args::read(rt, k, &mut path) {
+        Ok(n) => n,
+        Err(why) => {
+            words::failed(rt, b"a path", args::reason(why));
+            return Gathered::TooLong;
+        }
+    };
     let next = put(list, at, code, &path[..n]);
     if LONGEST <= next {
         words::complain(
+            rt,
             b"file",
             b"too many files for one command; give them by --list",
         );
@@ -53,12 +63,12 @@ fn put_arg(list: &mut [u8; LONGEST], at: usize, code: &[u8; 4], k: usize) -> Gat
 }
 
 // The offers of the arguments from `from` to `end`, whose publisher is argument 3.
-pub fn gather(list: &mut [u8; LONGEST], from: usize, end: usize) -> Gathered {
-    let code = publisher_at(3);
+pub fn gather(rt: &impl Host, list: &mut [u8; LONGEST], from: usize, end: usize) -> Gathered {
+    let code = publisher_at(rt, 3);
     let mut at = 0;
     let mut k = from;
     while k < end {
-        match put_arg(list, at, &code, k) {
+        match put_arg(rt, list, at, &code, k) {
             Gathered::TooLong => {
                 return Gathered::TooLong;
             }

@@ -9,7 +9,7 @@ use crate::kept::Told;
 use calendar::dates::CalendarDays;
 use commands::given::Given;
 use commands::{LONGEST, given};
-use desk::within;
+use desk::{Host, within};
 use disk::{CORRECTIONS, ENTRIES, FILES, REGULAR, TABLE};
 use fields::code::{Code, CodeRead};
 use filing::entering::kind::Filable;
@@ -82,6 +82,7 @@ fn is_code(publisher: &[u8]) -> bool {
 }
 
 fn file_text(
+    rt: &impl Host,
     path: &[u8],
     h: Heading,
     publisher: &[u8],
@@ -100,6 +101,7 @@ fn file_text(
     let kind = h.kind;
     let day = h.day;
     filed::file(
+        rt,
         path,
         table,
         files,
@@ -115,6 +117,7 @@ fn file_text(
 
 // Offers the file at a path. With a wrong publisher or name there is no need to look into it.
 pub fn offer(
+    rt: &impl Host,
     publisher: &[u8],
     path: &[u8],
     text: &mut [u8; LONGEST],
@@ -129,6 +132,7 @@ pub fn offer(
     let h = heading_of(path);
     if !(is_code(publisher) & h.right) {
         return Offered::Answer(file_text(
+            rt,
             path,
             h,
             publisher,
@@ -141,9 +145,10 @@ pub fn offer(
             entries,
         ));
     }
-    match given::load(path, text) {
+    match given::load(rt, path, text) {
         Given::Unreadable => Offered::Unreadable,
         Given::Bytes(n) => Offered::Answer(file_text(
+            rt,
             path,
             h,
             publisher,

@@ -3,36 +3,41 @@ use crate::{asked, compared, table};
 use asking::answering::figure;
 use asking::answering::figure::FigureAnswer;
 use commands::{end, opened};
-use desk::{args, copy_in, page};
+use desk::place::PATH_MAX;
+use desk::{Host, args, copy_in, page};
 use disk::{CORRECTIONS, ENTRIES, FILES, REGULAR, TABLE};
-use libc::{STDERR_FILENO, STDOUT_FILENO};
 use page::{Page, ROOM};
 use reworking::rework::Reworked;
 use store::numbers::lines::NUMBERS;
 
-fn entries_are(n: usize) {
+fn entries_are(rt: &impl Host, n: usize) {
     if n == 1 {
-        words::text(b" stored entry is");
+        words::text(rt, b" stored entry is");
         return;
     }
-    words::text(b" stored entries are");
+    words::text(rt, b" stored entries are");
 }
 
-fn warn(folder: &[u8], differ: usize) {
-    words::text(b"dagskimra: ");
-    words::text(folder);
-    words::text(b": ");
-    io::print_decimal(STDERR_FILENO, differ as u64);
-    entries_are(differ);
+fn warn(rt: &impl Host, folder: &[u8], differ: usize) {
+    words::text(rt, b"dagskimra: ");
+    words::text(rt, folder);
+    words::text(rt, b": ");
+    words::number(rt, differ);
+    entries_are(rt, differ);
     words::text(
+        rt,
         b" not what the journals lead to: the table was changed behind the store's back. 'dagskimra rework ",
     );
-    words::text(folder);
-    words::text(b"' works the entries out again and lists those that change\n");
+    words::text(rt, folder);
+    words::text(
+        rt,
+        b"' works the entries out again and lists those that change\n",
+    );
 }
 
 // The lines of those that differ: their entries as stored, and as they are worked out in a copy.
 fn print_differing<'a>(
+    rt: &impl Host,
     first: Page,
     room: &mut [u8; ROOM],
     lines: &[u8; TABLE],
@@ -46,12 +51,15 @@ fn print_differing<'a>(
     copy_in(&mut worked, 0, entries);
     match asked::reworked(lines, files, regular, corrections, &mut worked, &mut list) {
         Reworked::Unreadable => first,
-        Reworked::Changed(n) => compared::listed(first, room, &list, n, lines, entries, &worked),
+        Reworked::Changed(n) => compared::listed(
+            rt, first, room, &list, n, lines, entries, &worked,
+        ),
     }
 }
 
 // The figure, and the lines of those that differ.
 fn print<'a>(
+    rt: &impl Host,
     folder: &[u8],
     lines: &[u8; TABLE],
     files: &'a [u8; FILES],
@@ -62,22 +70,33 @@ fn print<'a>(
 ) -> u8 {
     let mut room = [0u8; ROOM];
     let p = compared::count(
-        page::begin(STDOUT_FILENO),
+        rt,
+        page::begin(page::Stream::Out),
         &mut room,
         b"differ",
         differ,
         table::count(lines),
     );
     if differ == 0 {
-        return end::done(p, &room, 0);
+        return end::done(rt, p, &room, 0);
     }
-    warn(folder, differ);
-    let q = print_differing(p, &mut room, lines, files, regular, corrections, entries);
-    end::done(q, &room, 1)
+    warn(rt, folder, differ);
+    let q = print_differing(
+        rt,
+        p,
+        &mut room,
+        lines,
+        files,
+        regular,
+        corrections,
+        entries,
+    );
+    end::done(rt, q, &room, 1)
 }
 
 // What the library answers is what is printed.
 fn print_figure<'a>(
+    rt: &impl Host,
     folder: &[u8],
     lines: &[u8; TABLE],
     files: &'a [u8; FILES],
@@ -86,18 +105,28 @@ fn print_figure<'a>(
     entries: &[u8; ENTRIES],
 ) -> u8 {
     match figure::figure(lines, files, regular, corrections, entries) {
-        FigureAnswer::Unreadable => opened::damaged(folder),
-        FigureAnswer::Differ(n) => print(folder, lines, files, regular, corrections, entries, n),
+        FigureAnswer::Unreadable => opened::damaged(rt, folder),
+        FigureAnswer::Differ(n) => print(
+            rt,
+            folder,
+            lines,
+            files,
+            regular,
+            corrections,
+            entries,
+            n,
+        ),
     }
 }
 
-fn figure_in(folder: &[u8]) -> u8 {
+fn figure_in(rt: &impl Host, folder: &[u8]) -> u8 {
     let mut lines = [0u8; TABLE];
     let mut files = [0u8; FILES];
     let mut regular = [0u8; REGULAR];
     let mut corrections = [0u8; CORRECTIONS];
     let mut entries = [0u8; ENTRIES];
     let status = opened::open(
+        rt,
         folder,
         &mut lines,
         &mut files,
@@ -108,17 +137,17 @@ fn figure_in(folder: &[u8]) -> u8 {
     if status != 0 {
         return status;
     }
-    print_figure(folder, &lines, &files, &regular, &corrections, &entries)
+    print_figure(rt, folder, &lines, &files, &regular, &corrections, &entries)
 }
 
-pub fn run(count: usize) -> u8 {
+pub fn run(rt: &impl Host, count: usize) -> u8 {
     if count != 3 {
-        return words::usage(b"figure takes a folder", b"figure STORE");
+        return words::usage(rt, b"figure takes a folder", b"figure STORE");
     }
-    let mut folder = io::buffer();
-    let n = args::path(2, &mut folder);
+    let mut folder = [0u8; PATH_MAX];
+    let n = args::path(rt, 2, &mut folder);
     if n == 0 {
-        return words::usage(b"STORE is empty or too long", b"figure STORE");
+        return words::usage(rt, b"STORE is empty or too long", b"figure STORE");
     }
-    figure_in(&folder[..n])
+    figure_in(rt, &folder[..n])
 }

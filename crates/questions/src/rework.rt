@@ -2,10 +2,10 @@
 // their count is printed. So nothing changes on the disk that is not listed, and with the last line all is done.
 use crate::{asked, compared, table};
 use commands::{end, opened};
-use desk::{args, copy_in, page};
+use desk::place::PATH_MAX;
+use desk::{Host, args, copy_in, page};
 use disk::saved::Loaded;
 use disk::{CORRECTIONS, ENTRIES, FILES, REGULAR, TABLE, lock, saved};
-use libc::STDOUT_FILENO;
 use page::ROOM;
 use reworking::rework::Reworked;
 use store::numbers::lines::NUMBERS;
@@ -23,6 +23,7 @@ pub enum Ended {
 
 // Writes the store, where there is something to write.
 fn keep(
+    rt: &impl Host,
     folder: &[u8],
     lines: &[u8; TABLE],
     files: &[u8; FILES],
@@ -35,7 +36,7 @@ fn keep(
     if own & (changed == 0) {
         return Ended::Changed(0);
     }
-    if saved::save(folder, lines, files, regular, corrections, entries) {
+    if saved::save(rt, folder, lines, files, regular, corrections, entries) {
         return Ended::Changed(changed);
     }
     Ended::Failed
@@ -43,6 +44,7 @@ fn keep(
 
 // Whether the lines of the first n places of the list could be printed; the reason has been told where not.
 fn list_changed(
+    rt: &impl Host,
     folder: &[u8],
     lines: &[u8; TABLE],
     before: &[u8; ENTRIES],
@@ -52,7 +54,8 @@ fn list_changed(
 ) -> bool {
     let mut room = [0u8; ROOM];
     let p = compared::listed(
-        page::begin(STDOUT_FILENO),
+        rt,
+        page::begin(page::Stream::Out),
         &mut room,
         list,
         n,
@@ -60,10 +63,11 @@ fn list_changed(
         before,
         entries,
     );
-    if end::done(p, &room, 0) == 0 {
+    if end::done(rt, p, &room, 0) == 0 {
         return true;
     }
     words::complain(
+        rt,
         folder,
         b"what changes can't be listed, and the store is as it was",
     );
@@ -73,6 +77,7 @@ fn list_changed(
 // Lists what changed, and then writes the store: afterwards nothing could tell it any more. `own` says that the entries were worked out
 // with this program's holiday list.
 fn settle(
+    rt: &impl Host,
     folder: &[u8],
     lines: &[u8; TABLE],
     files: &[u8; FILES],
@@ -84,14 +89,25 @@ fn settle(
     own: bool,
     n: usize,
 ) -> Ended {
-    if list_changed(folder, lines, before, entries, list, n) {
-        return keep(folder, lines, files, regular, corrections, entries, own, n);
+    if list_changed(rt, folder, lines, before, entries, list, n) {
+        return keep(
+            rt,
+            folder,
+            lines,
+            files,
+            regular,
+            corrections,
+            entries,
+            own,
+            n,
+        );
     }
     Ended::Failed
 }
 
 // Works out the entries of a store that has been loaded.
 fn rework_loaded<'a>(
+    rt: &impl Host,
     folder: &[u8],
     lines: &[u8; TABLE],
     files: &'a [u8; FILES],
@@ -106,6 +122,7 @@ fn rework_loaded<'a>(
     match asked::reworked(lines, files, regular, corrections, entries, &mut list) {
         Reworked::Unreadable => Ended::Damaged,
         Reworked::Changed(n) => settle(
+            rt,
             folder,
             lines,
             files,
@@ -121,12 +138,13 @@ fn rework_loaded<'a>(
 }
 
 // The same for the store in a folder.
-fn rework_stored(folder: &[u8], lines: &mut [u8; TABLE]) -> Ended {
+fn rework_stored(rt: &impl Host, folder: &[u8], lines: &mut [u8; TABLE]) -> Ended {
     let mut files = [0u8; FILES];
     let mut regular = [0u8; REGULAR];
     let mut corrections = [0u8; CORRECTIONS];
     let mut entries = [0u8; ENTRIES];
     match saved::load(
+        rt,
         folder,
         lines,
         &mut files,
@@ -137,6 +155,7 @@ fn rework_stored(folder: &[u8], lines: &mut [u8; TABLE]) -> Ended {
         Loaded::Missing => Ended::Failed,
         Loaded::Damaged => Ended::Damaged,
         Loaded::OtherList => rework_loaded(
+            rt,
             folder,
             lines,
             &files,
@@ -146,6 +165,7 @@ fn rework_stored(folder: &[u8], lines: &mut [u8; TABLE]) -> Ended {
             false,
         ),
         Loaded::Ready => rework_loaded(
+            rt,
             folder,
             lines,
             &files,
@@ -158,35 +178,35 @@ fn rework_stored(folder: &[u8], lines: &mut [u8; TABLE]) -> Ended {
 }
 
 // The last line, once all is done.
-fn print(n: usize, lines: &[u8; TABLE]) -> u8 {
+fn print(rt: &impl Host, n: usize, lines: &[u8; TABLE]) -> u8 {
     let mut room = [0u8; ROOM];
-    let p = page::begin(STDOUT_FILENO);
-    let q = compared::count(p, &mut room, b"changed", n, table::count(lines));
-    end::done(q, &room, 0)
+    let p = page::begin(page::Stream::Out);
+    let q = compared::count(rt, p, &mut room, b"changed", n, table::count(lines));
+    end::done(rt, q, &room, 0)
 }
 
-fn rework_in(folder: &[u8]) -> u8 {
+fn rework_in(rt: &impl Host, folder: &[u8]) -> u8 {
     let mut lines = [0u8; TABLE];
-    if !lock::take(folder) {
+    if !lock::take(rt, folder) {
         return 2;
     }
-    let ended = rework_stored(folder, &mut lines);
-    lock::release(folder);
+    let ended = rework_stored(rt, folder, &mut lines);
+    lock::release(rt, folder);
     match ended {
         Ended::Failed => 2,
-        Ended::Damaged => opened::damaged(folder),
-        Ended::Changed(n) => print(n, &lines),
+        Ended::Damaged => opened::damaged(rt, folder),
+        Ended::Changed(n) => print(rt, n, &lines),
     }
 }
 
-pub fn run(count: usize) -> u8 {
+pub fn run(rt: &impl Host, count: usize) -> u8 {
     if count != 3 {
-        return words::usage(b"rework takes a folder", b"rework STORE");
+        return words::usage(rt, b"rework takes a folder", b"rework STORE");
     }
-    let mut folder = io::buffer();
-    let n = args::path(2, &mut folder);
+    let mut folder = [0u8; PATH_MAX];
+    let n = args::path(rt, 2, &mut folder);
     if n == 0 {
-        return words::usage(b"STORE is empty or too long", b"rework STORE");
+        return words::usage(rt, b"STORE is empty or too long", b"rework STORE");
     }
-    rework_in(&folder[..n])
+    rework_in(rt, &folder[..n])
 }

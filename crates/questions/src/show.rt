@@ -4,10 +4,10 @@ ghost use Rattle.questions.specs.Shown.{entry_wanted, file_number};
 
 use crate::{asked, named, table};
 use commands::{arrivals, end, opened};
-use desk::{args, page};
+use desk::place::PATH_MAX;
+use desk::{Host, args, page};
 use disk::{CORRECTIONS, ENTRIES, FILES, REGULAR, TABLE};
 use entries::entry::Entry;
-use libc::STDOUT_FILENO;
 use page::{Page, ROOM};
 use store::numbers::find::FoundLine;
 use text::Spelt;
@@ -41,15 +41,23 @@ fn entry_of<'a>(
 }
 
 // One line: NUMBER HOLDER LAST OPEN
-fn line(first: Page, room: &mut [u8; ROOM], lines: &[u8], i: usize, e: Entry) -> Page {
-    let mut p = shown::number::number(first, room, table::number_at(lines, i));
-    p = page::tab(p, room);
-    p = shown::entry::entry(p, room, e);
-    page::line_end(p, room)
+fn line(
+    rt: &impl Host,
+    first: Page,
+    room: &mut [u8; ROOM],
+    lines: &[u8],
+    i: usize,
+    e: Entry,
+) -> Page {
+    let mut p = shown::number::number(rt, first, room, table::number_at(lines, i));
+    p = page::tab(rt, p, room);
+    p = shown::entry::entry(rt, p, room, e);
+    page::line_end(rt, p, room)
 }
 
 // Each number of the table.
 fn print_all<'a>(
+    rt: &impl Host,
     first: Page,
     room: &mut [u8; ROOM],
     a: Wanted,
@@ -64,17 +72,17 @@ fn print_all<'a>(
     let mut i = 0;
     while i < n {
         let e = entry_of(a, lines, files, regular, corrections, entries, i);
-        p = line(p, room, lines, i, e);
+        p = line(rt, p, room, lines, i, e);
         i += 1;
     }
     p
 }
 
 // WORD `refused` 12
-fn unknown(first: Page, room: &mut [u8; ROOM], word: &[u8]) -> Page {
-    words::refusal::refused(word, 12);
-    let p = page::text(first, room, word);
-    page::text(p, room, b"\trefused\t12\n")
+fn unknown(rt: &impl Host, first: Page, room: &mut [u8; ROOM], word: &[u8]) -> Page {
+    words::refusal::refused(rt, word, 12);
+    let p = page::text(rt, first, room, word);
+    page::text(rt, p, room, b"\trefused\t12\n")
 }
 
 // A page, and whether all was known so far.
@@ -86,6 +94,7 @@ struct Told {
 
 // The line of one word.
 fn print_word<'a>(
+    rt: &impl Host,
     t: Told,
     room: &mut [u8; ROOM],
     a: Wanted,
@@ -99,13 +108,13 @@ fn print_word<'a>(
     let p = t.page;
     match named::line_of(lines, shown::number::read(word)) {
         FoundLine::Unknown => Told {
-            page: unknown(p, room, word),
+            page: unknown(rt, p, room, word),
             known: false,
         },
         FoundLine::At(i) => {
             let e = entry_of(a, lines, files, regular, corrections, entries, i);
             Told {
-                page: line(p, room, lines, i, e),
+                page: line(rt, p, room, lines, i, e),
                 known: t.known,
             }
         }
@@ -114,6 +123,7 @@ fn print_word<'a>(
 
 // The line of the word at a place of the arguments.
 fn print_arg<'a>(
+    rt: &impl Host,
     t: Told,
     room: &mut [u8; ROOM],
     a: Wanted,
@@ -124,9 +134,10 @@ fn print_arg<'a>(
     corrections: &'a [u8],
     entries: &[u8],
 ) -> Told {
-    let mut word = io::buffer();
-    let n = args::path(k, &mut word);
+    let mut word = [0u8; PATH_MAX];
+    let n = args::path(rt, k, &mut word);
     print_word(
+        rt,
         t,
         room,
         a,
@@ -141,6 +152,7 @@ fn print_arg<'a>(
 
 // Each number that is named.
 fn print_named<'a>(
+    rt: &impl Host,
     first: Told,
     room: &mut [u8; ROOM],
     a: Wanted,
@@ -154,13 +166,25 @@ fn print_named<'a>(
     let end = a.end;
     let mut k = a.from;
     while k < end {
-        t = print_arg(t, room, a, k, lines, files, regular, corrections, entries);
+        t = print_arg(
+            rt,
+            t,
+            room,
+            a,
+            k,
+            lines,
+            files,
+            regular,
+            corrections,
+            entries,
+        );
         k += 1;
     }
     t
 }
 
 fn print<'a>(
+    rt: &impl Host,
     a: Wanted,
     lines: &[u8; TABLE],
     files: &'a [u8; FILES],
@@ -169,31 +193,52 @@ fn print<'a>(
     entries: &[u8; ENTRIES],
 ) -> u8 {
     let mut room = [0u8; ROOM];
-    let p = page::begin(STDOUT_FILENO);
+    let p = page::begin(page::Stream::Out);
     if a.end <= a.from {
-        let q = print_all(p, &mut room, a, lines, files, regular, corrections, entries);
-        return end::done(q, &room, 0);
+        let q = print_all(
+            rt,
+            p,
+            &mut room,
+            a,
+            lines,
+            files,
+            regular,
+            corrections,
+            entries,
+        );
+        return end::done(rt, q, &room, 0);
     }
     let t = Told {
         page: p,
         known: true,
     };
-    let u = print_named(t, &mut room, a, lines, files, regular, corrections, entries);
+    let u = print_named(
+        rt,
+        t,
+        &mut room,
+        a,
+        lines,
+        files,
+        regular,
+        corrections,
+        entries,
+    );
     let q = u.page;
     if u.known {
-        return end::done(q, &room, 0);
+        return end::done(rt, q, &room, 0);
     }
-    end::done(q, &room, 1)
+    end::done(rt, q, &room, 1)
 }
 
 // There is no such file.
-fn beyond(folder: &[u8]) -> u8 {
-    words::refusal::refused(folder, 7);
-    end::refused(7)
+fn beyond(rt: &impl Host, folder: &[u8]) -> u8 {
+    words::refusal::refused(rt, folder, 7);
+    end::refused(rt, 7)
 }
 
 // Prints, unless there is no file to show the entries before.
 fn print_or_not<'a>(
+    rt: &impl Host,
     folder: &[u8],
     a: Wanted,
     lines: &[u8; TABLE],
@@ -203,21 +248,22 @@ fn print_or_not<'a>(
     entries: &[u8; ENTRIES],
 ) -> u8 {
     if a.stored {
-        return print(a, lines, files, regular, corrections, entries);
+        return print(rt, a, lines, files, regular, corrections, entries);
     }
     if arrivals::count(files) <= a.files {
-        return beyond(folder);
+        return beyond(rt, folder);
     }
-    print(a, lines, files, regular, corrections, entries)
+    print(rt, a, lines, files, regular, corrections, entries)
 }
 
-fn show_in(folder: &[u8], a: Wanted) -> u8 {
+fn show_in(rt: &impl Host, folder: &[u8], a: Wanted) -> u8 {
     let mut lines = [0u8; TABLE];
     let mut files = [0u8; FILES];
     let mut regular = [0u8; REGULAR];
     let mut corrections = [0u8; CORRECTIONS];
     let mut entries = [0u8; ENTRIES];
     let status = opened::open(
+        rt,
         folder,
         &mut lines,
         &mut files,
@@ -228,11 +274,20 @@ fn show_in(folder: &[u8], a: Wanted) -> u8 {
     if status != 0 {
         return status;
     }
-    print_or_not(folder, a, &lines, &files, &regular, &corrections, &entries)
+    print_or_not(
+        rt,
+        folder,
+        a,
+        &lines,
+        &files,
+        &regular,
+        &corrections,
+        &entries,
+    )
 }
 
-fn usage(wrong: &[u8]) -> u8 {
-    words::usage(wrong, b"show STORE [--before N] [NUMBER...]")
+fn usage(rt: &impl Host, wrong: &[u8]) -> u8 {
+    words::usage(rt, wrong, b"show STORE [--before N] [NUMBER...]")
 }
 
 // The number of a file, from 1; 0 where the word is none. Nine digits are enough for any.
@@ -251,20 +306,23 @@ fn file_number(word: &[u8]) -> u64
     n
 }
 
-fn file_number_at(k: usize) -> u64 {
-    let mut word = io::buffer();
-    let n = args::path(k, &mut word);
+fn file_number_at(rt: &impl Host, k: usize) -> u64 {
+    let mut word = [0u8; PATH_MAX];
+    let n = args::path(rt, k, &mut word);
     file_number(&word[..n])
 }
 
 // `show STORE --before N ..`
-fn show_before(folder: &[u8], count: usize) -> u8 {
+fn show_before(rt: &impl Host, folder: &[u8], count: usize) -> u8 {
     if count < 5 {
-        return usage(b"--before takes the number of a file");
+        return usage(rt, b"--before takes the number of a file");
     }
-    let n = file_number_at(4);
+    let n = file_number_at(rt, 4);
     if n < 1 {
-        return usage(b"--before takes the number of a file, as 'files' counts them from 1");
+        return usage(
+            rt,
+            b"--before takes the number of a file, as 'files' counts them from 1",
+        );
     }
     let before = n as usize - 1;
     let a = Wanted {
@@ -273,30 +331,30 @@ fn show_before(folder: &[u8], count: usize) -> u8 {
         from: 5,
         end: count,
     };
-    show_in(folder, a)
+    show_in(rt, folder, a)
 }
 
-fn show_now(folder: &[u8], count: usize) -> u8 {
+fn show_now(rt: &impl Host, folder: &[u8], count: usize) -> u8 {
     let a = Wanted {
         stored: true,
         files: 0,
         from: 3,
         end: count,
     };
-    show_in(folder, a)
+    show_in(rt, folder, a)
 }
 
-pub fn run(count: usize) -> u8 {
+pub fn run(rt: &impl Host, count: usize) -> u8 {
     if count < 3 {
-        return usage(b"show takes a folder");
+        return usage(rt, b"show takes a folder");
     }
-    let mut folder = io::buffer();
-    let n = args::path(2, &mut folder);
+    let mut folder = [0u8; PATH_MAX];
+    let n = args::path(rt, 2, &mut folder);
     if n == 0 {
-        return usage(b"STORE is empty or too long");
+        return usage(rt, b"STORE is empty or too long");
     }
-    if args::is(3, b"--before") {
-        return show_before(&folder[..n], count);
+    if args::is(rt, 3, b"--before") {
+        return show_before(rt, &folder[..n], count);
     }
-    show_now(&folder[..n], count)
+    show_now(rt, &folder[..n], count)
 }

@@ -3,22 +3,23 @@ use asking::looks::LookedRecord;
 use asking::record;
 use asking::record::{Asked, AskedRecord};
 use commands::{end, opened};
-use desk::{args, page};
+use desk::place::PATH_MAX;
+use desk::{Host, args, page};
 use disk::{CORRECTIONS, ENTRIES, FILES, REGULAR, TABLE};
-use libc::STDOUT_FILENO;
 use page::{Page, ROOM};
 use shown::piece;
 use store::journals::records::Journal;
 
-fn letter(p: Page, room: &mut [u8; ROOM], which: Journal) -> Page {
+fn letter(rt: &impl Host, p: Page, room: &mut [u8; ROOM], which: Journal) -> Page {
     match which {
-        Journal::Regular => page::text(p, room, b"R\t"),
-        Journal::Correction => page::text(p, room, b"C\t"),
+        Journal::Regular => page::text(rt, p, room, b"R\t"),
+        Journal::Correction => page::text(rt, p, room, b"C\t"),
     }
 }
 
 // JOURNAL PLACE PUBLISHER DAY PLACE-IN-FILE VERDICT, and a tab
 fn heading(
+    rt: &impl Host,
     first: Page,
     room: &mut [u8; ROOM],
     which: Journal,
@@ -26,21 +27,22 @@ fn heading(
     r: AskedRecord,
 ) -> Page {
     let verdict = r.verdict;
-    let mut p = letter(first, room, which);
-    p = page::number(p, room, place as u64);
-    p = page::tab(p, room);
-    p = piece::code(p, room, r.publisher);
-    p = page::tab(p, room);
-    p = piece::date(p, room, r.day);
-    p = page::tab(p, room);
-    p = page::number(p, room, r.place as u64);
-    p = page::tab(p, room);
-    p = page::number(p, room, verdict::verdicts::number(verdict) as u64);
-    page::tab(p, room)
+    let mut p = letter(rt, first, room, which);
+    p = page::number(rt, p, room, place as u64);
+    p = page::tab(rt, p, room);
+    p = piece::code(rt, p, room, r.publisher);
+    p = page::tab(rt, p, room);
+    p = piece::date(rt, p, room, r.day);
+    p = page::tab(rt, p, room);
+    p = page::number(rt, p, room, r.place as u64);
+    p = page::tab(rt, p, room);
+    p = page::number(rt, p, room, verdict::verdicts::number(verdict) as u64);
+    page::tab(rt, p, room)
 }
 
 // The same, and the record.
 fn line<'a>(
+    rt: &impl Host,
     first: Page,
     room: &mut [u8; ROOM],
     which: Journal,
@@ -49,10 +51,10 @@ fn line<'a>(
     regular: &'a [u8],
     corrections: &'a [u8],
 ) -> Page {
-    let p = heading(first, room, which, place, r);
+    let p = heading(rt, first, room, which, place, r);
     let shown = Asked::Record(which, place, r);
-    let q = page::text(p, room, record::part(regular, corrections, shown));
-    page::line_end(q, room)
+    let q = page::text(rt, p, room, record::part(regular, corrections, shown));
+    page::line_end(rt, q, room)
 }
 
 // A page, and whether there are records left.
@@ -72,6 +74,7 @@ fn end_of(p: Page) -> Walk {
 
 // The record at a place.
 fn print_one<'a>(
+    rt: &impl Host,
     w: Walk,
     room: &mut [u8; ROOM],
     lines: &[u8],
@@ -86,7 +89,7 @@ fn print_one<'a>(
         LookedRecord::Beyond => end_of(p),
         LookedRecord::Unshowable => end_of(p),
         LookedRecord::Record(j, at, r) => Walk {
-            page: line(p, room, j, at, r, regular, corrections),
+            page: line(rt, p, room, j, at, r, regular, corrections),
             more: true,
         },
     }
@@ -94,6 +97,7 @@ fn print_one<'a>(
 
 // The records of a journal, which takes `most` of them.
 fn print_journal<'a>(
+    rt: &impl Host,
     first: Page,
     room: &mut [u8; ROOM],
     lines: &[u8],
@@ -109,7 +113,17 @@ fn print_journal<'a>(
     };
     let mut place = 0;
     while place < most {
-        w = print_one(w, room, lines, files, regular, corrections, which, place);
+        w = print_one(
+            rt,
+            w,
+            room,
+            lines,
+            files,
+            regular,
+            corrections,
+            which,
+            place,
+        );
         if !w.more {
             return w.page;
         }
@@ -119,6 +133,7 @@ fn print_journal<'a>(
 }
 
 fn print<'a>(
+    rt: &impl Host,
     lines: &[u8; TABLE],
     files: &'a [u8; FILES],
     regular: &'a [u8; REGULAR],
@@ -126,7 +141,8 @@ fn print<'a>(
 ) -> u8 {
     let mut room = [0u8; ROOM];
     let p = print_journal(
-        page::begin(STDOUT_FILENO),
+        rt,
+        page::begin(page::Stream::Out),
         &mut room,
         lines,
         files,
@@ -136,6 +152,7 @@ fn print<'a>(
         store::journals::records::REPORTS,
     );
     let q = print_journal(
+        rt,
         p,
         &mut room,
         lines,
@@ -145,16 +162,17 @@ fn print<'a>(
         Journal::Correction,
         store::journals::records::CORRECTIONS,
     );
-    end::done(q, &room, 0)
+    end::done(rt, q, &room, 0)
 }
 
-fn verdicts_in(folder: &[u8]) -> u8 {
+fn verdicts_in(rt: &impl Host, folder: &[u8]) -> u8 {
     let mut lines = [0u8; TABLE];
     let mut files = [0u8; FILES];
     let mut regular = [0u8; REGULAR];
     let mut corrections = [0u8; CORRECTIONS];
     let mut entries = [0u8; ENTRIES];
     let status = opened::open(
+        rt,
         folder,
         &mut lines,
         &mut files,
@@ -165,17 +183,17 @@ fn verdicts_in(folder: &[u8]) -> u8 {
     if status != 0 {
         return status;
     }
-    print(&lines, &files, &regular, &corrections)
+    print(rt, &lines, &files, &regular, &corrections)
 }
 
-pub fn run(count: usize) -> u8 {
+pub fn run(rt: &impl Host, count: usize) -> u8 {
     if count != 3 {
-        return words::usage(b"verdicts takes a folder", b"verdicts STORE");
+        return words::usage(rt, b"verdicts takes a folder", b"verdicts STORE");
     }
-    let mut folder = io::buffer();
-    let n = args::path(2, &mut folder);
+    let mut folder = [0u8; PATH_MAX];
+    let n = args::path(rt, 2, &mut folder);
     if n == 0 {
-        return words::usage(b"STORE is empty or too long", b"verdicts STORE");
+        return words::usage(rt, b"STORE is empty or too long", b"verdicts STORE");
     }
-    verdicts_in(&folder[..n])
+    verdicts_in(rt, &folder[..n])
 }

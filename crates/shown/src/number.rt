@@ -3,34 +3,34 @@ ghost use Rattle.std.specs.Prelude.{◌≡◌};
 ghost use Rattle.fields.specs.Number.{digits_field_of};
 ghost use Rattle.shown.specs.Named.{beside_first, number_named};
 
-use desk::page;
+use desk::{Host, page};
 use fields::number::{Digits, DigitsRead, Number, NumberRead};
 use page::{Page, ROOM};
 
 // All bytes but the first.
-fn behind_first(p: Page, room: &mut [u8; ROOM], bytes: &[u8]) -> Page {
+fn behind_first(rt: &impl Host, p: Page, room: &mut [u8; ROOM], bytes: &[u8]) -> Page {
     if bytes.len() < 1 {
         return p;
     }
-    page::text(p, room, &bytes[1..])
+    page::text(rt, p, room, &bytes[1..])
 }
 
 // The digits behind the leading 1.
-fn digits(p: Page, room: &mut [u8; ROOM], d: Digits) -> Page {
+fn digits(rt: &impl Host, p: Page, room: &mut [u8; ROOM], d: Digits) -> Page {
     let mut spelt = [0u8; 20];
     let k = io::decimal(d.0, &mut spelt);
-    behind_first(p, room, &spelt[..k])
+    behind_first(rt, p, room, &spelt[..k])
 }
 
-pub fn number(p: Page, room: &mut [u8; ROOM], n: Number) -> Page {
+pub fn number(rt: &impl Host, p: Page, room: &mut [u8; ROOM], n: Number) -> Page {
     let first = n.first;
     let last = n.last;
-    let q = digits(p, room, first);
+    let q = digits(rt, p, room, first);
     if last.is_empty() {
         return q;
     }
-    let r = page::text(q, room, b"-");
-    digits(r, room, last)
+    let r = page::text(rt, q, room, b"-");
+    digits(rt, r, room, last)
 }
 
 // Two fields as a number; a first field of no digits is none.

@@ -1,5 +1,6 @@
 // The fields of a record, as the specification's tables name them (4.5.1, 4.5.2.3, 4.7.8).
 use crate::text;
+use desk::Host;
 use records::names::kind::FileKind;
 
 #[derive(Drop)]
@@ -97,30 +98,30 @@ fn part_of(kind: FileKind, pos: usize) -> Part {
     }
 }
 
-fn say(field: Field) {
+fn say(rt: &impl Host, field: Field) {
     match field {
-        Field::First => text(b"number field 1"),
-        Field::Last => text(b"number field 2"),
-        Field::Date => text(b"porting date"),
-        Field::Gaining => text(b"gaining network"),
-        Field::Losing => text(b"losing network"),
-        Field::Status => text(b"status"),
-        Field::Code => text(b"correction code"),
-        Field::U => text(b"U:"),
-        Field::K => text(b"K:"),
-        Field::Asking => text(b"asking network"),
-        Field::Start => text(b"start of the request"),
-        Field::Comma => text(b"comma"),
-        Field::End => text(b"CR, end of the record"),
+        Field::First => text(rt, b"number field 1"),
+        Field::Last => text(rt, b"number field 2"),
+        Field::Date => text(rt, b"porting date"),
+        Field::Gaining => text(rt, b"gaining network"),
+        Field::Losing => text(rt, b"losing network"),
+        Field::Status => text(rt, b"status"),
+        Field::Code => text(rt, b"correction code"),
+        Field::U => text(rt, b"U:"),
+        Field::K => text(rt, b"K:"),
+        Field::Asking => text(rt, b"asking network"),
+        Field::Start => text(rt, b"start of the request"),
+        Field::Comma => text(rt, b"comma"),
+        Field::End => text(rt, b"CR, end of the record"),
     }
 }
 
 // The name of the field at `pos`.
-pub fn name(kind: FileKind, pos: usize) {
-    say(of(kind, pos));
+pub fn name(rt: &impl Host, kind: FileKind, pos: usize) {
+    say(rt, of(kind, pos));
     match part_of(kind, pos) {
-        Part::U => text(b" of the U part"),
-        Part::K => text(b" of the K part"),
+        Part::U => text(rt, b" of the U part"),
+        Part::K => text(rt, b" of the K part"),
         Part::Neither => {}
     }
 }

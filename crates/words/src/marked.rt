@@ -1,6 +1,7 @@
 // A line of a file, shown with a mark under a part of it.
 use crate::span::part;
 use crate::text;
+use desk::Host;
 
 // As many bytes of a line are shown, and of a longer one as many before the mark.
 const WIDTH: usize = 150;
@@ -29,22 +30,22 @@ fn distance(from: usize, to: usize) -> usize {
     if to < from { 0 } else { to - from }
 }
 
-fn show_bytes(bytes: &[u8]) {
+fn show_bytes(rt: &impl Host, bytes: &[u8]) {
     let mut row = [0u8; WIDTH];
     let mut n = 0;
     while n < bytes.len() {
         if WIDTH <= n {
-            text(&row);
+            text(rt, &row);
             return;
         }
         row[n] = printable(bytes[n]);
         n += 1;
     }
-    text(part(&row, 0, n));
+    text(rt, part(&row, 0, n));
 }
 
 // Blanks up to the column `from`, and marks up to `to`, one at least.
-fn show_marks(from: usize, to: usize) {
+fn show_marks(rt: &impl Host, from: usize, to: usize) {
     let mut row = [b'^'; MARKS];
     let mut n = 0;
     while n < from {
@@ -55,7 +56,7 @@ fn show_marks(from: usize, to: usize) {
         n += 1;
     }
     let end = if n < to { to } else { n + 1 };
-    text(part(&row, 0, end));
+    text(rt, part(&row, 0, end));
 }
 
 // Where the window on a line begins: with the line, or as far before the mark as there is need.
@@ -66,26 +67,26 @@ fn window(len: usize, first: usize) -> usize {
     least(distance(WIDTH, len), distance(BEFORE, first))
 }
 
-fn show_where(some: bool, sign: &[u8]) {
+fn show_where(rt: &impl Host, some: bool, sign: &[u8]) {
     if some {
-        text(sign);
+        text(rt, sign);
     }
 }
 
 // The line, and below it a mark under the bytes from `first` up to `end`, or one mark where there are none. `..` stands for what is left
 // out of a long line. Of an empty line there is nothing to show.
-pub fn show(line: &[u8], first: usize, end: usize) {
+pub fn show(rt: &impl Host, line: &[u8], first: usize, end: usize) {
     if line.len() == 0 {
         return;
     }
     let from = window(line.len(), first);
     let rest = part(line, from, line.len());
-    text(b"    ");
-    show_where(0 < from, b"..");
-    show_bytes(rest);
-    show_where(WIDTH < rest.len(), b"..");
-    text(b"\n    ");
-    show_where(0 < from, b"  ");
-    show_marks(distance(from, first), least(distance(from, end), WIDTH));
-    text(b"\n");
+    text(rt, b"    ");
+    show_where(rt, 0 < from, b"..");
+    show_bytes(rt, rest);
+    show_where(rt, WIDTH < rest.len(), b"..");
+    text(rt, b"\n    ");
+    show_where(rt, 0 < from, b"  ");
+    show_marks(rt, distance(from, first), least(distance(from, end), WIDTH));
+    text(rt, b"\n");
 }
