@@ -80,33 +80,33 @@ fn is_weekday(s: &[u8], k: usize, date: Date) -> bool {
     check::same(here, text::piece(s, 32, k))
 }
 
-fn dashed(n: u64) {
-    input::say(b"-");
-    io::print_decimal(1, n / 10 % 10);
-    io::print_decimal(1, n % 10);
+fn dashed(rt: &impl Print, n: u64) {
+    input::say(rt, b"-");
+    input::say_number(rt, n / 10 % 10);
+    input::say_number(rt, n % 10);
 }
 
 // The date that is here, where another is stated.
-fn outcome(here: u64, ok: bool) {
-    input::ended(ok);
+fn outcome(rt: &impl Print, here: u64, ok: bool) {
+    input::ended(rt, ok);
     if ok {
         return;
     }
-    input::say(b", here ");
-    io::print_decimal(1, here / 10000);
-    dashed(here / 100);
-    dashed(here);
+    input::say(rt, b", here ");
+    input::say_number(rt, here / 10000);
+    dashed(rt, here / 100);
+    dashed(rt, here);
 }
 
-pub fn counted(s: &[u8]) {
+pub fn counted(rt: &impl Print, s: &[u8]) {
     let stated = date_at(s, 8);
     let on = after(found(date_at(s, 0)), (input::number(s, 32, 2) % 256) as u8);
     let more = (input::number(s, 32, 5) % 16) as u16;
     let here = dated(on % 40000 + more); // no day there is has a higher number
-    outcome(here, (here == eight(stated)) & is_weekday(s, 9, stated));
+    outcome(rt, here, (here == eight(stated)) & is_weekday(s, 9, stated));
 }
 
-pub fn free(s: &[u8]) {
+pub fn free(rt: &impl Print, s: &[u8]) {
     let date = date_at(s, 0);
-    input::ended((works(found(date)) == 0) & is_weekday(s, 23, date));
+    input::ended(rt, (works(found(date)) == 0) & is_weekday(s, 23, date));
 }

@@ -33,9 +33,12 @@ fn folded(what: u8, from: u16, to: u16, k: u8) -> u64 {
     h
 }
 
-pub fn compared(what: u8, numbers: &[u8]) {
+pub fn compared(rt: &impl Print, what: u8, numbers: &[u8]) {
     let from = (input::number(numbers, 32, 0) % 65536) as u16;
     let to = (input::number(numbers, 32, 1) % 65536) as u16;
     let k = (input::number(numbers, 32, 2) % 256) as u8;
-    input::ended(folded(what, from, to, k) == input::number(numbers, 32, 3));
+    input::ended(
+        rt,
+        folded(what, from, to, k) == input::number(numbers, 32, 3),
+    );
 }

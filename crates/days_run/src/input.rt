@@ -2,8 +2,13 @@
 use crate::{days, folds, keys};
 use text::Spelt;
 
-pub fn say(s: &[u8]) {
-    io::write_all(1, s);
+// What can't be written is left out.
+pub fn say(rt: &impl Print, s: &[u8]) {
+    let _ = rt.write_all(s);
+}
+
+pub fn say_number(rt: &impl Print, n: u64) {
+    let _ = desk::out::number(&mut std::io::writer(rt), n);
 }
 
 fn spelt(s: &[u8]) -> u64 {
@@ -25,21 +30,24 @@ pub fn wrapped(s: &[u8], k: usize) -> u64 {
 }
 
 // The end of a line: whether what is here is what is stated.
-pub fn ended(ok: bool) {
-    say(text::piece(b" ok| differs", 124, if ok { 0 } else { 1 }));
+pub fn ended(rt: &impl Print, ok: bool) {
+    say(
+        rt,
+        text::piece(b" ok| differs", 124, if ok { 0 } else { 1 }),
+    );
 }
 
-fn todo(what: u8, words: &[u8], numbers: &[u8]) {
+fn todo(rt: &impl Print, what: u8, words: &[u8], numbers: &[u8]) {
     match what {
-        43 => days::counted(words),
-        45 => days::free(words),
-        111 => keys::run(numbers),
-        _ => folds::compared(what, numbers),
+        43 => days::counted(rt, words),
+        45 => days::free(rt, words),
+        111 => keys::run(rt, numbers),
+        _ => folds::compared(rt, what, numbers),
     }
 }
 
 // The words are said, and what comes of the case.
-fn line(s: &[u8]) {
+fn line(rt: &impl Print, s: &[u8]) {
     if s.len() == 0 {
         return;
     }
@@ -48,12 +56,12 @@ fn line(s: &[u8]) {
         return;
     }
     let words = text::piece(s, 9, 1);
-    say(words);
-    todo(what, words, text::piece(s, 9, 2));
-    say(b"\n");
+    say(rt, words);
+    todo(rt, what, words, text::piece(s, 9, 2));
+    say(rt, b"\n");
 }
 
-pub fn lines(s: &[u8]) {
+pub fn lines(rt: &impl Print, s: &[u8]) {
     let mut at: usize = 0;
     while at < s.len() {
         let end = text::field_end(s, at, 10);
@@ -63,7 +71,7 @@ pub fn lines(s: &[u8]) {
         if s.len() <= end {
             return;
         }
-        line(&s[at..end]);
+        line(rt, &s[at..end]);
         at = end + 1;
     }
 }

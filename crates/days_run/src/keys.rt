@@ -32,17 +32,17 @@ fn fill(keys: &mut [u64], numbers: &[u8]) {
 }
 
 // The first or the second of two words.
-fn told(k: usize, first: bool) {
+fn told(rt: &impl Print, k: usize, first: bool) {
     let words =
         b": in order|: NOT in order|, same sum|, ANOTHER sum|, same bits|, OTHER bits|, others untouched|, others TOUCHED|, rises|, does not rise";
     let at = k % 5 * 2;
     let j = if first { at } else { at + 1 };
-    input::say(text::piece(words, 124, j));
+    input::say(rt, text::piece(words, 124, j));
 }
 
 // A second look, key by key: whether the first `n` are in order, their sum less what it was, the bits that are set an odd number of times in those
 // now and those that were, whether those behind them are as they were.
-fn looked(keys: &[u64], was: &[u64], n: usize) {
+fn looked(rt: &impl Print, keys: &[u64], was: &[u64], n: usize) {
     let mut ordered = true;
     let mut sum: u64 = 0;
     let mut bits: u64 = 0;
@@ -62,37 +62,37 @@ fn looked(keys: &[u64], was: &[u64], n: usize) {
         last = a;
         i += 1;
     }
-    told(0, ordered);
-    told(1, sum == 0);
-    told(2, bits == 0);
-    told(3, kept);
+    told(rt, 0, ordered);
+    told(rt, 1, sum == 0);
+    told(rt, 2, bits == 0);
+    told(rt, 3, kept);
 }
 
 // The first seven keys.
-fn print_first(keys: &[u64]) {
+fn print_first(rt: &impl Print, keys: &[u64]) {
     let mut i = 0;
     while i < keys.len() {
         if 7 <= i {
             return;
         }
-        input::say(b" ");
-        io::print_decimal(1, keys[i]);
+        input::say(rt, b" ");
+        input::say_number(rt, keys[i]);
         i += 1;
     }
 }
 
-fn show(keys: &[u64; ROOM], was: &[u64; ROOM], n: usize) {
-    io::print_decimal(1, n as u64);
-    looked(keys, was, n);
-    told(4, order::is_rising(keys, n));
-    print_first(keys);
+fn show(rt: &impl Print, keys: &[u64; ROOM], was: &[u64; ROOM], n: usize) {
+    input::say_number(rt, n as u64);
+    looked(rt, keys, was, n);
+    told(rt, 4, order::is_rising(keys, n));
+    print_first(rt, keys);
 }
 
-pub fn run(numbers: &[u8]) {
+pub fn run(rt: &impl Print, numbers: &[u8]) {
     let n = input::wrapped(numbers, 0) as usize;
     let mut keys = [0u64; ROOM];
     fill(&mut keys, numbers);
     let was = keys;
     order::sort(&mut keys, n);
-    show(&keys, &was, n);
+    show(rt, &keys, &was, n);
 }

@@ -1,6 +1,8 @@
 // The cases, line by line; the head of the file stdin says how one is written.
 use crate::{damage, examples, lines, show, writing};
+use desk::file;
 use records::names::kind::FileKind;
+use std::io::Read;
 
 // The byte that a sign stands for.
 fn plain(b: u8) -> u8 {
@@ -48,42 +50,42 @@ fn kind_of(letter: u8) -> FileKind {
 }
 
 // What a case asks for, done to its text, and what it names besides. A capital letter asks to be brief.
-fn todo(what: u8, kind: FileKind, text: &mut [u8], more: &[u8]) {
+fn todo(rt: &impl Print, what: u8, kind: FileKind, text: &mut [u8], more: &[u8]) {
     let brief = what < 97;
     match what {
-        108 => lines::one(kind, text),
-        110 => examples::name(text),
-        102 => examples::file(kind, text, more),
-        103 | 119 => writing::one(what, kind, text, more),
-        74 | 106 => damage::whole(kind, text, brief),
-        67 | 99 => damage::cut(kind, text, brief),
-        120 => damage::each_byte(kind, text, 0, false, true),
-        82 | 114 => damage::each_byte(kind, text, plain(first(more)), brief, false),
-        _ => show::word(show::NOTHING),
+        108 => lines::one(rt, kind, text),
+        110 => examples::name(rt, text),
+        102 => examples::file(rt, kind, text, more),
+        103 | 119 => writing::one(rt, what, kind, text, more),
+        74 | 106 => damage::whole(rt, kind, text, brief),
+        67 | 99 => damage::cut(rt, kind, text, brief),
+        120 => damage::each_byte(rt, kind, text, 0, false, true),
+        82 | 114 => damage::each_byte(rt, kind, text, plain(first(more)), brief, false),
+        _ => show::word(rt, show::NOTHING),
     }
 }
 
-fn answer(s: &[u8], what: u8, room: &mut [u8]) {
+fn answer(rt: &impl Print, s: &[u8], what: u8, room: &mut [u8]) {
     let n = spelt(text::piece(s, 9, 3), room);
     if n <= room.len() {
         let kind = kind_of(first(text::piece(s, 9, 1)));
-        todo(what, kind, &mut room[0..n], text::piece(s, 9, 4));
+        todo(rt, what, kind, &mut room[0..n], text::piece(s, 9, 4));
     }
 }
 
 // The words, and what comes of the case.
-fn line(s: &[u8]) {
+fn line(rt: &impl Print, s: &[u8]) {
     let what = first(s);
     if what == 35 {
         return;
     }
-    show::say(text::piece(s, 9, 2));
+    show::say(rt, text::piece(s, 9, 2));
     let mut room = [0u8; 1024];
-    answer(s, what, &mut room);
-    show::word(show::END);
+    answer(rt, s, what, &mut room);
+    show::word(rt, show::END);
 }
 
-fn all_lines(s: &[u8]) {
+fn all_lines(rt: &impl Print, s: &[u8]) {
     let mut at: usize = 0;
     while at < s.len() {
         let end = text::field_end(s, at, 10);
@@ -93,23 +95,23 @@ fn all_lines(s: &[u8]) {
         if s.len() <= end {
             return;
         }
-        line(&s[at..end]);
+        line(rt, &s[at..end]);
         at = end + 1;
     }
 }
 
-fn all(input: &mut [u8]) {
-    let n = io::read_full(0, input);
+fn all<F: Read>(rt: &impl Print, from: &mut F, input: &mut [u8]) {
+    let n = file::read_full(from, input);
     if n <= input.len() {
-        all_lines(&input[0..n]);
+        all_lines(rt, &input[0..n]);
     }
 }
 
-fn lend(input: &mut [u8; 300000]) {
-    all(input);
+fn lend<F: Read>(rt: &impl Print, from: &mut F, input: &mut [u8; 300000]) {
+    all(rt, from, input);
 }
 
-pub fn run() {
+pub fn run<F: Read>(rt: &impl Print, from: &mut F) {
     let mut input = [0u8; 300000];
-    lend(&mut input);
+    lend(rt, from, &mut input);
 }

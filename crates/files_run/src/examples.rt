@@ -6,12 +6,19 @@ use records::names::name::{Name, NameRead};
 
 // A line of the file at the place `i`. Said: whether the record that is found there is the line, and its values too. Not said: whether it is a
 // record.
-fn is_found(kind: FileKind, file: &[u8], line: &[u8], i: usize, said: bool) -> bool {
+fn is_found(
+    rt: &impl Print,
+    kind: FileKind,
+    file: &[u8],
+    line: &[u8],
+    i: usize,
+    said: bool,
+) -> bool {
     if !said {
         return records::line::is_record(kind, line);
     }
-    show::word(show::NEXT);
-    show::say(line);
+    show::word(rt, show::NEXT);
+    show::say(rt, line);
     if records::closing::same(line, files::read::record_bytes(kind, file, i)) {
         return lines::is_kept(kind, file, i, line);
     }
@@ -28,7 +35,7 @@ pub fn counted(n: usize, more: bool) -> usize {
 }
 
 // Each record as a part of the file, found by a walk: how many are right.
-pub fn walk(kind: FileKind, file: &[u8], n: usize, said: bool) -> usize {
+pub fn walk(rt: &impl Print, kind: FileKind, file: &[u8], n: usize, said: bool) -> usize {
     let mut right: usize = 0;
     let mut i: usize = 0;
     let mut at: usize = 0;
@@ -40,7 +47,7 @@ pub fn walk(kind: FileKind, file: &[u8], n: usize, said: bool) -> usize {
         if file.len() <= end {
             return right;
         }
-        right = counted(right, is_found(kind, file, &file[at..end], i, said));
+        right = counted(right, is_found(rt, kind, file, &file[at..end], i, said));
         at = end + 1;
         i += 1;
     }
@@ -48,38 +55,38 @@ pub fn walk(kind: FileKind, file: &[u8], n: usize, said: bool) -> usize {
 }
 
 // The records, and the file written from the words that `numbers` gives for them.
-pub fn file(kind: FileKind, file: &[u8], numbers: &[u8]) {
+pub fn file(rt: &impl Print, kind: FileKind, file: &[u8], numbers: &[u8]) {
     let j = files::judge::judge(kind, file);
-    show::judged(j);
+    show::judged(rt, j);
     let Judged::Records(n) = j else {
         return;
     };
-    if walk(kind, file, n, true) != n {
-        show::word(show::DIFFERS);
+    if walk(rt, kind, file, n, true) != n {
+        show::word(rt, show::DIFFERS);
     }
-    show::word(show::FILE_WRITTEN);
-    writing::one(102, kind, file, numbers);
+    show::word(rt, show::FILE_WRITTEN);
+    writing::one(rt, 102, kind, file, numbers);
 }
 
 // The name written from what was read.
-fn name_back(m: Name) {
+fn name_back(rt: &impl Print, m: Name) {
     let mut out = [0u8; 16];
     let n = show::length(m.write(&mut out));
     if n <= 16 {
-        show::word(show::NAME_WRITTEN);
-        show::say(&out[0..n]);
+        show::word(rt, show::NAME_WRITTEN);
+        show::say(rt, &out[0..n]);
     }
 }
 
-pub fn name(s: &[u8]) {
-    show::say(s);
+pub fn name(rt: &impl Print, s: &[u8]) {
+    show::say(rt, s);
     let NameRead::Name(m) = Name::read(s) else {
-        show::word(show::NAME_FAULT);
+        show::word(rt, show::NAME_FAULT);
         return;
     };
     let day = m.day;
     let kind = m.kind;
-    show::kind(kind);
-    show::number(day.0 as usize);
-    name_back(m);
+    show::kind(rt, kind);
+    show::number(rt, day.0 as usize);
+    name_back(rt, m);
 }

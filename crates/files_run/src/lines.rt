@@ -97,20 +97,20 @@ fn is_back(line: &[u8], out: &[u8], n: usize) -> bool {
     records::closing::same(line, &out[0..n])
 }
 
-fn compared(kind: FileKind, line: &[u8], out: &mut [u8]) {
+fn compared(rt: &impl Print, kind: FileKind, line: &[u8], out: &mut [u8]) {
     let n = written(kind, line, ALONE, out);
     if n == 1000 {
-        show::word(show::FAULT);
+        show::word(rt, show::FAULT);
         return;
     }
-    show::same(is_back(line, out, n));
+    show::same(rt, is_back(line, out, n));
 }
 
 // The line, and whether it came back byte for byte; `fault` where it does not read.
-pub fn one(kind: FileKind, line: &[u8]) {
-    show::say(line);
+pub fn one(rt: &impl Print, kind: FileKind, line: &[u8]) {
+    show::say(rt, line);
     let mut out = [0u8; 128];
-    compared(kind, line, &mut out);
+    compared(rt, kind, line, &mut out);
 }
 
 fn is_kept_in(kind: FileKind, file: &[u8], place: usize, line: &[u8], out: &mut [u8]) -> bool {

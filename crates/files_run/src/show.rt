@@ -3,8 +3,9 @@ use files::judge::Judged;
 use records::names::kind::FileKind;
 use records::names::written::Written;
 
-pub fn say(text: &[u8]) {
-    io::write_all(1, text);
+// What can't be written is left out.
+pub fn say(rt: &impl Print, text: &[u8]) {
+    let _ = rt.write_all(text);
 }
 
 // The words of the program, by their places in one list.
@@ -38,62 +39,68 @@ const COLON: usize = 24;
 
 const CAUSES: usize = 24;
 
-pub fn word(k: usize) {
-    say(text::piece(
-        b"| same| CHANGED|the same|not the same|: default, day |: correction, day |: request, day |: response, day | bytes| records|4 at | fault|: fault|\n  | differs|\n  written: |, written: | changed behind|, | walked|\n| |; |: |character|length|date|code|value|closing|after|41",
-        124,
-        k,
-    ));
+pub fn word(rt: &impl Print, k: usize) {
+    say(
+        rt,
+        text::piece(
+            b"| same| CHANGED|the same|not the same|: default, day |: correction, day |: request, day |: response, day | bytes| records|4 at | fault|: fault|\n  | differs|\n  written: |, written: | changed behind|, | walked|\n| |; |: |character|length|date|code|value|closing|after|41",
+            124,
+            k,
+        ),
+    );
 }
 
-pub fn number(n: usize) {
-    io::print_decimal(1, n as u64);
+pub fn number(rt: &impl Print, n: usize) {
+    let _ = desk::out::number(&mut std::io::writer(rt), n as u64);
 }
 
-pub fn same(yes: bool) {
-    word(if yes { 1 } else { 2 });
+pub fn same(rt: &impl Print, yes: bool) {
+    word(rt, if yes { 1 } else { 2 });
 }
 
-pub fn the_same(yes: bool) {
-    word(if yes { 3 } else { 4 });
+pub fn the_same(rt: &impl Print, yes: bool) {
+    word(rt, if yes { 3 } else { 4 });
 }
 
-pub fn kind(kind: FileKind) {
-    word(match kind {
-        FileKind::Default => 5,
-        FileKind::Correction => 6,
-        FileKind::Request => 7,
-        FileKind::Response => 8,
-    });
+pub fn kind(rt: &impl Print, kind: FileKind) {
+    word(
+        rt,
+        match kind {
+            FileKind::Default => 5,
+            FileKind::Correction => 6,
+            FileKind::Request => 7,
+            FileKind::Response => 8,
+        },
+    );
 }
 
-fn records(n: usize) {
-    number(n);
-    word(10);
+fn records(rt: &impl Print, n: usize) {
+    number(rt, n);
+    word(rt, 10);
 }
 
-fn fault(place: usize) {
-    word(11);
-    number(place);
+fn fault(rt: &impl Print, place: usize) {
+    word(rt, 11);
+    number(rt, place);
 }
 
 // `N records`, or `4 at I`
-pub fn judged(j: Judged) {
+pub fn judged(rt: &impl Print, j: Judged) {
     match j {
-        Judged::Records(n) => records(n),
-        Judged::Fault(at, _) => fault(at.place),
+        Judged::Records(n) => records(rt, n),
+        Judged::Fault(at, _) => fault(rt, at.place),
     }
 }
 
 // `N bytes`, or `4 at I`, or `41`
-pub fn written(w: Written) {
+pub fn written(rt: &impl Print, w: Written) {
     match w {
         Written::Length(n) => {
-            number(n);
-            word(9);
+            number(rt, n);
+            word(rt, 9);
         }
-        Written::Fault(i) => fault(i),
-        Written::Long => word(32),
+        Written::Fault(i) => fault(rt, i),
+        Written::Long => word(rt, 32),
     }
 }
 
@@ -107,27 +114,27 @@ pub fn length(w: Written) -> usize {
 }
 
 // `N records`, or place, field and cause
-pub fn found(j: Judged) {
+pub fn found(rt: &impl Print, j: Judged) {
     match j {
-        Judged::Records(n) => records(n),
+        Judged::Records(n) => records(rt, n),
         Judged::Fault(at, why) => {
-            number(at.place);
-            word(BLANK);
-            number(at.field);
-            word(BLANK);
-            word(CAUSES + why.number() as usize);
+            number(rt, at.place);
+            word(rt, BLANK);
+            number(rt, at.field);
+            word(rt, BLANK);
+            word(rt, CAUSES + why.number() as usize);
         }
     }
 }
 
 // A letter for a count of records, from `a` for none; a digit for the place of a fault.
-pub fn sign(j: Judged) {
+pub fn sign(rt: &impl Print, j: Judged) {
     let b = match j {
         Judged::Records(n) => (97 + n % 26) as u8,
         Judged::Fault(at, _) => (48 + at.place % 10) as u8,
     };
     let one = [b; 1];
-    say(&one);
+    say(rt, &one);
 }
 
 // A number for what was found, from 1. No case has a thousand records.
@@ -143,13 +150,13 @@ fn sum(j: Judged) -> u64 {
 }
 
 // What was found at `at`, said where it is not what was found before.
-pub fn changed(at: usize, j: Judged, last: u64) -> u64 {
+pub fn changed(rt: &impl Print, at: usize, j: Judged, last: u64) -> u64 {
     let mark = sum(j);
     if mark != last {
-        word(FROM);
-        number(at);
-        word(COLON);
-        found(j);
+        word(rt, FROM);
+        number(rt, at);
+        word(rt, COLON);
+        found(rt, j);
     }
     mark
 }

@@ -43,7 +43,7 @@ fn fill(words: &mut [u64], s: &[u8], used: usize) {
 }
 
 // What the writer answers; how many bytes it wrote.
-fn written(kind: FileKind, s: &[u8], words: &mut [u64], out: &mut [u8]) -> usize {
+fn written(rt: &impl Print, kind: FileKind, s: &[u8], words: &mut [u64], out: &mut [u8]) -> usize {
     let room = number(s, 0) as usize;
     let used = number(s, 1) as usize;
     fill(words, s, used);
@@ -54,53 +54,62 @@ fn written(kind: FileKind, s: &[u8], words: &mut [u64], out: &mut [u8]) -> usize
         return 0;
     }
     let w = composing::write::write(kind, &words[0..used], &mut out[0..room]);
-    show::written(w);
+    show::written(rt, w);
     show::length(w)
 }
 
 // How many bytes of the buffer from `at` on are not as they were.
-fn changed(s: &[u8], at: usize) {
+fn changed(rt: &impl Print, s: &[u8], at: usize) {
     let mut n: usize = 0;
     let mut i = at;
     while i < s.len() {
         n = examples::counted(n, s[i] != 85);
         i += 1;
     }
-    show::number(n);
-    show::word(show::BEHIND);
+    show::number(rt, n);
+    show::word(rt, show::BEHIND);
 }
 
 // What is found in a file.
-fn found(kind: FileKind, file: &[u8]) {
+fn found(rt: &impl Print, kind: FileKind, file: &[u8]) {
     let j = files::judge::judge(kind, file);
-    show::judged(j);
+    show::judged(rt, j);
     let Judged::Records(n) = j else {
         return;
     };
-    show::word(show::COMMA);
-    show::number(examples::walk(kind, file, n, false));
-    show::word(show::WALKED);
+    show::word(rt, show::COMMA);
+    show::number(rt, examples::walk(rt, kind, file, n, false));
+    show::word(rt, show::WALKED);
 }
 
 // What there is to say of the buffer in which `n` bytes were written.
-fn looked_at(what: u8, kind: FileKind, file: &[u8], out: &[u8], n: usize) {
-    show::word(show::COMMA);
+fn looked_at(rt: &impl Print, what: u8, kind: FileKind, file: &[u8], out: &[u8], n: usize) {
+    show::word(rt, show::COMMA);
     if out.len() < n {
         return;
     }
     match what {
-        102 => show::the_same(records::closing::same(file, &out[0..n])),
-        119 => changed(out, n),
-        _ => found(kind, &out[0..n]),
+        102 => show::the_same(rt, records::closing::same(file, &out[0..n])),
+        119 => changed(rt, out, n),
+        _ => found(rt, kind, &out[0..n]),
     }
 }
 
-fn answer(what: u8, kind: FileKind, file: &[u8], s: &[u8], words: &mut [u64], out: &mut [u8]) {
-    let n = written(kind, s, words, out);
-    looked_at(what, kind, file, out, n);
+fn answer(
+    rt: &impl Print,
+    what: u8,
+    kind: FileKind,
+    file: &[u8],
+    s: &[u8],
+    words: &mut [u64],
+    out: &mut [u8],
+) {
+    let n = written(rt, kind, s, words, out);
+    looked_at(rt, what, kind, file, out, n);
 }
 
 fn lend(
+    rt: &impl Print,
     what: u8,
     kind: FileKind,
     file: &[u8],
@@ -108,11 +117,11 @@ fn lend(
     words: &mut [u64; 49152],
     out: &mut [u8; 300000],
 ) {
-    answer(what, kind, file, s, words, out);
+    answer(rt, what, kind, file, s, words, out);
 }
 
-pub fn one(what: u8, kind: FileKind, file: &[u8], s: &[u8]) {
+pub fn one(rt: &impl Print, what: u8, kind: FileKind, file: &[u8], s: &[u8]) {
     let mut words = [0u64; 49152];
     let mut out = [85u8; 300000];
-    lend(what, kind, file, s, &mut words, &mut out);
+    lend(rt, what, kind, file, s, &mut words, &mut out);
 }

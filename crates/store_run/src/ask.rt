@@ -6,53 +6,79 @@ use asking::looks::{LookedRecord, LookedWhy};
 use asking::pairs::{Stored, WhyAnswer};
 use asking::record::Asked;
 use asking::{record, stand, why};
+use desk::Host;
 use entries::entry::Last;
 use fields::number::Number;
 use reworking::rework::ALL_FILES;
 use store::journals::records::Journal;
 use store::numbers::lines;
 
-fn from(w: &[u8], publisher: u16, day: u16) {
-    print::count(w, print::FROM, publisher as usize);
-    print::count(w, print::ON, day as usize);
+fn from(rt: &impl Host, w: &[u8], publisher: u16, day: u16) {
+    print::count(rt, w, print::FROM, publisher as usize);
+    print::count(rt, w, print::ON, day as usize);
 }
 
-fn stored(w: &[u8], bytes: &[u8], s: Stored) {
-    print::text(bytes);
-    print::count(w, print::AT, s.place);
-    from(w, s.publisher.0, s.day.0);
+fn stored(rt: &impl Host, w: &[u8], bytes: &[u8], s: Stored) {
+    print::text(rt, bytes);
+    print::count(rt, w, print::AT, s.place);
+    from(rt, w, s.publisher.0, s.day.0);
 }
 
-fn why<'a>(w: &[u8], t: &[u8], f: &'a [u8], r: &'a [u8], c: &'a [u8], number: Number) {
+fn why<'a>(
+    rt: &impl Host,
+    w: &[u8],
+    t: &[u8],
+    f: &'a [u8],
+    r: &'a [u8],
+    c: &'a [u8],
+    number: Number,
+) {
     match why::look(t, f, r, c, number) {
         LookedWhy::Pair(one, two) => {
             let a = WhyAnswer::Pair(one, two);
-            print::word(w, print::PAIR);
-            stored(w, why::first_part(r, c, a), one);
-            print::word(w, print::AND);
-            stored(w, why::second_part(r, c, a), two);
+            print::word(rt, w, print::PAIR);
+            stored(rt, w, why::first_part(r, c, a), one);
+            print::word(rt, w, print::AND);
+            stored(rt, w, why::second_part(r, c, a), two);
         }
-        LookedWhy::Nothing => print::word(w, print::NO_PAIR),
-        LookedWhy::UnknownNumber => print::word(w, print::NO_NUMBER),
-        LookedWhy::Unshowable => print::word(w, print::NO_STORE),
+        LookedWhy::Nothing => print::word(rt, w, print::NO_PAIR),
+        LookedWhy::UnknownNumber => print::word(rt, w, print::NO_NUMBER),
+        LookedWhy::Unshowable => print::word(rt, w, print::NO_STORE),
     }
 }
 
 // Where the line i stands over the first n files.
-fn standing<'a>(w: &[u8], t: &[u8], f: &'a [u8], n: usize, r: &'a [u8], c: &'a [u8], i: usize) {
+fn standing<'a>(
+    rt: &impl Host,
+    w: &[u8],
+    t: &[u8],
+    f: &'a [u8],
+    n: usize,
+    r: &'a [u8],
+    c: &'a [u8],
+    i: usize,
+) {
     let s = stand::look(t, f, n, r, c, i);
     let st = s.standing;
     let e = st.entry;
     let last = e.last;
-    print::count(w, print::HELD_BY, e.holder.0 as usize);
+    print::count(rt, w, print::HELD_BY, e.holder.0 as usize);
     match last {
-        Last::Never => print::word(w, print::NEVER),
-        Last::On(d) => print::count(w, print::ON, d.0 as usize),
+        Last::Never => print::word(rt, w, print::NEVER),
+        Last::On(d) => print::count(rt, w, print::ON, d.0 as usize),
     }
 }
 
 // about;I: the line I of the table, over the first two files and over all; nothing where there is none.
-pub fn about<'a>(line: &[u8], w: &[u8], t: &[u8], f: &'a [u8], r: &'a [u8], c: &'a [u8]) {
+pub fn about<'a>(
+    rt: &impl Host,
+    line: &[u8],
+    w: &[u8],
+    t: &[u8],
+    f: &'a [u8],
+    r: &'a [u8],
+    c: &'a [u8],
+) {
     let i = line::number(line, 1);
     if t.len() < lines::TABLE_LENGTH {
         return;
@@ -66,17 +92,18 @@ pub fn about<'a>(line: &[u8], w: &[u8], t: &[u8], f: &'a [u8], r: &'a [u8], c: &
     let l = lines::line_at(t, i);
     let number = l.number;
     let first = number.first;
-    io::print_decimal(1, first.0);
-    print::word(w, print::TWO_FILES);
-    standing(w, t, f, 2, r, c, i);
-    print::word(w, print::NOW);
-    standing(w, t, f, ALL_FILES, r, c, i);
+    print::wide(rt, first.0);
+    print::word(rt, w, print::TWO_FILES);
+    standing(rt, w, t, f, 2, r, c, i);
+    print::word(rt, w, print::NOW);
+    standing(rt, w, t, f, ALL_FILES, r, c, i);
     why(w, t, f, r, c, number);
-    print::end();
+    print::end(rt);
 }
 
 // journal;PLACE, corrections;PLACE: a record; nothing where there is none.
 pub fn record<'a>(
+    rt: &impl Host,
     line: &[u8],
     w: &[u8],
     j: Journal,
@@ -90,21 +117,29 @@ pub fn record<'a>(
         return;
     };
     let v = x.verdict;
-    print::number(at);
-    from(w, x.publisher.0, x.day.0);
-    print::count(w, print::AT, x.place);
-    print::count(w, print::GETS, verdict::verdicts::number(v) as usize);
-    print::word(w, print::SAYING);
-    print::text(record::part(r, c, Asked::Record(which, at, x)));
-    print::end();
+    print::number(rt, at);
+    from(rt, w, x.publisher.0, x.day.0);
+    print::count(rt, w, print::AT, x.place);
+    print::count(rt, w, print::GETS, verdict::verdicts::number(v) as usize);
+    print::word(rt, w, print::SAYING);
+    print::text(rt, record::part(r, c, Asked::Record(which, at, x)));
+    print::end(rt);
 }
 
 // differ: how many entries differ from those worked out.
-pub fn figure<'a>(w: &[u8], t: &[u8], f: &'a [u8], r: &'a [u8], c: &'a [u8], e: &[u8]) {
+pub fn figure<'a>(
+    rt: &impl Host,
+    w: &[u8],
+    t: &[u8],
+    f: &'a [u8],
+    r: &'a [u8],
+    c: &'a [u8],
+    e: &[u8],
+) {
     let d = figure::figure(t, f, r, c, e);
     match d {
-        FigureAnswer::Differ(n) => print::count(w, print::DIFFER, n),
-        FigureAnswer::Unreadable => print::word(w, print::UNREADABLE),
+        FigureAnswer::Differ(n) => print::count(rt, w, print::DIFFER, n),
+        FigureAnswer::Unreadable => print::word(rt, w, print::UNREADABLE),
     }
-    print::end();
+    print::end(rt);
 }

@@ -1,5 +1,6 @@
 // Examples of verdicts, over the first line of the table and its entry; where the table has no line, the number is not in it.
 use crate::{line, print};
+use desk::Host;
 use entries::entry::{Line, Listed};
 use entries::report;
 use fields::code::Code;
@@ -82,25 +83,32 @@ pub fn holder(e: &[u8]) -> u16 {
 }
 
 // What came is what the field 1 says; a difference is written.
-pub fn came(line: &[u8], w: &[u8], good: &mut bool, got: u16) {
+pub fn came(rt: &impl Host, line: &[u8], w: &[u8], good: &mut bool, got: u16) {
     if got as usize == line::number(line, 1) {
         return;
     }
-    print::count(w, print::BUT, got as usize);
+    print::count(rt, w, print::BUT, got as usize);
     *good = false;
 }
 
-pub fn ended(w: &[u8], good: &mut bool) {
+pub fn ended(rt: &impl Host, w: &[u8], good: &mut bool) {
     if *good {
-        print::word(w, print::OK);
+        print::word(rt, w, print::OK);
     }
-    print::end();
+    print::end(rt);
     *good = true;
 }
 
 // verdict;EXPECTED;KIND;DAY;PUBLISHER;RECORD
-pub fn one(line: &[u8], w: &[u8], good: &mut bool, t: &mut [u8; 14338], e: &mut [u8; 102400]) {
+pub fn one(
+    rt: &impl Host,
+    line: &[u8],
+    w: &[u8],
+    good: &mut bool,
+    t: &mut [u8; 14338],
+    e: &mut [u8; 102400],
+) {
     if line::byte(line, 0) == b'v' {
-        came(line, w, good, judged(line, listed(t), e) as u16);
+        came(rt, line, w, good, judged(line, listed(t), e) as u16);
     }
 }

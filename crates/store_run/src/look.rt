@@ -1,6 +1,6 @@
 // What is looked at, and texts that are printed as they are.
 use crate::{ask, example, line, print};
-use desk::page;
+use desk::{Host, page};
 use store::entry_slots::entry;
 use store::journals::records::Journal;
 use store::readable;
@@ -50,50 +50,50 @@ fn reads(line: &[u8], t: &[u8], f: &[u8], r: &[u8], c: &[u8], e: &[u8]) -> bool 
     readable::readable(t, f, r, c, e) == (line::number(line, 2) == 1)
 }
 
-fn said(line: &[u8], w: &[u8], ok: bool) {
-    print::text(line::field(line, 1));
-    print::either(w, ok, print::HOLDS, print::FAILS);
-    print::end();
+fn said(rt: &impl Host, line: &[u8], w: &[u8], ok: bool) {
+    print::text(rt, line::field(line, 1));
+    print::either(rt, w, ok, print::HOLDS, print::FAILS);
+    print::end(rt);
 }
 
 // Whether every byte is as it was when it was marked.
-fn kept(w: &[u8], same: bool) {
-    print::either(w, same, print::SAME, print::CHANGED);
-    print::end();
+fn kept(rt: &impl Host, w: &[u8], same: bool) {
+    print::either(rt, w, same, print::SAME, print::CHANGED);
+    print::end(rt);
 }
 
 // The open reports, each behind a blank.
-fn open(w: &[u8], s: &[u8]) {
+fn open(rt: &impl Host, w: &[u8], s: &[u8]) {
     let mut i: usize = 0;
     while i < 8 {
         let place = text::piece(s, b';', i);
         if place.len() == 0 {
             return;
         }
-        print::word(w, print::BLANK);
-        print::text(place);
+        print::word(rt, w, print::BLANK);
+        print::text(rt, place);
         i += 1;
     }
 }
 
 // An entry as the program shows it, with words between its parts.
-fn spread(line: &[u8], w: &[u8], s: &[u8]) {
-    print::text(line::field(line, 1));
-    print::word(w, print::HOLDER);
-    print::text(text::piece(s, b'\t', 0));
-    print::word(w, print::LAST);
-    print::text(text::piece(s, b'\t', 1));
-    print::word(w, print::OPEN);
-    open(w, text::piece(s, b'\t', 2));
-    print::end();
+fn spread(rt: &impl Host, line: &[u8], w: &[u8], s: &[u8]) {
+    print::text(rt, line::field(line, 1));
+    print::word(rt, w, print::HOLDER);
+    print::text(rt, text::piece(s, b'\t', 0));
+    print::word(rt, w, print::LAST);
+    print::text(rt, text::piece(s, b'\t', 1));
+    print::word(rt, w, print::OPEN);
+    open(rt, w, text::piece(s, b'\t', 2));
+    print::end(rt);
 }
 
-fn spread_first(line: &[u8], w: &[u8], room: &[u8; page::ROOM], n: usize) {
-    spread(line, w, line::first(room, n));
+fn spread_first(rt: &impl Host, line: &[u8], w: &[u8], room: &[u8; page::ROOM], n: usize) {
+    spread(rt, line, w, line::first(room, n));
 }
 
 // entry;WHAT;K: the entry of a line of the table.
-fn entry(line: &[u8], w: &[u8], e: &[u8]) {
+fn entry(rt: &impl Host, line: &[u8], w: &[u8], e: &[u8]) {
     let k = line::number(line, 2);
     if 1024 <= k {
         return;
@@ -102,19 +102,25 @@ fn entry(line: &[u8], w: &[u8], e: &[u8]) {
         return;
     }
     let mut room = [0u8; page::ROOM];
-    let p = shown::entry::entry(page::begin(1), &mut room, entry::entry_at(e, k));
-    spread_first(line, w, &room, p.used);
+    let p = shown::entry::entry(
+        rt,
+        page::begin(page::Stream::Out),
+        &mut room,
+        entry::entry_at(e, k),
+    );
+    spread_first(rt, line, w, &room, p.used);
 }
 
 // All but the first byte.
-fn rest(line: &[u8]) {
+fn rest(rt: &impl Host, line: &[u8]) {
     if 1 <= line.len() {
-        print::text(&line[1..]);
+        print::text(rt, &line[1..]);
     }
 }
 
 // What a line looks at.
 pub fn one<'a>(
+    rt: &impl Host,
     line: &[u8],
     w: &[u8],
     mark: &mut u64,
@@ -127,26 +133,27 @@ pub fn one<'a>(
 ) {
     match line::byte(line, 0) {
         b'=' => {
-            rest(line);
-            print::end();
+            rest(rt, line);
+            print::end(rt);
         }
-        b'-' => rest(line),
+        b'-' => rest(rt, line),
         b'e' => entry(line, w, e),
-        b'r' => said(line, w, reads(line, t, f, r, c, e)),
+        b'r' => said(rt, line, w, reads(line, t, f, r, c, e)),
         b'l' => said(
+            rt,
             line,
             w,
             reads(line, t, f, r, c, e) & left(line, t, f, r, c, e),
         ),
         b'm' => *mark = sum_all(t, f, r, c, e),
-        b'k' => kept(w, *mark == sum_all(t, f, r, c, e)),
-        b'a' => ask::about(line, w, t, f, r, c),
-        b'j' => ask::record(line, w, Journal::Regular, t, f, r, c),
-        b'c' => ask::record(line, w, Journal::Correction, t, f, r, c),
-        b'd' => ask::figure(w, t, f, r, c, e),
-        b'o' => example::came(line, w, good, example::is_open(line, e)),
-        b'h' => example::came(line, w, good, example::holder(e)),
-        b'.' => example::ended(w, good),
+        b'k' => kept(rt, w, *mark == sum_all(t, f, r, c, e)),
+        b'a' => ask::about(rt, line, w, t, f, r, c),
+        b'j' => ask::record(rt, line, w, Journal::Regular, t, f, r, c),
+        b'c' => ask::record(rt, line, w, Journal::Correction, t, f, r, c),
+        b'd' => ask::figure(rt, w, t, f, r, c, e),
+        b'o' => example::came(rt, line, w, good, example::is_open(line, e)),
+        b'h' => example::came(rt, line, w, good, example::holder(e)),
+        b'.' => example::ended(rt, w, good),
         _ => {}
     }
 }

@@ -1,29 +1,30 @@
 // file;WHAT;KIND;PUBLISHER;DAY;N;RECORD;TEXT;MORE: a file is offered, and MORE times again on the days behind.
 use crate::{line, print};
 use calendar::dates::CalendarDays;
+use desk::Host;
 use filing::checking::answer;
 use filing::checking::answer::Answer;
 use filing::entering::kind::Filable;
 use filing::file;
 
 // What was answered: the number, with the count or the place where it has one.
-fn said(line: &[u8], w: &[u8], a: Answer) {
-    print::text(line::field(line, 1));
-    print::count(w, print::ANSWER, answer::number(a) as usize);
+fn said(rt: &impl Host, line: &[u8], w: &[u8], a: Answer) {
+    print::text(rt, line::field(line, 1));
+    print::count(rt, w, print::ANSWER, answer::number(a) as usize);
     match a {
         Answer::Filed(n) => {
-            print::count(w, print::COUNT, n);
-            print::end();
+            print::count(rt, w, print::COUNT, n);
+            print::end(rt);
         }
-        Answer::Fault(at, _) => print::count(w, print::PLACE, at.place),
+        Answer::Fault(at, _) => print::count(rt, w, print::PLACE, at.place),
         _ => {}
     }
 }
 
 // Whether the file was filed; what was answered is said where it is offered once.
-fn told(line: &[u8], w: &[u8], a: Answer) -> bool {
+fn told(rt: &impl Host, line: &[u8], w: &[u8], a: Answer) -> bool {
     if line::number(line, 8) == 0 {
-        said(line, w, a);
+        said(rt, line, w, a);
     }
     answer::number(a) == 0
 }
@@ -44,6 +45,7 @@ fn day(line: &[u8], i: usize) -> CalendarDays {
 
 // How often the file is filed, up to n times or to the first refusal.
 fn filed(
+    rt: &impl Host,
     line: &[u8],
     w: &[u8],
     text: &[u8],
@@ -59,7 +61,7 @@ fn filed(
     let mut i: usize = 0;
     while i < n {
         let a = file::file(t, f, r, c, e, k, publisher, day(line, i), text);
-        if !told(line, w, a) {
+        if !told(rt, line, w, a) {
             return i;
         }
         i += 1;
@@ -68,6 +70,7 @@ fn filed(
 }
 
 pub fn one(
+    rt: &impl Host,
     line: &[u8],
     w: &[u8],
     text: &[u8],
@@ -78,10 +81,10 @@ pub fn one(
     e: &mut [u8; 102400],
 ) {
     let more = line::number(line, 8);
-    let n = filed(line, w, text, more + 1, t, f, r, c, e);
+    let n = filed(rt, line, w, text, more + 1, t, f, r, c, e);
     if more != 0 {
-        print::text(line::field(line, 1));
-        print::count(w, print::FILED, n);
-        print::end();
+        print::text(rt, line::field(line, 1));
+        print::count(rt, w, print::FILED, n);
+        print::end(rt);
     }
 }

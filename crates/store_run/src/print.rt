@@ -1,4 +1,6 @@
 // Text, numbers and the words of the input's first line on standard output.
+use desk::Host;
+
 pub const SHORT: usize = 1;
 
 pub const BAD_TABLE: usize = 2;
@@ -63,34 +65,39 @@ pub const DIFFER: usize = 31;
 
 pub const UNREADABLE: usize = 32;
 
-pub fn text(s: &[u8]) {
-    io::write_all(1, s);
+// What can't be written is left out.
+pub fn text(rt: &impl Host, s: &[u8]) {
+    let _ = rt.write_all(s);
 }
 
-pub fn number(n: usize) {
-    io::print_decimal(1, n as u64);
+pub fn wide(rt: &impl Host, n: u64) {
+    let _ = desk::out::number(&mut std::io::writer(rt), n);
 }
 
-pub fn end() {
-    text(b"\n");
+pub fn number(rt: &impl Host, n: usize) {
+    wide(rt, n as u64);
+}
+
+pub fn end(rt: &impl Host) {
+    text(rt, b"\n");
 }
 
 // The word k.
-pub fn word(w: &[u8], k: usize) {
-    text(text::piece(w, b';', k));
+pub fn word(rt: &impl Host, w: &[u8], k: usize) {
+    text(rt, text::piece(w, b';', k));
 }
 
 // A number behind the word k.
-pub fn count(w: &[u8], k: usize, n: usize) {
-    word(w, k);
-    number(n);
+pub fn count(rt: &impl Host, w: &[u8], k: usize, n: usize) {
+    word(rt, w, k);
+    number(rt, n);
 }
 
 // One of two words.
-pub fn either(w: &[u8], yes: bool, k: usize, other: usize) {
+pub fn either(rt: &impl Host, w: &[u8], yes: bool, k: usize, other: usize) {
     if yes {
-        word(w, k);
+        word(rt, w, k);
         return;
     }
-    word(w, other);
+    word(rt, w, other);
 }

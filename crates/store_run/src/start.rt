@@ -2,22 +2,23 @@
 ghost use Rattle.std.specs.Prelude.{◌≤◌};
 
 use crate::{line, print};
+use desk::Host;
 use starting::start;
 use starting::start::Started;
 
 // What was answered, with the line's own words before the count; nothing where it has none.
-fn said(line: &[u8], w: &[u8], a: Started) {
+fn said(rt: &impl Host, line: &[u8], w: &[u8], a: Started) {
     if line::field(line, 3).len() == 0 {
         return;
     }
-    print::text(line::field(line, 1));
+    print::text(rt, line::field(line, 1));
     match a {
         Started::Done(n) => {
-            print::text(line::field(line, 3));
-            print::number(n);
+            print::text(rt, line::field(line, 3));
+            print::number(rt, n);
         }
-        Started::Short => print::word(w, print::SHORT),
-        Started::BadTable => print::word(w, print::BAD_TABLE),
+        Started::Short => print::word(rt, w, print::SHORT),
+        Started::BadTable => print::word(rt, w, print::BAD_TABLE),
     }
 }
 
@@ -59,6 +60,7 @@ fn started(
 }
 
 pub fn begin(
+    rt: &impl Host,
     line: &[u8],
     w: &[u8],
     text: &[u8],
@@ -69,5 +71,5 @@ pub fn begin(
     e: &mut [u8; 102400],
 ) {
     let a = started(line::number(line, 2), text, t, f, r, c, e);
-    said(line, w, a);
+    said(rt, line, w, a);
 }
