@@ -1,5 +1,6 @@
 // dagskimra: keeps the books of a telephone number exchange. A program has no exit status, so the status of the command goes to
 // descriptor 3, as a digit, and the launcher, bin/dagskimra, exits with it.
+#![tactic(auto)]
 use desk::args;
 
 const STATUS_FILENO: i32 = 3;

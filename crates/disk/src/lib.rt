@@ -1,5 +1,6 @@
 // The store on disk: one file, STORE/store. A change is written beside it, to STORE/store.new, and takes its name once it is on the
 // device, so that a crash leaves the old file or the new one. STORE/lock is there while a process changes the store.
+#![tactic(auto)]
 pub mod head;
 pub mod list;
 pub mod lock;

@@ -1,5 +1,6 @@
 // file STORE PUBLISHER FILE... and file STORE --list LIST: files are offered one after the other, what was accepted is put on the disk
 // at once, and then the answers are printed.
+#![tactic(auto)]
 pub mod answers;
 pub mod file;
 pub mod filed;

@@ -1,5 +1,6 @@
 // Runs what the lines of the input ask for: stores that are started, filled, damaged, filed into and asked, and examples of verdicts.
 // The input's first line has the words of the output; the comment below it says what the others mean.
+#![tactic(auto)]
 mod ask;
 mod example;
 mod lay;

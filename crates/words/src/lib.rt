@@ -1,4 +1,5 @@
 // Words for people, on standard error: what was refused, where, why, and what to do next.
+#![tactic(auto)]
 pub mod fault;
 mod field;
 mod marked;
