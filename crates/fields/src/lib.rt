@@ -2,6 +2,7 @@
 // A reader takes the whole field and answers its value or a fault; a writer lays the field into a lent
 // buffer and answers the place behind it. What stands in a field that may be empty is a `Maybe`.
 #![tactic(auto)]
+
 pub mod code;
 pub mod correction_code;
 pub mod date;
