@@ -37,7 +37,7 @@ pub enum FullYear {
 }
 
 // The day of the week on which a day falls.
-#[derive(Drop)]
+#[derive(Clone, Copy)]
 pub enum Weekday {
     Outside,
     Monday,

@@ -8,7 +8,7 @@ ghost use Rattle.fields.specs.Number.{digits_field_of, digits_fits, digits_size,
 use text::Spelt;
 
 // The digits of one field behind a leading 1, so that equal codes are equal digits: "" is 1, "0" is 10, "012" is 1012.
-#[derive(Drop)]
+#[derive(Clone, Copy)]
 pub struct Digits(pub u64);
 
 #[derive(Drop)]

@@ -1,2 +1,3 @@
 // What the bytes of a record say: the number that it names, its class within a day, and what the verdicts take.
+#![tactic(auto)]
 pub mod records;

@@ -1,5 +1,7 @@
 // Pieces of a line of bytes that every layout is made of: pieces between separators, decimal digits,
 // and bytes laid into a lent buffer.
+#![tactic(auto)]
+
 ghost use Rattle.std.specs.Prelude.{◌≡◌, [], ◌∷◌, ◌+◌, ◌-◌, ◌≤◌, ◌<◌, length};
 ghost use Rattle.laws.specs.Split.{split, piece_of, end_of};
 ghost use Rattle.laws.specs.Digits.{digits, down, size_of};

@@ -1,0 +1,22 @@
+-- `fields::kind::Kind::of_word` meets its contract. Assumes nothing.
+use borrow.Author.Tests.{ne_eqb}
+use Rattle.fields.specs.Kind.{kind_by}
+use Rattle.fields.proofs.kind.Kind.of_word.Goals as goal
+
+pub returns-in-0 : goal.returns-in-0
+unfolding kind_by
+returns-in-0 c = simp c.in-0.is
+
+pub returns-in-1 : goal.returns-in-1
+unfolding kind_by
+returns-in-1 c = simp c.in-1.is
+
+pub returns-in-2 : goal.returns-in-2
+unfolding kind_by
+returns-in-2 c = simp c.in-2.is
+
+pub returns-in_default : goal.returns-in_default
+unfolding kind_by
+returns-in_default c =
+    let r = c.in_default.in_default-own.rest in
+    simp (ne_eqb _ _ r.1, ne_eqb _ _ r.0.1, ne_eqb _ _ r.0.0.1)

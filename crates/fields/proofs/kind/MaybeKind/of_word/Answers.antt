@@ -1,0 +1,19 @@
+-- `fields::kind::MaybeKind::of_word` meets its contract. Assumes nothing.
+use mathlib.Core.Path.{sym, ◌∙◌}
+use borrow.Author.Tests.{eq-eqb, ne_eqb}
+use Rattle.fields.specs.Kind.{maybe_kind_of_word, maybe_kind_from}
+use Rattle.fields.proofs.kind.MaybeKind.of_word.Goals as goal
+
+pub returns-then-w-eq-NONE : goal.returns-then-w-eq-NONE
+unfolding maybe_kind_of_word maybe_kind_from
+returns-then-w-eq-NONE c = simp (eq-eqb _ _ c.if-w-eq-NONE.true)
+
+pub returns-in_default : goal.returns-in_default
+unfolding maybe_kind_of_word maybe_kind_from
+returns-in_default c =
+    simp (ne_eqb _ _ c.if-w-eq-NONE.false, sym c.of_word.ensures ∙ c.in_default.is)
+
+pub returns : goal.returns
+unfolding maybe_kind_of_word maybe_kind_from
+returns c =
+    simp (ne_eqb _ _ c.if-w-eq-NONE.false, sym c.of_word.ensures ∙ c.in-Kind.is)

@@ -1,0 +1,16 @@
+-- `order::groups::search_first` meets its contract. The loop's invariant: the place is from lo on, and not behind hi. Assumes nothing.
+use mathlib.Core.Path.{◌≡◌}
+use Prim.Native.Nat.{◌+◌, ◌-◌, ◌/◌, ◌≤◌}
+use native.Mathlib.Omega.{arith}
+use borrow.Author.Rules.{rules}
+use lib.ListN.{length, take}
+use lib.Seq.{length-take-le}
+use Rattle.order.specs.groups.Groups.{below}
+use Rattle.order.proofs.groups.Below.{below-most, search-up, search-down}
+use Rattle.order.proofs.groups.search_first.Given as goal
+
+abbrev pub invariant-loop-lo : goal.invariant-loop-lo
+invariant-loop-lo l = (l.hi ≤ l.n) × (l.lo ≤ below l.key (take l.n l.keys)) × (below l.key (take l.n l.keys) ≤ l.hi)
+
+abbrev pub decreases-loop-lo : goal.decreases-loop-lo
+decreases-loop-lo l = l.hi - l.lo
