@@ -12,7 +12,7 @@ pub const PLACES: usize = 8;
 
 // A place: an open report with its publication day and its place in its file. A free place has `taken` false and holds what
 // `free_place` in specs/ says, so that two entries with the same open reports in the same places are equal.
-#[derive(Drop)]
+#[derive(Clone, Copy)]
 pub struct Place {
     pub taken: bool,
     pub report: Report,

@@ -17,7 +17,7 @@ pub struct Published {
 }
 
 // A report whose gaining network is known.
-#[derive(Drop)]
+#[derive(Clone, Copy)]
 pub struct Report {
     pub kind: Kind,
     pub date: CalendarDays,
