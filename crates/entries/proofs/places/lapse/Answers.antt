@@ -1,5 +1,4 @@
 -- `entries::places::lapse` meets its contract: each return is found from the test that led there. Assumes nothing.
-use borrow.Author.Rules.{rules}
 use Rattle.laws.proofs.Tests.{rules}
 use Rattle.entries.specs.places.Places.{lapsed}
 use Rattle.entries.proofs.places.lapse.Goals as goal

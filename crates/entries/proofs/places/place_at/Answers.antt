@@ -9,4 +9,4 @@ use Rattle.entries.proofs.places.place_at.Goals as goal
 pub returns : goal.returns
 returns c =
     let a = c.args in
-    c.free_place.ensures ∙ sym (get_or-eq_default a.t1 free_place (omega arith))
+    c.free_place.ensures ∙ sym (get_or-eq_default a.places free_place (omega arith))

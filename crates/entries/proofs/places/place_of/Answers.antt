@@ -11,14 +11,14 @@ use Rattle.entries.proofs.places.place_of.Goals as goal
 pub returns-then-holds : goal.returns-then-holds
 returns-then-holds c =
     let g = c.args in
-    search-here (holds_open g.k g.r) free_place g.t1 c.loop-i.i c.loop-i.invariant.1 (omega arith) (sym c.holds.ensures ∙ c.if-holds.true)
+    search-here (holds_open g.k g.r) free_place g.places c.loop-i.i c.loop-i.invariant.1 (omega arith) (sym c.holds.ensures ∙ c.if-holds.true)
 
 pub loop-i-preserved : goal.loop-i-preserved
 loop-i-preserved c =
     let g = c.args in
-    (search rules, search-on (holds_open g.k g.r) free_place g.t1 c.loop-i.i c.loop-i.invariant.1 (omega arith) (sym c.holds.ensures ∙ c.if-holds.false))
+    (search rules, search-on (holds_open g.k g.r) free_place g.places c.loop-i.i c.loop-i.invariant.1 (omega arith) (sym c.holds.ensures ∙ c.if-holds.false))
 
 pub returns : goal.returns
 returns c =
     let g = c.args in
-    search-none (holds_open g.k g.r) free_place g.t1 c.loop-i.i c.loop-i.invariant.1 (omega arith)
+    search-none (holds_open g.k g.r) free_place g.places c.loop-i.i c.loop-i.invariant.1 (omega arith)
