@@ -21,13 +21,13 @@ pub struct Place {
 }
 
 // The last confirmed porting date, or none.
-#[derive(Drop)]
+#[derive(Clone, Copy)]
 pub enum Last {
     Never,
     On(CalendarDays),
 }
 
-#[derive(Drop)]
+#[derive(Clone, Copy)]
 pub struct Entry {
     pub holder: Code,
     pub last: Last,
@@ -35,14 +35,14 @@ pub struct Entry {
 }
 
 // A number's line of the number table: its owner and its set-up day.
-#[derive(Drop)]
+#[derive(Clone, Copy)]
 pub struct Line {
     pub owner: Code,
     pub setup: CalendarDays,
 }
 
 // What the number table has for a number.
-#[derive(Drop)]
+#[derive(Clone, Copy)]
 pub enum Listed {
     With(Line),
     Missing,

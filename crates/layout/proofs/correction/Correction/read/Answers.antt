@@ -25,7 +25,7 @@ slice_bounds-read_reported-count c =
     next-from (one _ c.field_end-a.ensures c.if-s-a.false p1 c.field_end-b.ensures) c.field_end-b.ensures
 
 pub slice_bounds-read_reported-start : goal.slice_bounds-read_reported-start
-slice_bounds-read_reported-start c = sub-read-reported c
+slice_bounds-read_reported-start c = slice_bounds-read_reported-count c
 
 pub returns-in_default-read_reported : goal.returns-in_default-read_reported
 returns-in_default-read_reported c =
