@@ -4,7 +4,7 @@ ghost use Rattle.calendar.specs.Dates.{leap, year_days, month_days, year_start, 
 ghost use Rattle.calendar.specs.Answers.{day_of, date_of, full_year, weekday_of};
 
 // A count of calendar days (KT); as a day's number, those since 1998-01-01.
-#[derive(Drop)]
+#[derive(Clone, Copy)]
 pub struct CalendarDays(pub u16);
 
 // A date, of the calendar or not.

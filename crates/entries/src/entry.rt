@@ -12,7 +12,7 @@ pub const PLACES: usize = 8;
 
 // A place: an open report with its publication day and its place in its file. A free place has `taken` false and holds what
 // `free_place` in specs/ says, so that two entries with the same open reports in the same places are equal.
-#[derive(Drop)]
+#[derive(Clone, Copy)]
 pub struct Place {
     pub taken: bool,
     pub report: Report,
@@ -21,13 +21,13 @@ pub struct Place {
 }
 
 // The last confirmed porting date, or none.
-#[derive(Drop)]
+#[derive(Clone, Copy)]
 pub enum Last {
     Never,
     On(CalendarDays),
 }
 
-#[derive(Drop)]
+#[derive(Clone, Copy)]
 pub struct Entry {
     pub holder: Code,
     pub last: Last,
@@ -35,14 +35,14 @@ pub struct Entry {
 }
 
 // A number's line of the number table: its owner and its set-up day.
-#[derive(Drop)]
+#[derive(Clone, Copy)]
 pub struct Line {
     pub owner: Code,
     pub setup: CalendarDays,
 }
 
 // What the number table has for a number.
-#[derive(Drop)]
+#[derive(Clone, Copy)]
 pub enum Listed {
     With(Line),
     Missing,

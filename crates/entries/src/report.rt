@@ -8,7 +8,7 @@ use fields::gaining::Gaining;
 use fields::kind::Kind;
 
 // A report as published. A Z may leave its gaining network out.
-#[derive(Drop)]
+#[derive(Clone, Copy)]
 pub struct Published {
     pub kind: Kind,
     pub date: CalendarDays,
@@ -17,7 +17,7 @@ pub struct Published {
 }
 
 // A report whose gaining network is known.
-#[derive(Drop)]
+#[derive(Clone, Copy)]
 pub struct Report {
     pub kind: Kind,
     pub date: CalendarDays,

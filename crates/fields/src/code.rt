@@ -5,7 +5,7 @@ ghost use Rattle.fields.specs.Code.{code_of, code_fits, code_of_word, code_text,
 
 use text::Spelt;
 
-#[derive(Drop)]
+#[derive(Clone, Copy)]
 pub struct Code(pub u16);
 
 #[derive(Drop)]
@@ -62,7 +62,7 @@ impl Code {
 }
 
 // A code, or an empty field.
-#[derive(Drop)]
+#[derive(Clone, Copy)]
 pub enum MaybeCode {
     Code(Code),
     Empty,

@@ -5,7 +5,7 @@ ghost use Rattle.fields.specs.CorrectionCode.{correction_code_of, correction_cod
 
 use text::Spelt;
 
-#[derive(Drop)]
+#[derive(Clone, Copy)]
 pub struct CorrectionCode(pub u16);
 
 #[derive(Drop)]

@@ -61,7 +61,7 @@ pub(crate) fn write(d: CalendarDays, out: &mut [u8], at: usize) -> usize
 }
 
 // A date, or an empty field.
-#[derive(Drop)]
+#[derive(Clone, Copy)]
 pub enum MaybeDate {
     Date(CalendarDays),
     Empty,

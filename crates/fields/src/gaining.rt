@@ -4,7 +4,7 @@ ghost use Rattle.fields.specs.Gaining.{gaining_of, gaining_field};
 
 use crate::code::{Code, MaybeCode};
 
-#[derive(Drop)]
+#[derive(Clone, Copy)]
 pub enum Gaining {
     Code(Code),
     Owner,

@@ -123,7 +123,7 @@ fn is_block(first: Digits, last: Digits) -> bool
     begins_block(first, last, last.len())
 }
 
-#[derive(Drop)]
+#[derive(Clone, Copy)]
 pub struct Number {
     pub first: Digits,
     pub last: Digits,

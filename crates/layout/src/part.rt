@@ -11,7 +11,7 @@ use fields::date::{MaybeDate, MaybeDateRead};
 use fields::kind::{MaybeKind, MaybeKindRead};
 use fields::number::{Digits, Number};
 
-#[derive(Drop)]
+#[derive(Clone, Copy)]
 pub struct Part {
     pub number: Number,
     pub date: MaybeDate,

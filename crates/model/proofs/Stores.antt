@@ -110,7 +110,7 @@ module _ (R : Rules) where
       let e : (s.files ++ (f ∷ [])) ++ fs ≡ s.files ++ (f ∷ fs) = append_assoc s.files (f ∷ []) fs in
       let once : no_file_twice ((s.files ++ (f ∷ [])) ++ fs) ≡ true = ap no_file_twice e ∙ h in
       let new : any (alike f) s.files ≡ false = not_yes _ (and_right (no_file_twice s.files) _ (sym (twice-more s.files f) ∙ once-in-front (s.files ++ (f ∷ [])) fs once)) in
-      let w = reach-on (file r f new) fs once in
+      let w = reach-on {s = filed R s f} (file r f new) fs once in
       (w.0, w.1, w.2, w.3 ∙ e)
 
   pub reached-worked : (lines : List (Line R)) (files : List Filed) → no_file_twice files ≡ true → Reached R (record { lines = lines; files = files; entries = map (entry_over R files) lines })

@@ -18,7 +18,7 @@ pub const AGAINST_P_L: [u16; 12] = [
 pub const AGAINST_Z: [u16; 3] = [2500, 2502, 2599];
 
 // An objection: its code, 25XX, and the report that it names.
-#[derive(Drop)]
+#[derive(Clone, Copy)]
 pub struct Objection {
     pub code: u16,
     pub named: Published,

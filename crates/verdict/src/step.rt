@@ -12,7 +12,7 @@ use entries::{entry, report};
 use fields::code::Code;
 
 // What a record says: a report, an objection, or any other correction.
-#[derive(Drop)]
+#[derive(Clone, Copy)]
 pub enum Says {
     Reported(Published),
     Objected(Objection),
@@ -20,7 +20,7 @@ pub enum Says {
 }
 
 // A record that names the number: its publisher, its publication day, its place in its file, and what it says.
-#[derive(Drop)]
+#[derive(Clone, Copy)]
 pub struct Record {
     pub publisher: Code,
     pub day: CalendarDays,

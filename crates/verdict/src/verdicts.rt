@@ -4,7 +4,7 @@ ghost use Rattle.verdict.specs.verdicts.Numbers.{number_of};
 ghost use Rattle.verdict.specs.verdicts.Does.{does_by};
 
 // What a report or a correction gets.
-#[derive(Drop)]
+#[derive(Clone, Copy)]
 pub enum Verdict {
     Kept,
     Confirmed,

@@ -1,11 +1,9 @@
 -- `order::groups::search_first` meets its contract. The loop's invariant: the place is from lo on, and not behind hi. Assumes nothing.
-use mathlib.Core.Path.{◌≡◌}
-use Prim.Native.Nat.{◌+◌, ◌-◌, ◌/◌, ◌≤◌}
+use Prim.Native.Nat.{◌+◌, ◌-◌, ◌/◌}
 use native.Mathlib.Omega.{arith}
 use borrow.Author.Rules.{rules}
-use lib.ListN.{length, take}
+use lib.ListN.{take}
 use lib.Seq.{length-take-le}
-use Rattle.order.specs.groups.Groups.{below}
 use Rattle.order.proofs.groups.Below.{below-most, search-up, search-down}
 use Rattle.order.proofs.groups.search_first.Goals as goal
 

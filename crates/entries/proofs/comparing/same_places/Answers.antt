@@ -1,0 +1,27 @@
+-- `entries::comparing::same_places` meets its contract: the loop compares from the front (`laws`). Assumes nothing.
+use mathlib.Core.Path.{◌≡◌, ◌∙◌, sym}
+use borrow.Author.Tests.{not-true, not-false}
+use Prim.Native.Nat.{◌≤◌, ◌-◌}
+use native.Mathlib.Omega.{arith}
+use lib.ListN.{drop}
+use Rattle.laws.specs.Lists.{same_lists}
+use Rattle.laws.proofs.Same.{same-on, same-failed, same-passed}
+use Rattle.entries.specs.Entry.{place_count, free_place}
+use Rattle.entries.specs.comparing.Same.{same_place}
+use borrow.Author.Rules.{rules}
+use Rattle.entries.proofs.comparing.same_places.Goals as goal
+
+pub returns-then-not-same_place : goal.returns-then-not-same_place
+returns-then-not-same_place c =
+    let g = c.args in
+    same-failed same_place free_place g.ps g.qs c.loop-i.i (omega arith) (omega arith) (sym c.same_place.ensures ∙ not-true _ c.if-not-same_place.true-raw) c.loop-i.invariant.1
+
+pub loop-i-preserved : goal.loop-i-preserved
+loop-i-preserved c =
+    let g = c.args in
+    (search rules, same-on same_place free_place g.ps g.qs c.loop-i.i (omega arith) (omega arith) (sym c.same_place.ensures ∙ not-false _ c.if-not-same_place.false-raw) c.loop-i.invariant.1)
+
+pub returns : goal.returns
+returns c =
+    let g = c.args in
+    same-passed same_place free_place g.ps g.qs c.loop-i.i (omega arith) (omega arith) c.loop-i.invariant.1

@@ -1,0 +1,6 @@
+-- `entries::report::meant` meets its contract: the callee's contract, put into the report. Assumes nothing.
+use borrow.Author.Rules.{rules}
+use Rattle.entries.proofs.report.meant.Goals as goal
+
+pub returns : goal.returns
+returns c = rw c.gaining-to.ensures

@@ -1,0 +1,20 @@
+-- `layout::putting::put_date` meets its contract: the field, then the comma. Assumes nothing.
+use Rattle.laws.proofs.Overlay.{room-first, room-byte, room_next, laid_then, laid-length}
+use Rattle.fields.specs.Date.{maybe_date_text}
+use Rattle.layout.specs.Putting.{followed}
+use Rattle.layout.proofs.PutLaws.{room, comma}
+use Rattle.layout.proofs.putting.put_date.Goals as goal
+
+pub write-comma-requires : goal.write-comma-requires
+write-comma-requires c =
+    (room-first (maybe_date_text c.args.date) comma (room c.args.out.now c.args.at (followed (maybe_date_text c.args.date)) c.requires.0), c.requires.1)
+
+pub put_byte-requires : goal.put_byte-requires
+put_byte-requires c =
+    room-byte (room_next comma (room c.args.out.now c.args.at (followed (maybe_date_text c.args.date)) c.requires.0) c.write-comma.ensures)
+
+pub shape_of-out : goal.shape_of-out
+shape_of-out c = laid-length (laid_then c.write-comma.ensures c.put_byte.ensures)
+
+pub returns : goal.returns
+returns c = laid_then c.write-comma.ensures c.put_byte.ensures

@@ -1,0 +1,17 @@
+-- `layout::walk::digits_at` meets its contract: what the digits passed are worth, and what is left of the line, say what the field reads as. Assumes nothing.
+use Prim.Native.Nat.{suc, ◌+◌, ◌-◌, ◌*◌, ◌^◌, ◌≤◌, ◌<◌}
+use mathlib.Core.Path.{◌≡◌, refl, sym, ap, ◌∙◌}
+use native.Mathlib.Omega.{arith}
+use borrow.Author.Rules.{rules}
+use lib.ListN.{length, drop}
+use Rattle.text.proofs.Read.{bound, bound-more}
+use Rattle.layout.specs.Walk.{digits_at}
+use Rattle.layout.proofs.DigitsWalk.{found, found_first, found-comma, found-digit, found-low, found-high, found-beyond, reach-within, reach-twelve}
+use Rattle.layout.proofs.walk.digits_at.Given as goal
+
+abbrev pub invariant-loop-i : goal.invariant-loop-i
+invariant-loop-i l =
+    (l.at ≤ l.i) × ((l.i ≤ l.at + 12) × ((digits_at l.s l.at ≡ found (l.at + 12 - l.i) l.n l.i (drop l.i l.s)) × (l.n < 2 * 10 ^ (l.i - l.at))))
+
+abbrev pub decreases-loop-i : goal.decreases-loop-i
+decreases-loop-i l = l.stop - l.i

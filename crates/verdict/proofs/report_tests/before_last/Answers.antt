@@ -1,0 +1,5 @@
+-- `verdict::report_tests::before_last` meets its contract: the arm's equation and computation. Assumes nothing.
+use Rattle.verdict.proofs.report_tests.before_last.Goals as goal
+
+pub returns-in-On : goal.returns-in-On
+returns-in-On c = cc
