@@ -36,7 +36,7 @@ fn book(rt: &impl Host, count: usize) -> u8 {
         return questions::rework::run(rt, count);
     }
     if args::is(rt, 1, b"files") {
-        return questions::files::run(rt, count);
+        return questions::listing::run(rt, count);
     }
     if args::is(rt, 1, b"read") {
         return commands::read::run(rt, count);

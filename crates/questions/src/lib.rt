@@ -4,7 +4,7 @@
 pub mod asked;
 pub mod compared;
 pub mod figure;
-pub mod files;
+pub mod listing;
 pub mod named;
 pub mod rework;
 pub mod show;
