@@ -3,23 +3,21 @@
 --     fits-record                     what words spell is a record
 --     report-same, correction-same, request-same     and reads as the value of these words
 use Prim.Native.Nat.{ℕ}
-use native.Mathlib.Omega.{arith}
 use mathlib.Core.Path.{◌≡◌, refl, sym, ap, ◌∙◌}
-use mathlib.Core.Bool.{Bool, true, false}
-use mathlib.Core.List.{List, []}
+use mathlib.Core.Bool.{true, false}
+use mathlib.Core.List.{List}
 use Rattle.laws.specs.Lists.{all}
 use Rattle.laws.specs.Split.{lacks}
 use Rattle.laws.specs.Digits.{is_digit}
 use Rattle.laws.proofs.Split.{lacks-by}
 use Rattle.fields.specs.Bytes.{field_byte, record_byte}
 use Rattle.laws.proofs.Tests.{never}
-use Rattle.layout.specs.declared.report.Report.{Report}
 use Rattle.layout.specs.declared.report.ReportRead.{ReportRead}
 use Rattle.layout.specs.declared.correction.CorrectionRead.{CorrectionRead}
 use Rattle.layout.specs.declared.request.RequestRead.{RequestRead}
-use Rattle.layout.specs.Report.{report_of, report_of_words, report_text, report_part}
-use Rattle.layout.specs.Correction.{correction_of, correction_of_words, correction_text, is_report}
-use Rattle.layout.specs.Request.{request_of, request_of_words, request_text}
+use Rattle.layout.specs.Report.{report_of, report_of_words, report_part}
+use Rattle.layout.specs.Correction.{correction_of, correction_of_words, is_report}
+use Rattle.layout.specs.Request.{request_of, request_of_words}
 use Rattle.layout.proofs.RecordBytes.{part-record-bytes, correction-bytes, request-bytes, no-line-end}
 use Rattle.layout.proofs.ReportLaws.{report-trip, report-back, report-words}
 use Rattle.layout.proofs.CorrectionTrip.{correction-trip, correction-back, correction-words}

@@ -1,18 +1,18 @@
 -- The names of files: what the code's tests and stores say of the definitions. Assumes nothing.
-use Prim.Native.Nat.{ℕ, suc, ◌+◌, ◌*◌, ◌/◌, ◌%◌, ◌^◌, ◌<◌, ◌≤◌}
+use Prim.Native.Nat.{ℕ, ◌+◌, ◌/◌, ◌<◌, ◌≤◌}
 use native.Mathlib.Omega.{arith}
-use mathlib.Core.Path.{◌≡◌, refl, sym, ap, ap₂, ◌∙◌}
-use mathlib.Core.Bool.{Bool, true, false, cond, ◌&&◌, and-true}
+use mathlib.Core.Path.{◌≡◌, refl, sym, ap, ◌∙◌}
+use mathlib.Core.Bool.{Bool, true, false, ◌&&◌, and-true}
 use mathlib.Core.List.{List, [], ◌∷◌, ◌++◌}
 use lib.Dec.{eqb}
 use lib.ListN.{length, get_or, take, drop, length-drop, drop_of_length-le}
 use lib.Seq.{drop-cons, take-suc}
-use borrow.Author.Tests.{eq-eqb, ne_eqb, eqb-true, le-ltb, lt-leb, le-leb}
+use borrow.Author.Tests.{ne_eqb, le-ltb, lt-leb, le-leb}
 use Rattle.laws.specs.Lists.{same_lists}
 use Rattle.laws.specs.Overlay.{overlay, Laid}
 use Rattle.laws.specs.Digits.{digits}
 use Rattle.laws.proofs.Tests.{and_left, and_right}
-use Rattle.laws.proofs.Same.{numbers-equal, same-long}
+use Rattle.laws.proofs.Same.{numbers-equal}
 use Rattle.laws.proofs.Digits.{length_digits}
 use Rattle.laws.proofs.Overlay.{overlay-append, overlay-comm}
 use Rattle.calendar.specs.Answers.{full_year, date_of}

@@ -2,21 +2,21 @@
 --     name-read        the name of a kind and a day of the calendar tells that kind and that day
 --     name-written     the kind and the day that a name tells have that name
 --     name-one         so two different names never tell the same
-use Prim.Native.Nat.{ℕ, suc, ◌+◌, ◌-◌, ◌*◌, ◌/◌, ◌%◌, ◌^◌, ◌<◌, ◌≤◌}
+use Prim.Native.Nat.{ℕ, ◌+◌, ◌-◌, ◌*◌, ◌/◌, ◌%◌, ◌^◌, ◌<◌, ◌≤◌}
 use native.Mathlib.Omega.{arith}
 use mathlib.Core.Path.{◌≡◌, refl, sym, ap, ap₂, ◌∙◌}
 use mathlib.Core.Logic.{⊎_elim}
-use mathlib.Core.Bool.{Bool, true, false, cond, ◌&&◌}
-use mathlib.Core.List.{List, [], ◌∷◌, ◌++◌}
+use mathlib.Core.Bool.{Bool, true, false, cond}
+use mathlib.Core.List.{List, ◌∷◌, ◌++◌}
 use lib.Dec.{leb, ltb, eqb}
 use lib.ListN.{length, get_or, take, drop, length-drop, take-append-drop}
-use lib.Seq.{take_at, drop_at, take-suc, take-add, drop-drop, drop-cons, length-take-le}
-use borrow.Author.Tests.{leb-true, le-leb, lt-ltb, le-ltb, lt-leb, ltb-true, eqb-true}
+use lib.Seq.{take_at, drop_at, drop-drop, drop-cons, length-take-le}
+use borrow.Author.Tests.{leb-true, le-leb, lt-ltb, le-ltb, ltb-true, eqb-true}
 use Rattle.laws.specs.Lists.{same_lists}
-use Rattle.laws.specs.Digits.{digits, spelt, all_digits}
+use Rattle.laws.specs.Digits.{digits}
 use Rattle.laws.proofs.Tests.{and_left, and_right, le-or-lt}
 use Rattle.laws.proofs.Same.{numbers-refl}
-use Rattle.laws.proofs.Digits.{length_digits, all_digits_lem, width-trip, width_back, width-below}
+use Rattle.laws.proofs.Digits.{length_digits, all_digits_lem, width-trip, width_back}
 use Rattle.text.specs.Spelt.{digits_of}
 use Rattle.text.specs.declared.Spelt.{Spelt}
 use Rattle.text.specs.declared.Spelt.TheVariants.{Value}

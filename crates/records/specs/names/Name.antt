@@ -1,5 +1,5 @@
 -- The names of files (5.2.2), with the two-digit years of the calendar. Assumes nothing: these are definitions.
-use Rattle.std.specs.Prelude.{ℕ, ◌+◌, ◌*◌, ◌/◌, ◌%◌, Bool, false, cond, ◌&&◌, List, [], ◌∷◌, ◌++◌, eqb, leb, length, get_or, take, drop}
+use Rattle.std.specs.Prelude.{ℕ, ◌+◌, ◌*◌, ◌/◌, ◌%◌, Bool, false, cond, ◌&&◌, List, [], ◌∷◌, ◌++◌, eqb, leb, get_or, take, drop}
 use Rattle.laws.specs.Lists.{same_lists}
 use Rattle.laws.specs.Digits.{digits}
 use Rattle.text.specs.Spelt.{digits_of}

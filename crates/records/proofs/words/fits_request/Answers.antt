@@ -1,0 +1,9 @@
+-- `records::words::fits_request` meets its contract. Assumes nothing.
+use mathlib.Core.Path.{sym, ◌∙◌}
+use Rattle.records.proofs.words.fits_request.Goals as goal
+
+pub returns-in-Request : goal.returns-in-Request
+returns-in-Request c = rw (sym c.of_words.ensures ∙ c.in-Request.is)
+
+pub returns-in-Fault : goal.returns-in-Fault
+returns-in-Fault c = rw (sym c.of_words.ensures ∙ c.in-Fault.is)

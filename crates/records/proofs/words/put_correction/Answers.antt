@@ -1,0 +1,19 @@
+-- `records::words::put_correction` meets its contract. Assumes nothing.
+use Rattle.laws.specs.Overlay.{overlay}
+use native.Mathlib.Omega.{arith}
+use mathlib.Core.Path.{sym, refl, ◌∙◌}
+use Rattle.layout.proofs.CorrectionTrip.{correction-words}
+use Rattle.records.proofs.words.put_correction.Goals as goal
+
+pub write-requires : goal.write-requires
+write-requires c =
+    let is = sym c.of_words.ensures ∙ c.in-Correction.is in
+    (rw is at c.requires, correction-words _ _ is)
+
+pub returns-in-Correction : goal.returns-in-Correction
+returns-in-Correction c =
+    rw (sym c.of_words.ensures ∙ c.in-Correction.is) c.write.ensures
+
+pub returns-in-Fault : goal.returns-in-Fault
+unfolding overlay
+returns-in-Fault c = rw (sym c.of_words.ensures ∙ c.in-Fault.is) (record { bytes = refl; ends = omega arith })

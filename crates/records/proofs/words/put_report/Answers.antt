@@ -1,0 +1,19 @@
+-- `records::words::put_report` meets its contract. Assumes nothing.
+use Rattle.laws.specs.Overlay.{overlay}
+use native.Mathlib.Omega.{arith}
+use mathlib.Core.Path.{sym, refl, ◌∙◌}
+use Rattle.layout.proofs.ReportLaws.{report-words}
+use Rattle.records.proofs.words.put_report.Goals as goal
+
+pub write-requires : goal.write-requires
+write-requires c =
+    let is = sym c.of_words.ensures ∙ c.in-Report.is in
+    (rw is at c.requires, report-words _ _ is)
+
+pub returns-in-Report : goal.returns-in-Report
+returns-in-Report c =
+    rw (sym c.of_words.ensures ∙ c.in-Report.is) c.write.ensures
+
+pub returns-in-Fault : goal.returns-in-Fault
+unfolding overlay
+returns-in-Fault c = rw (sym c.of_words.ensures ∙ c.in-Fault.is) (record { bytes = refl; ends = omega arith })

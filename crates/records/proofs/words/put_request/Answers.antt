@@ -1,0 +1,19 @@
+-- `records::words::put_request` meets its contract. Assumes nothing.
+use Rattle.laws.specs.Overlay.{overlay}
+use native.Mathlib.Omega.{arith}
+use mathlib.Core.Path.{sym, refl, ◌∙◌}
+use Rattle.layout.proofs.RequestTrip.{request-words}
+use Rattle.records.proofs.words.put_request.Goals as goal
+
+pub write-requires : goal.write-requires
+write-requires c =
+    let is = sym c.of_words.ensures ∙ c.in-Request.is in
+    (rw is at c.requires, request-words _ _ is)
+
+pub returns-in-Request : goal.returns-in-Request
+returns-in-Request c =
+    rw (sym c.of_words.ensures ∙ c.in-Request.is) c.write.ensures
+
+pub returns-in-Fault : goal.returns-in-Fault
+unfolding overlay
+returns-in-Fault c = rw (sym c.of_words.ensures ∙ c.in-Fault.is) (record { bytes = refl; ends = omega arith })
