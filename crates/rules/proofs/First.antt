@@ -12,11 +12,10 @@ use lib.Dec.{eqb}
 use lib.ListN.{length, get_or, drop}
 use lib.Seq.{drop-append-add}
 use Rattle.laws.specs.Digits.{is_digit}
-use Rattle.laws.specs.Split.{split, piece_of, joined, lacks}
+use Rattle.laws.specs.Split.{piece_of}
 use Rattle.laws.proofs.Tests.{and_left, and_right}
 use Rattle.laws.proofs.Digits.{length_digits}
 use Rattle.laws.proofs.Split.{split-more, lacks-by}
-use Rattle.fields.specs.declared.number.Digits.{Digits}
 use Rattle.fields.specs.declared.number.Number.{Number}
 use Rattle.fields.specs.Bytes.{field_byte}
 use Rattle.fields.specs.CorrectionCode.{correction_code_fits, correction_code_text}
@@ -28,7 +27,7 @@ use Rattle.layout.specs.declared.report.Report.{Report}
 use Rattle.layout.specs.declared.report.ReportRead.{ReportRead}
 use Rattle.layout.specs.declared.correction.Correction.{Correction}
 use Rattle.layout.specs.declared.correction.CorrectionRead.{CorrectionRead}
-use Rattle.layout.specs.Part.{part_fits, fields_of, part_text}
+use Rattle.layout.specs.Part.{part_fits, part_text}
 use Rattle.layout.specs.Report.{report_of, report_part, report_fits, report_text}
 use Rattle.layout.specs.Correction.{correction_of, correction_fits, correction_text, named_number}
 use Rattle.layout.proofs.ReportLaws.{report-back}

@@ -1,6 +1,6 @@
 -- The tests of the five buffers, one after the other, as the code makes them. Assumes nothing.
-use mathlib.Core.Path.{◌≡◌, refl, sym, ap, ◌∙◌}
-use mathlib.Core.Bool.{Bool, true, false, cond, ◌&&◌}
+use mathlib.Core.Path.{◌≡◌, ap}
+use mathlib.Core.Bool.{Bool, true, false, ◌&&◌}
 use mathlib.Core.List.{List}
 use mathlib.Core.Option.{none, some}
 use Prim.Native.Nat.{ℕ, ◌≤◌, ◌<◌}
@@ -15,7 +15,7 @@ use Rattle.store.specs.journals.Files.{file_count, file_at, files_of, good_file,
 use Rattle.store.specs.numbers.Lines.{line_count, line_at, lines_of, number_at, good_line}
 use Rattle.store.specs.entry_slots.Entries.{good_entry}
 use Rattle.store.specs.Records.{good_report, good_correction}
-use Rattle.store.specs.Reads.{Buffers, lent, held, long_enough, good_table, good_files, good_records, is_readable, reads}
+use Rattle.store.specs.Reads.{Buffers, held, long_enough, good_table, good_files, good_records, is_readable, reads}
 
 -- ---- the number table
 module _ (t : List ℕ) (n : ℕ) (e : n ≡ line_count t) where

@@ -1,12 +1,12 @@
 -- The byte limits follow from the record limits: a slot has room for 44 or 97 bytes, so 8,192 reports have at most 1,048,576 bytes and 2,048
 -- corrections at most 262,144. Assumes nothing.
-use mathlib.Core.Path.{◌≡◌, refl, sym, ap, ◌∙◌}
+use mathlib.Core.Path.{◌≡◌}
 use mathlib.Core.Bool.{true}
 use mathlib.Core.List.{List, [], ◌∷◌}
-use Prim.Native.Nat.{ℕ, zero, suc, ◌+◌, ◌*◌, ◌≤◌, ◌<◌}
-use native.Mathlib.Nat.{suc-mul, mul-le-mul_right}
+use Prim.Native.Nat.{ℕ, zero, suc, ◌+◌, ◌*◌, ◌≤◌}
+use native.Mathlib.Nat.{suc-mul}
 use native.Mathlib.Omega.{arith}
-use lib.ListN.{length, take, length-take}
+use lib.ListN.{length, length-take}
 use Rattle.laws.specs.Lists.{table, total}
 use Rattle.laws.specs.Overlay.{part}
 use Rattle.laws.specs.Slots.{slot_at, held_in}

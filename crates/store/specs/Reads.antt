@@ -1,5 +1,5 @@
 -- What the five lent buffers mean: the store of the model, or nothing. Assumes nothing: these are definitions.
-use Rattle.std.specs.Prelude.{Bool, true, false, cond, ◌&&◌, List, [], ◌∷◌, ◌++◌, map, ℕ, zero, suc, ◌+◌, leb, length}
+use Rattle.std.specs.Prelude.{Bool, cond, ◌&&◌, List, map, ℕ, leb, length}
 use Rattle.std.proofs.Math.Option.{Option, none, some}
 use Rattle.laws.specs.Lists.{table, all, none_twice}
 use Rattle.laws.specs.Slots.{slot_at}

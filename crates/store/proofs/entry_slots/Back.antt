@@ -1,21 +1,21 @@
 -- Reading after writing: an entry in range is read as it was written, every other as before, and its bytes are in range. Assumes nothing.
-use mathlib.Core.Path.{◌≡◌, refl, sym, ap, ap₂, ◌∙◌}
-use mathlib.Core.Bool.{Bool, true, false, cond, ◌&&◌}
+use mathlib.Core.Path.{◌≡◌, refl, sym, ap, ◌∙◌}
+use mathlib.Core.Bool.{Bool, true, false}
 use mathlib.Core.List.{List, [], ◌∷◌, ◌++◌, flat_map, append-nil}
 use Prim.Native.Nat.{ℕ, zero, suc, ◌+◌, ◌-◌, ◌*◌, ◌≤◌, ◌<◌}
 use native.Mathlib.Nat.{zero-add}
 use native.Mathlib.Omega.{arith}
-use lib.Dec.{eqb, leb, lit≤, lit<}
+use lib.Dec.{lit≤, lit<}
 use lib.ListN.{length, get_or, replicate, length-append}
 use lib.Seq.{take_all}
-use borrow.Author.Tests.{le-leb, ne_eqb, eq-eqb}
-use Rattle.laws.specs.Lists.{table, all}
+use borrow.Author.Tests.{le-leb, ne_eqb}
+use Rattle.laws.specs.Lists.{all}
 use Rattle.laws.specs.Overlay.{overlay, part}
 use Rattle.laws.specs.Slots.{slot_at, is_zero}
 use Rattle.laws.specs.Words.{low_first, word_of, word_at}
 use Rattle.laws.proofs.Slots.{slot_same, slot-other, slot-flat, length-flat}
 use Rattle.laws.proofs.Tables.{table-cong, table-self, all-each}
-use Rattle.laws.proofs.Words.{word_first, word-behind, word_next, length-low_first}
+use Rattle.laws.proofs.Words.{word_first, word-behind, word_next}
 use Rattle.store.proofs.slots.Widths.{word-one}
 use Rattle.store.proofs.entry_slots.Places.{kind-small, length-place}
 use Rattle.fields.specs.declared.kind.Kind.{Kind}

@@ -1,12 +1,11 @@
 -- The entry in 100 bytes of a buffer, as the code reads, tests and writes it. Assumes nothing.
-use mathlib.Core.Path.{◌≡◌, refl, sym, ap, ap₂, ◌∙◌}
-use mathlib.Core.Bool.{true, false, ◌&&◌, and-false}
-use mathlib.Core.List.{List, [], ◌∷◌, ◌++◌, flat_map}
+use mathlib.Core.Path.{◌≡◌, sym, ap, ◌∙◌}
+use mathlib.Core.Bool.{false}
+use mathlib.Core.List.{List, [], ◌∷◌, flat_map}
 use Prim.Native.Nat.{ℕ, ◌+◌, ◌*◌, ◌/◌, ◌%◌, ◌≤◌, ◌<◌}
 use native.Mathlib.Nat.{add-zero, zero-add}
 use native.Mathlib.Omega.{arith}
-use lib.Dec.{leb, lit≤}
-use lib.ListN.{length}
+use lib.Dec.{lit≤}
 use borrow.Author.Tests.{le-leb, lt-leb}
 use Rattle.laws.specs.Lists.{table, all}
 use Rattle.laws.specs.Overlay.{overlay, part}
@@ -17,7 +16,7 @@ use Rattle.laws.proofs.Words.{word-part}
 use Rattle.entries.specs.declared.entry.Entry.{Entry}
 use Rattle.entries.specs.declared.entry.Last.{Last}
 use Rattle.entries.specs.declared.entry.Place.{Place}
-use Rattle.store.specs.entry_slots.Places.{place_slot, place_of, good_place}
+use Rattle.store.specs.entry_slots.Places.{place_slot, good_place}
 use Rattle.store.specs.entry_slots.Entries.{last_no, last_of, places_of, entry_slot, entry_of, entry_at, good_entry}
 
 -- a place among eight, cut from the buffer

@@ -10,7 +10,7 @@ use borrow.Author.Tests.{eqb-true, eq-eqb, leb-true}
 use Rattle.laws.specs.Lists.{table, all, none_twice}
 use Rattle.laws.specs.Order.{sorted, rising}
 use Rattle.laws.proofs.Tables.{map-table, lay-none, lay-next}
-use Rattle.laws.proofs.Tests.{and_left, and_right, and-true}
+use Rattle.laws.proofs.Tests.{and_left, and_right}
 use Rattle.laws.proofs.Twice.{once-by-number}
 use Rattle.store.specs.journals.Files.{file_at, good_file, same_file}
 use Rattle.store.specs.journals.Twice.{key_of, keys_of}

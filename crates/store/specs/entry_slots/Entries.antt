@@ -1,6 +1,6 @@
 -- An entry in 100 bytes. Assumes nothing: these are definitions.
 use Rattle.std.specs.Prelude.{Bool, cond, ◌&&◌, ℕ, ◌+◌, ◌-◌, eqb, leb}
-use mathlib.Core.List.{List, [], ◌∷◌, ◌++◌, flat_map}
+use mathlib.Core.List.{List, ◌++◌, flat_map}
 use Rattle.laws.specs.Lists.{table, all}
 use Rattle.laws.specs.Overlay.{part}
 use Rattle.laws.specs.Slots.{slot_at}

@@ -1,5 +1,5 @@
 -- The list of the filed files, as the buffer `files` holds it. Assumes nothing: these are definitions.
-use Rattle.std.specs.Prelude.{Bool, cond, ◌&&◌, List, [], ◌∷◌, ◌++◌, ℕ, ◌+◌, ◌*◌, eqb, leb, get_or}
+use Rattle.std.specs.Prelude.{Bool, cond, ◌&&◌, List, [], ◌∷◌, ◌++◌, ℕ, eqb, leb}
 use Rattle.calendar.specs.Dates.{in_calendar}
 use Rattle.laws.specs.Lists.{table, total}
 use Rattle.laws.specs.Slots.{slot_at}

@@ -1,5 +1,5 @@
 -- A number for a file's kind, publisher and day. Assumes nothing: these are definitions.
-use Rattle.std.specs.Prelude.{List, map, ℕ, ◌+◌, ◌*◌}
+use Rattle.std.specs.Prelude.{List, ℕ, ◌+◌, ◌*◌}
 use Rattle.laws.specs.Lists.{table}
 use Rattle.store.specs.journals.Files.{file_at}
 use Rattle.store.specs.declared.journals.files.File.{File}

@@ -1,0 +1,9 @@
+-- `rules::records::class_of_report` meets its contract: the arm's equation, and the callees' contracts, one put into the other. Assumes nothing.
+use mathlib.Core.Path.{sym, ◌∙◌}
+use Rattle.rules.proofs.records.class_of_report.Goals as goal
+
+pub returns-in-Report : goal.returns-in-Report
+returns-in-Report c = rw (sym c.read-read.ensures ∙ c.in-Report.is, c.class_of.ensures)
+
+pub returns-in-Fault : goal.returns-in-Fault
+returns-in-Fault c = rw (sym c.read-read.ensures ∙ c.in-Fault.is)
