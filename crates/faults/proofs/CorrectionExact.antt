@@ -26,7 +26,6 @@ use Rattle.fields.specs.Number.{digits_size, digits_text, is_empty}
 use Rattle.fields.proofs.ByteLaws.{bytes-digits, bytes-maybe-code, bytes-maybe-date, bytes-maybe-kind}
 use Rattle.layout.specs.declared.part.Part.{Part}
 use Rattle.layout.specs.declared.part.PartRead.{PartRead}
-use Rattle.layout.specs.declared.correction.Correction.{Correction}
 use Rattle.layout.specs.declared.correction.CorrectionRead.{CorrectionRead}
 use Rattle.layout.specs.Part.{part_text}
 use Rattle.layout.specs.Correction.{on_head, on_part, is_sound, sound_of, correction_of, correction_text}

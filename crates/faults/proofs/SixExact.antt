@@ -30,7 +30,6 @@ use Rattle.fields.specs.declared.kind.MaybeKind.{MaybeKind}
 use Rattle.fields.specs.declared.kind.MaybeKindRead.{MaybeKindRead}
 use Rattle.fields.specs.declared.number.Digits.{Digits}
 use Rattle.fields.specs.declared.number.DigitsRead.{DigitsRead}
-use Rattle.fields.specs.declared.number.Number.{Number}
 use Rattle.fields.specs.declared.number.NumberRead.{NumberRead}
 use Rattle.fields.specs.Bytes.{field_byte}
 use Rattle.fields.specs.Code.{code_of, maybe_code_of, maybe_code_from}
@@ -41,7 +40,6 @@ use Rattle.fields.specs.Number.{digits_field_of, digits_from, digits_size, is_em
 use Rattle.fields.proofs.NumberLaws.{digits-back, digits-counted, number-back, size-some}
 use Rattle.layout.specs.declared.part.Part.{Part}
 use Rattle.layout.specs.declared.part.PartRead.{PartRead}
-use Rattle.layout.specs.declared.report.Report.{Report}
 use Rattle.layout.specs.declared.report.ReportRead.{ReportRead}
 use Rattle.layout.specs.Part.{on_digits, on_number, on_date, on_code, on_kind, six_of}
 use Rattle.layout.specs.Report.{on_some_date, on_some_code, on_some_kind, whole_of, report_from, is_named as part_named}

@@ -1,6 +1,6 @@
 -- The fields of a line that may be damaged: a field reaches to the next comma (44), the last one to the end of the record; fields that are missing
 -- are empty. Assumes nothing: these are definitions.
-use Rattle.std.specs.Prelude.{ℕ, ◌-◌, Bool, cond, ◌&&◌, List, eqb, ltb, length, get_or, take, drop}
+use Rattle.std.specs.Prelude.{ℕ, ◌-◌, cond, ◌&&◌, List, eqb, ltb, length, get_or, take, drop}
 use Rattle.laws.specs.Split.{split, piece_of, joined, end_of}
 
 -- the field behind so many commas, up to the next one

@@ -5,7 +5,7 @@ ghost use Rattle.faults.specs.Cause.{cause_number};
 // The causes in the order in which they are tried for one field: a character outside 4.4.1, a field of the wrong length, a date that doesn't
 // exist, a network code that isn't one, a value the table doesn't allow; and of a whole file: a closing record that is missing or whose count
 // disagrees, bytes after the end.
-#[derive(Drop)]
+#[derive(Clone, Copy)]
 pub enum Cause {
     Character,
     Length,
@@ -41,7 +41,7 @@ pub struct FaultPlace {
 }
 
 // A field that is right, or why it is wrong.
-#[derive(Drop)]
+#[derive(Clone, Copy)]
 pub enum FieldCheck {
     Right,
     Wrong(Cause),

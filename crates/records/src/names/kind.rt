@@ -2,7 +2,7 @@
 ghost use Rattle.std.specs.Prelude.{◌≡◌};
 ghost use Rattle.records.specs.names.Kind.{kind_of, letter_of, has_closing};
 
-#[derive(Drop)]
+#[derive(Clone, Copy)]
 pub enum FileKind {
     Default,
     Correction,

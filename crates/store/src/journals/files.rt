@@ -20,7 +20,7 @@ pub const SLOT: usize = 8;
 pub const FILES_LENGTH: usize = HEAD + FILES * SLOT;
 
 // A filed file. Kind 0 is default and 1 correction; the day is the day of its publication.
-#[derive(Drop)]
+#[derive(Clone, Copy)]
 pub struct File {
     pub kind: u8,
     pub publisher: u16,

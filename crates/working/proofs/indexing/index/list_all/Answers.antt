@@ -1,0 +1,7 @@
+-- `working::indexing::index::list_all` meets its contract: the callee's contract; an array has the room. Assumes nothing.
+use borrow.Author.Rules.{rules}
+use Rattle.working.proofs.indexing.index.list_all.Goals as goal
+
+pub list_files-requires : goal.list_files-requires
+list_files-requires c =
+    (c.requires.sound, (c.requires.sought, search rules))

@@ -1,0 +1,10 @@
+-- `working::overview::lines::want_lines` meets its contract: what is laid, sorted. Assumes nothing.
+use mathlib.Core.Path.{ap, ◌∙◌}
+use mathlib.Core.List.{List}
+use Prim.Native.Nat.{ℕ}
+use Rattle.working.specs.overview.Lines.{sorted_first}
+use borrow.Author.Rules.{rules}
+use Rattle.working.proofs.overview.lines.want_lines.Goals as goal
+
+pub returns : goal.returns
+returns c = c.sort.ensures ∙ ap (sorted_first c.args.m) c.lay_all_tags.ensures
