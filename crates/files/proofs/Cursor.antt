@@ -2,15 +2,15 @@
 --     line-at       where the line k starts, and what the lines from there on are
 --     lines-enough  a file that was judged has no fewer lines than records
 --     walked        k steps from the start of a file with more than k records lead to the record k
-use Prim.Native.Nat.{ℕ, zero, suc, ◌+◌, ◌-◌, ◌≤◌, ◌<◌}
+use Prim.Native.Nat.{ℕ, zero, suc, ◌+◌, ◌≤◌, ◌<◌}
 use native.Mathlib.Nat.{add-zero, min-le_right}
 use native.Mathlib.Numerals.{add-one}
 use native.Mathlib.Omega.{arith}
 use mathlib.Core.Path.{◌≡◌, refl, sym, ap, ◌∙◌}
 use mathlib.Core.Logic.{⊎_elim}
-use mathlib.Core.List.{List, [], ◌∷◌, ◌++◌}
-use lib.ListN.{length, get_or, take, drop, length-append, length-drop, length-take, get_or-append}
-use lib.Seq.{drop-drop, get_or-drop, get_or-take}
+use mathlib.Core.List.{List, []}
+use lib.ListN.{length, get_or, take, drop, length-drop, length-take}
+use lib.Seq.{drop-drop, get_or-drop}
 use Rattle.laws.specs.Split.{split, between, end_of, EndsAt}
 use Rattle.laws.proofs.Tests.{le-or-lt}
 use Rattle.laws.proofs.Split.{ends_at, ends_more, ends_last}

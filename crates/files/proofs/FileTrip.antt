@@ -10,8 +10,8 @@ use native.Mathlib.Omega.{arith}
 use mathlib.Core.Path.{◌≡◌, refl, sym, ap, ◌∙◌}
 use mathlib.Core.Bool.{Bool, true, false, cond, not, ◌&&◌}
 use mathlib.Core.List.{List, [], ◌∷◌, ◌++◌, append-nil, append_assoc, map}
-use lib.ListN.{length, take, length-map}
-use lib.Seq.{take_at, take-length}
+use lib.ListN.{length, length-map}
+use lib.Seq.{take_at}
 use Rattle.laws.specs.Lists.{all, first_at}
 use Rattle.laws.specs.Split.{split, lacks}
 use Rattle.laws.specs.Ended.{ended}
@@ -24,7 +24,6 @@ use Rattle.records.specs.declared.names.kind.FileKind.{FileKind}
 use Rattle.records.specs.names.Kind.{has_closing}
 use Rattle.records.specs.Record.{is_record, fits, text_of}
 use Rattle.records.proofs.RecordTrip.{fits-record, record-lacks, record-begins}
-use Rattle.files.specs.declared.judge.Judged.{Judged}
 use Rattle.files.specs.declared.judge.Judged.TheVariants.{Records}
 use Rattle.files.specs.Judged.{judged, judged_one, judged_file, records_of}
 use Rattle.files.specs.Writing.{Holding, values_in, unfit, held_all, held_one, held, lines_of, file_text, file_of}

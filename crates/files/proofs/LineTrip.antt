@@ -6,12 +6,12 @@ use lib.Dec.{eqb}
 use Prim.Native.Nat.{ℕ, suc, ◌+◌, ◌≤◌}
 use native.Mathlib.Nat.{add-zero}
 use native.Mathlib.Omega.{arith}
-use mathlib.Core.Path.{◌≡◌, refl, sym, ap, ◌∙◌}
+use mathlib.Core.Path.{◌≡◌, refl, ap, ◌∙◌}
 use mathlib.Core.Bool.{Bool, true, false, cond, ◌||◌}
 use mathlib.Core.List.{List, [], ◌∷◌, ◌++◌}
-use lib.ListN.{length, take}
+use lib.ListN.{length}
 use Rattle.laws.specs.Lists.{all, same_lists}
-use Rattle.laws.proofs.Tests.{and_left, and_right, and-true}
+use Rattle.laws.proofs.Tests.{and_left, and_right}
 use Rattle.laws.proofs.Same.{numbers-refl, numbers-equal}
 use Rattle.records.specs.closing.Closing.{begins, closing_text}
 use Rattle.records.proofs.closing.ClosingLaws.{begins-closing}
@@ -26,7 +26,7 @@ use Rattle.faults.specs.Record.{record_fault, end_pos}
 use Rattle.faults.proofs.RecordExact.{record-right, right-record}
 use Rattle.files.specs.declared.judge.Judged.TheVariants.{Records, Fault}
 use Rattle.files.specs.Judged.{place_at, is_end, closed, on_line, unended, last_line, judged, judged_one}
-use Rattle.files.proofs.JudgeLaws.{judged-line, one_line}
+use Rattle.files.proofs.JudgeLaws.{judged-line}
 
 -- the closing record of n lines, and nothing behind its CR
 abbrev pub end_of_file : ℕ → List (List ℕ)

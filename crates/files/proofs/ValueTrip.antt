@@ -2,7 +2,7 @@
 --     report-there, correction-there, request-there         where there is a record, its value is read, and it is spelt as the record is
 --     report-kept, correction-kept, request-kept            reading a file that was written from words gives the values of these words
 --     response-as-default                                   a response file is read as a default file is
-use Prim.Native.Nat.{ℕ, zero, suc, ◌+◌, ◌<◌, ◌≤◌}
+use Prim.Native.Nat.{ℕ, zero, suc, ◌+◌, ◌<◌}
 use native.Mathlib.Omega.{arith}
 use mathlib.Core.Path.{◌≡◌, refl, sym, ap, ◌∙◌}
 use mathlib.Core.Bool.{Bool, true, false, cond}
@@ -10,7 +10,6 @@ use mathlib.Core.List.{List, [], ◌∷◌, map}
 use lib.Dec.{ltb}
 use lib.ListN.{length, get_or, length-map}
 use borrow.Author.Tests.{lt-ltb, ltb-true}
-use Rattle.laws.specs.Lists.{all}
 use Rattle.laws.specs.Split.{split, piece_of}
 use Rattle.laws.proofs.Tables.{all-at}
 use Rattle.laws.proofs.Tests.{never}
@@ -42,7 +41,7 @@ use Rattle.files.specs.Reading.{found_in, found_at, record_at}
 use Rattle.files.specs.Writing.{Holding, values_in, held, file_of}
 use Rattle.files.specs.Values.{report_found, report_at, correction_found, correction_at, request_found, request_at}
 use Rattle.files.proofs.ReadLaws.{record-line}
-use Rattle.files.proofs.FileTrip.{Has, file-written, words-read, words-fit}
+use Rattle.files.proofs.FileTrip.{file-written, words-read, words-fit}
 
 -- ---- where there is a record
 -- a place with a record is one of so many

@@ -1,0 +1,23 @@
+-- `files::values::read_request` meets its contract. Assumes nothing.
+use Rattle.files.specs.Values.{request_at}
+use Rattle.layout.specs.Request.{request_of}
+use mathlib.Core.Path.{sym, ap, ◌∙◌}
+use Rattle.files.proofs.values.read_request.Goals as goal
+
+pub returns-in_default : goal.returns-in_default
+unfolding request_at
+returns-in_default c =
+    rw (sym c.find.ensures ∙ c.in-Record.is, sym (ap request_of c.piece.ensures) ∙ sym c.read.ensures ∙ c.in_default.is)
+
+pub returns-in-Fault : goal.returns-in-Fault
+unfolding request_at
+returns-in-Fault c = rw (sym c.find.ensures ∙ c.in-Fault.is)
+
+pub returns-in-Beyond : goal.returns-in-Beyond
+unfolding request_at
+returns-in-Beyond c = rw (sym c.find.ensures ∙ c.in-Beyond.is)
+
+pub returns-in-Request : goal.returns-in-Request
+unfolding request_at
+returns-in-Request c =
+    rw (sym c.find.ensures ∙ c.in-Record.is, sym (ap request_of c.piece.ensures) ∙ sym c.read.ensures ∙ c.in-Request.is)
