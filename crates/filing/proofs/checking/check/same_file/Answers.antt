@@ -4,8 +4,7 @@ use mathlib.Core.Bool.{Bool, true, false, ◌&&◌}
 use lib.Dec.{eqb}
 use Rattle.store.specs.journals.Files.{same_file}
 use Rattle.store.specs.declared.journals.files.File.{File}
-use Rattle.filing.proofs.checking.check.same_file.Statement.{statement}
-use Rattle.filing.proofs.checking.check.same_file.Tie as tie
+use Rattle.filing.proofs.checking.check.same_file.Goals as goal
 
 -- in whatever order three tests are made
 turned : (k p d : Bool) → ((d && p) && k) ≡ (k && (p && d))
@@ -22,8 +21,5 @@ day-first : (f g : File) → ((eqb f.day g.day && eqb f.publisher g.publisher) &
 unfolding same_file
 day-first f g = turned (eqb f.kind g.kind) (eqb f.publisher g.publisher) (eqb f.day g.day)
 
-returns : tie.Need-returns
+pub returns : goal.returns
 returns c = day-first _ _
-
-pub same-file-spec : {M : Type 1} → statement M
-same-file-spec = tie.close (tie.spec returns)
