@@ -3,18 +3,16 @@ use Prim.Native.Nat.{ℕ, suc, ◌+◌, ◌≤◌, ◌<◌}
 use native.Mathlib.Nat.{add-zero}
 use native.Mathlib.Omega.{arith}
 use mathlib.Core.Path.{◌≡◌, refl, sym, ap, ap₂, ◌∙◌}
-use mathlib.Core.Bool.{Bool, true, false, cond, not, ◌&&◌}
-use mathlib.Core.List.{List, [], ◌∷◌, ◌++◌, append_assoc, map}
+use mathlib.Core.Bool.{Bool, true, false, cond, ◌&&◌}
+use mathlib.Core.List.{List, [], ◌∷◌, ◌++◌, append_assoc}
 use lib.ListN.{length, take, drop, length-append}
 use Rattle.laws.specs.Lists.{all, first_at}
 use Rattle.laws.specs.Ended.{ended}
 use Rattle.laws.specs.Overlay.{overlay, Laid}
 use Rattle.laws.proofs.Tests.{and_left, and_right}
-use Rattle.laws.proofs.Ended.{ended-append}
 use Rattle.laws.proofs.Overlay.{overlay-append, laid_then, laid-length}
 use Rattle.records.specs.closing.Closing.{closing_text}
 use Rattle.records.specs.declared.names.kind.FileKind.{FileKind}
-use Rattle.records.specs.names.Kind.{has_closing}
 use Rattle.records.specs.Record.{width_of, fits, text_of}
 use Rattle.composing.specs.declared.measure.Measured.{Measured}
 use Rattle.files.specs.Writing.{Holding, values_in, unfit, held_all}

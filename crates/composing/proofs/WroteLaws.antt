@@ -3,13 +3,13 @@ use Prim.Native.Nat.{ℕ, zero, suc, ◌+◌, ◌≤◌, ◌<◌}
 use native.Mathlib.Nat.{zero-add, min-le_right}
 use native.Mathlib.Omega.{arith}
 use mathlib.Core.Path.{◌≡◌, refl, sym, ap, ◌∙◌}
-use mathlib.Core.Bool.{Bool, true, false, cond}
+use mathlib.Core.Bool.{true, false}
 use mathlib.Core.List.{List, [], ◌∷◌, ◌++◌, append_assoc, map}
-use lib.ListN.{length, take, drop, length-append, length-take, length-map}
+use lib.ListN.{length, take, drop, length-take, length-map}
 use borrow.Author.Tests.{le-leb, lt-leb}
 use Rattle.laws.specs.Lists.{all}
 use Rattle.laws.specs.Ended.{ended}
-use Rattle.laws.specs.Overlay.{overlay, Laid}
+use Rattle.laws.specs.Overlay.{Laid}
 use Rattle.laws.proofs.Ended.{ended-append}
 use Rattle.laws.proofs.Overlay.{laid_then}
 use Rattle.records.specs.closing.Closing.{closing_text}

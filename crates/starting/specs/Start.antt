@@ -1,5 +1,5 @@
 -- What starting answers, and what it leaves in the buffers. Assumes nothing: these are definitions.
-use Rattle.std.specs.Prelude.{◌≡◌, Bool, cond, ℕ, ◌*◌, length}
+use Rattle.std.specs.Prelude.{◌≡◌, cond, ℕ, ◌*◌, length}
 use mathlib.Core.List.{List, [], ◌∷◌, ◌++◌, map, flat_map}
 use Rattle.std.proofs.Math.Option.{Option, none, some}
 use Rattle.laws.specs.Lists.{table}

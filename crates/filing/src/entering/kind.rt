@@ -4,7 +4,7 @@ ghost use Rattle.filing.specs.entering.Entering.{kind_number, file_kind, most};
 
 use records::names::kind::FileKind;
 
-#[derive(Drop)]
+#[derive(Clone, Copy)]
 pub enum Filable {
     Default,
     Correction,

@@ -1,6 +1,6 @@
 -- A given line, field by field, as the code reads it; and a line that is given is well formed. Assumes nothing.
-use mathlib.Core.Path.{◌≡◌, refl, sym, ap, ◌∙◌}
-use mathlib.Core.Bool.{Bool, true, false, cond, not, ◌&&◌}
+use mathlib.Core.Path.{◌≡◌, refl, ap, ◌∙◌}
+use mathlib.Core.Bool.{Bool, true, false, cond}
 use mathlib.Core.List.{List}
 use Prim.Native.Nat.{ℕ, ◌-◌}
 use native.Mathlib.Omega.{arith}
@@ -11,7 +11,7 @@ use Rattle.laws.specs.Split.{split, piece_of}
 use Rattle.calendar.specs.Dates.{in_calendar}
 use Rattle.calendar.specs.declared.dates.CalendarDays.{CalendarDays}
 use Rattle.fields.specs.Code.{code_of, code_fits}
-use Rattle.fields.specs.Date.{date_field_of, date_fits}
+use Rattle.fields.specs.Date.{date_field_of}
 use Rattle.fields.specs.Number.{digits_field_of, digits_fits, is_empty, number_of, number_fits}
 use Rattle.fields.specs.declared.code.Code.{Code}
 use Rattle.fields.specs.declared.code.CodeRead.{CodeRead}

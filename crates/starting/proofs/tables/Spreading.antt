@@ -1,11 +1,10 @@
 -- The loop that lays the given lines out, turn by turn, and what it has laid out. Assumes nothing.
 use mathlib.Core.Path.{◌≡◌, refl, sym, ap, ap₂, ◌∙◌}
-use mathlib.Core.Bool.{Bool, true, false, cond, ◌&&◌}
+use mathlib.Core.Bool.{Bool, true, false, ◌&&◌}
 use mathlib.Core.List.{List, [], ◌∷◌, ◌++◌, map, flat_map, append_assoc, append-nil}
 use mathlib.Core.Option.{Option, none, some}
-use Prim.Native.Nat.{ℕ, zero, suc, ◌+◌, ◌*◌, ◌≤◌, ◌<◌}
+use Prim.Native.Nat.{ℕ, ◌+◌, ◌*◌, ◌≤◌, ◌<◌}
 use native.Mathlib.Omega.{arith}
-use lib.Dec.{leb, lit≤}
 use lib.ListN.{length, take, drop, get_or, length-append, drop_of_length-le}
 use lib.Seq.{length-take-le}
 use borrow.Author.Tests.{lt-leb, le-leb}
@@ -19,14 +18,13 @@ use Rattle.laws.proofs.Slots.{length-flat, slot-flat}
 use Rattle.laws.proofs.Split.{split-some, ends_at, ends_more, ends_last, length-between}
 use Rattle.laws.proofs.Tables.{all_more, all-at, table-cong, table-self, map-table}
 use Rattle.fields.specs.Number.{same_number}
-use Rattle.fields.specs.declared.number.Number.{Number}
 use Rattle.store.specs.numbers.Lines.{line_slot, line_of, line_at, number_at, good_line}
 use Rattle.store.specs.declared.numbers.lines.Line.{Line}
 use Rattle.store.proofs.numbers.Fitting.{good-roomy}
 use Rattle.store.proofs.numbers.Reading.{length-line, line-back}
 use Rattle.starting.specs.declared.tables.given.LineRead.{LineRead}
 use Rattle.starting.specs.declared.tables.given.LineRead.TheVariants.{Fault}
-use Rattle.starting.specs.tables.Given.{line_given, end_given, with_line, lines_given, number_of_line, checked, table_of, Spread}
+use Rattle.starting.specs.tables.Given.{line_given, with_line, lines_given, number_of_line, checked, table_of, Spread}
 use Rattle.starting.proofs.tables.Reading.{line-good}
 
 -- lines in front of lines, if there are any

@@ -1,6 +1,6 @@
 -- The number table as it is given: lines `num1,num2,OWNER,ddmmyyyy`, each ended by a line feed, and nothing else. Assumes nothing: these are definitions.
-use Rattle.std.specs.Prelude.{◌≡◌, Bool, true, false, cond, ◌&&◌, ℕ, ◌≤◌, eqb, leb, length}
-use mathlib.Core.List.{List, [], ◌∷◌, ◌++◌, map, flat_map}
+use Rattle.std.specs.Prelude.{◌≡◌, true, cond, ◌&&◌, ℕ, ◌≤◌, eqb, leb, length}
+use mathlib.Core.List.{List, [], ◌∷◌, map, flat_map}
 use Rattle.std.proofs.Math.Option.{Option, none, some}
 use Rattle.laws.specs.Lists.{all, none_twice}
 use Rattle.laws.specs.Overlay.{overlay}

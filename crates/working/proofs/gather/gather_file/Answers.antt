@@ -1,6 +1,5 @@
 -- `working::gather::gather_file` meets its contract: the loop's invariant is the contract over the first i records; a turn is `behind-yes` or `behind-no`. Assumes nothing.
 use mathlib.Core.Path.{◌≡◌, sym, subst, ◌∙◌}
-use mathlib.Core.Logic.{⊎_elim}
 use Prim.Native.Nat.{ℕ, ◌+◌, ◌-◌, ◌≤◌}
 use native.Mathlib.Omega.{arith}
 use lib.ListN.{length, length-set}
@@ -9,6 +8,7 @@ use Rattle.working.specs.Slips.{keys_in}
 use Rattle.working.specs.Working.{Behind}
 use Rattle.working.proofs.GatherLaws.{behind-none, behind-yes, behind-no}
 use borrow.Author.Rules.{rules}
+use Rattle.working.proofs.gather.gather_file.Goals.{then-names, else-names}
 use Rattle.working.proofs.gather.gather_file.Goals as goal
 
 pub loop-i-init : goal.loop-i-init
@@ -22,11 +22,12 @@ loop-i-preserved c =
     let r = records_at args.regular.now args.corrections.now in
     let inv = c.loop-i.invariant.3 in (
       search rules,
-      ⊎_elim (λ w. rw w.2 (simp length-set c.loop-i.invariant.1)) (λ w. rw w.1 c.loop-i.invariant.1) c.if-names.branch,
-      ⊎_elim (λ w. rw w.3 (omega arith)) (λ w. rw w.2 (omega arith)) c.if-names.branch,
-      ⊎_elim
-          (λ w. rw (w.2, w.3) (behind-yes r args.number args.f args.start args.keys.now c.loop-i.keys args.at c.loop-i.r c.loop-i.i inv _ (omega arith) (sym c.names.ensures ∙ w.0.taken) w.1.ensures))
-          (λ w. rw (w.1, w.2) (behind-no r args.number args.f args.start args.keys.now c.loop-i.keys args.at c.loop-i.r c.loop-i.i inv (sym c.names.ensures ∙ w.0.left))) c.if-names.branch,
+      elim c.if-names.branch [ then-names w ↦ rw w.keys-is (simp length-set c.loop-i.invariant.1) | else-names w ↦ rw w.keys-is c.loop-i.invariant.1 ],
+      elim c.if-names.branch [ then-names w ↦ rw w.r-is (omega arith) | else-names w ↦ rw w.r-is (omega arith) ],
+      elim c.if-names.branch [
+        then-names w ↦ rw (w.keys-is, w.r-is) (behind-yes r args.number args.f args.start args.keys.now c.loop-i.keys args.at c.loop-i.r c.loop-i.i inv _ (omega arith) (sym c.names.ensures ∙ w.if-names.true) w.key_at.ensures)
+        | else-names w ↦ rw (w.keys-is, w.r-is) (behind-no r args.number args.f args.start args.keys.now c.loop-i.keys args.at c.loop-i.r c.loop-i.i inv (sym c.names.ensures ∙ w.if-names.false))
+      ],
     )
 
 pub returns : goal.returns

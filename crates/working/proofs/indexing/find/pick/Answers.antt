@@ -1,5 +1,4 @@
 -- `working::indexing::find::pick` meets its contract: the loop's invariant is the contract over the first i tags; a turn is `pick_yes` or `pick_no`. Assumes nothing.
-use mathlib.Core.Logic.{⊎_elim}
 use lib.Seq.{length-take-le, get_or-take}
 use Rattle.working.proofs.indexing.Finding.{pick-none, pick_yes, pick_no}
 use mathlib.Core.Path.{◌≡◌, sym, ap, subst, ◌∙◌}
@@ -10,6 +9,7 @@ use Rattle.laws.specs.Lists.{keep}
 use Rattle.working.specs.Working.{Behind}
 use Rattle.working.specs.indexing.Index.{about_key, keys_behind}
 use borrow.Author.Rules.{rules}
+use Rattle.working.proofs.indexing.find.pick.Goals.{then-about, else-about}
 use Rattle.working.proofs.indexing.find.pick.Goals as goal
 
 pub loop-i-init : goal.loop-i-init
@@ -26,11 +26,12 @@ loop-i-preserved c =
     let in-first : args.from + c.loop-i.i < length (take args.c args.places.now) = omega (arith, length-take-le args.c args.places.now few) in
     let e = c.key_of-key.ensures ∙ ap (λ (g : ℕ). get_or (take args.c args.keys.now) (g % 16384) 0) (sym (get_or-take args.c args.places.now (args.from + c.loop-i.i) 0 h)) in (
       search rules,
-      ⊎_elim (λ w. rw w.1 (simp length-set c.loop-i.invariant.1)) (λ w. rw w.1 c.loop-i.invariant.1) c.if-about.branch,
-      ⊎_elim (λ w. rw w.2 (omega arith)) (λ w. rw w.2 (omega arith)) c.if-about.branch,
-      ⊎_elim
-          (λ w. rw (w.1, w.2) (pick_yes q (take args.c args.keys.now) (take args.c args.places.now) args.from args.out.now c.loop-i.out c.loop-i.r c.loop-i.i c.key_of-key.result c.loop-i.invariant.3 in-first e (omega arith) (sym c.about.ensures ∙ w.0.taken)))
-          (λ w. rw (w.1, w.2) (pick_no q (take args.c args.keys.now) (take args.c args.places.now) args.from args.out.now c.loop-i.out c.loop-i.r c.loop-i.i c.key_of-key.result c.loop-i.invariant.3 in-first e (sym c.about.ensures ∙ w.0.left))) c.if-about.branch,
+      elim c.if-about.branch [ then-about w ↦ rw w.out-is (simp length-set c.loop-i.invariant.1) | else-about w ↦ rw w.out-is c.loop-i.invariant.1 ],
+      elim c.if-about.branch [ then-about w ↦ rw w.r-is (omega arith) | else-about w ↦ rw w.r-is (omega arith) ],
+      elim c.if-about.branch [
+        then-about w ↦ rw (w.out-is, w.r-is) (pick_yes q (take args.c args.keys.now) (take args.c args.places.now) args.from args.out.now c.loop-i.out c.loop-i.r c.loop-i.i c.key_of-key.result c.loop-i.invariant.3 in-first e (omega arith) (sym c.about.ensures ∙ w.if-about.true))
+        | else-about w ↦ rw (w.out-is, w.r-is) (pick_no q (take args.c args.keys.now) (take args.c args.places.now) args.from args.out.now c.loop-i.out c.loop-i.r c.loop-i.i c.key_of-key.result c.loop-i.invariant.3 in-first e (sym c.about.ensures ∙ w.if-about.false))
+      ],
     )
 
 pub returns : goal.returns

@@ -14,7 +14,7 @@ pub lay_all_tags-requires : goal.lay_all_tags-requires
 lay_all_tags-requires c =
     let start = c.before in
     let args = start.args in
-    room-all args.files.now args.regular.now args.corrections.now (take args.w args.wanted.now) args.n start.requires.0 _ c.list_all-c.result c.list_all-c.ensures
+    room-all args.files.now args.regular.now args.corrections.now (take args.w args.wanted.now) args.n start.requires.sound _ c.list_all-c.result c.list_all-c.ensures
 
 pub returns : goal.returns
 returns c =
@@ -22,7 +22,7 @@ returns c =
     let args = start.args in
     let g = c.list_all-c.ensures in record {
       candidates = g;
-      few = room-all args.files.now args.regular.now args.corrections.now (take args.w args.wanted.now) args.n start.requires.0 _ c.list_all-c.result g;
+      few = room-all args.files.now args.regular.now args.corrections.now (take args.w args.wanted.now) args.n start.requires.sound _ c.list_all-c.result g;
       grouped =
           tags-laid (front_behind args.regular.now args.corrections.now) _ _ _ c.list_all-c.result
           (listed-long args.files.now args.regular.now args.corrections.now (take args.w args.wanted.now) args.n _ c.list_all-c.result g) c.lay_all_tags.ensures c.sort.ensures;

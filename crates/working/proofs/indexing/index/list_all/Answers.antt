@@ -4,4 +4,4 @@ use Rattle.working.proofs.indexing.index.list_all.Goals as goal
 
 pub list_files-requires : goal.list_files-requires
 list_files-requires c =
-    (c.requires.sound, (c.requires.sought, search rules))
+    record { sound = c.requires.sound; sought = c.requires.sought; in_bounds = search rules }

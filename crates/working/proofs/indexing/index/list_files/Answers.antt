@@ -27,20 +27,19 @@ list_file-r-requires c =
     let f = c.file_at-f in
     let inv = c.loop-k.invariant in
     let h : c.loop-k.k < args.n = omega arith in
-    let q = c.begin-start.ensures ∙ begins args.n args.files.now args.regular.now args.corrections.now c.requires.sound c.loop-k.k f.result c.loop-k.reports c.loop-k.objections h f.ensures.0 inv.2 inv.3 in (
-      in-turn args.n args.files.now args.regular.now args.corrections.now c.requires.sound c.loop-k.k f.result c.begin-start.result h f.ensures.0 q,
-      (
-        c.requires.sought.0,
-        omega (
-          arith,
-          room args.files.now args.regular.now args.corrections.now (take args.w args.wanted.now) args.n c.requires.sound c.loop-k.k h,
-          ap (λ (g : File). g.count) f.ensures.0,
-          inv.4.counted,
-          inv.1,
-          c.requires.sought.1,
-        ),
-      ),
-    )
+    let q = c.begin-start.ensures ∙ begins args.n args.files.now args.regular.now args.corrections.now c.requires.sound c.loop-k.k f.result c.loop-k.reports c.loop-k.objections h f.ensures.0 inv.2 inv.3 in record {
+      in_file = in-turn args.n args.files.now args.regular.now args.corrections.now c.requires.sound c.loop-k.k f.result c.begin-start.result h f.ensures.0 q;
+      sought = c.requires.sought;
+      count_in_bounds =
+          omega (
+            arith,
+            room args.files.now args.regular.now args.corrections.now (take args.w args.wanted.now) args.n c.requires.sound c.loop-k.k h,
+            ap (λ (g : File). g.count) f.ensures.0,
+            inv.4.counted,
+            inv.1,
+            c.requires.in_bounds,
+          );
+    }
 
 pub overflow_add-reports : goal.overflow_add-reports
 overflow_add-reports c =
@@ -59,7 +58,7 @@ loop-k-preserved c =
     let inv = c.loop-k.invariant in
     let q = c.begin-start.ensures ∙ begins args.n args.files.now args.regular.now args.corrections.now c.requires.sound c.loop-k.k f.result c.loop-k.reports c.loop-k.objections (omega arith) f.ensures.0 inv.2 inv.3 in (
       search rules,
-      c.list_file-r.auto.1.1.1.1.1.1.1.0 ∙ inv.1,
+      c.list_file-r.auto.keys ∙ inv.1,
       ap (λ (m : ℕ). c.loop-k.reports + m) c.records_in-reports.ensures.0 ∙ records-next 0 (file_at args.files.now) c.loop-k.k c.loop-k.reports f.result f.ensures.0 inv.2,
       ap (λ (m : ℕ). c.loop-k.objections + m) c.records_in-objections.ensures.0 ∙ records-next 1 (file_at args.files.now) c.loop-k.k c.loop-k.objections f.result f.ensures.0 inv.3,
       files-more args.files.now args.regular.now args.corrections.now (take args.w args.wanted.now) c.loop-k.k f.result c.begin-start.result c.loop-k.keys _ c.loop-k.r _ f.ensures.0 q inv.4 c.list_file-r.ensures,

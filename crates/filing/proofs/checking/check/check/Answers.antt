@@ -1,0 +1,10 @@
+-- `filing::checking::check::check` meets its contract. Assumes nothing.
+use borrow.Author.Rules.{rules}
+use mathlib.Core.Path.{sym, ◌∙◌}
+use Rattle.filing.proofs.checking.check.check.Goals as goal
+
+pub returns-in_default : goal.returns-in_default
+returns-in_default c = rw (sym c.read.ensures ∙ c.in_default.is)
+
+pub returns : goal.returns
+returns c = rw (sym c.read.ensures ∙ c.in-Code.is) c.check_day.ensures

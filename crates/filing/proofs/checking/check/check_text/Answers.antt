@@ -1,0 +1,16 @@
+-- `filing::checking::check::check_text` meets its contract. Assumes nothing.
+use borrow.Author.Rules.{rules}
+use mathlib.Core.Path.{sym, ap, ◌∙◌}
+use Rattle.records.specs.declared.names.kind.FileKind.{FileKind}
+use Rattle.files.specs.Judged.{judged_file}
+use Rattle.filing.proofs.checking.check.check_text.Goals as goal
+
+pub returns-in-Fault : goal.returns-in-Fault
+returns-in-Fault c = let a = c.args in
+    let j = sym (c.judge.ensures ∙ ap (λ (k : FileKind). judged_file k a.text.now) c.file_kind.ensures) ∙ c.in-Fault.is in
+    rw j
+
+pub returns-in-Records : goal.returns-in-Records
+returns-in-Records c = let a = c.args in
+    let j = sym (c.judge.ensures ∙ ap (λ (k : FileKind). judged_file k a.text.now) c.file_kind.ensures) ∙ c.in-Records.is in
+    rw j c.check_room.ensures
