@@ -35,9 +35,8 @@ done | sort | xargs awk -v theorems="$theorems" -v exceptions="$exceptions" -v r
     function fail(why) { printf "outcomes: %s: %s\n", here, why; failed++ }
     # without the brackets around it
     function bare(text) { while (text ~ /^[( ]/) text = substr(text, 2); while (text ~ /[) ]$/) text = substr(text, 1, length(text) - 1); return text }
-    # an equation among those of a line whose two sides are the same
+    # an equation among those of a clause whose two sides are the same
     function idle(line,    parts, sides, i, n) {
-        sub(/ ⌝.*/, "", line)
         n = split(line, parts, " × ")
         for (i = 1; i <= n; i++) if (split(parts[i], sides, " ≡ ") == 2 && bare(sides[1]) == bare(sides[2])) return bare(parts[i])
         return ""
@@ -49,7 +48,7 @@ done | sort | xargs awk -v theorems="$theorems" -v exceptions="$exceptions" -v r
         n = split(lent, names, " ")
         for (i = 1; i <= n; i++)
             if ((here " " names[i]) in excepted) met[here] = 1
-            else if (index(contract, "(" names[i] " .exit)") == 0)
+            else if (index(contract, " " names[i] ".new ") == 0 && index(contract, "(" names[i] ".new ") == 0)
                 fail("what becomes of " names[i] " is not said")
         if (form != "" && !(form in settled)) fail("no theorem says that " form " settles its outcome")
         if (gives && form == "" && !answered) fail("no equation for the answer")
@@ -66,17 +65,16 @@ done | sort | xargs awk -v theorems="$theorems" -v exceptions="$exceptions" -v r
         name = $0; sub(/^ *pub(\(crate\))? (extern "C" )?fn /, "", name); sub(/[^a-z_0-9A-Z].*/, "", name)
         here = file "::" name
     }
-    inside && /ensures \{/ {
-        line = $0; sub(/^ *ensures \{ λ /, "", line)
-        answer = line; sub(/\..*/, "", answer)
-        sub(/^[^⌜]*⌜ /, "", line)
-        contract = contract line
+    inside && /^ *ensures / {
+        line = $0; sub(/^ *ensures [a-z_0-9]* *\{ /, "", line); sub(/ \}$/, "", line)
+        gsub(/\)/, " )", line)
+        contract = contract " " line " "
         if (idle(line) != "") fail("says nothing: " idle(line))
-        if (index(line, answer " ≡ ") == 1 || index(line, "(" answer " ≡ ") == 1 || index(line, "now " answer " ≡ ") == 1) answered = 1
-        else if (line !~ /^\(?now \([a-z_]* \.exit\) ≡ /) { form = line; sub(/ .*/, "", form) }
+        if (line ~ /^\(?result(\.now)? ≡ /) answered = 1
+        else if (line !~ /^\(?[a-z_]+\.new ≡ /) { form = line; sub(/ .*/, "", form) }
         next
     }
-    inside && /requires \{/ { next }
+    inside && /^ *requires / { next }
     inside {
         line = $0
         while (match(line, /[a-z_]+: &(.[a-z]+ )?mut /)) {

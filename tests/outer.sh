@@ -24,9 +24,9 @@ find crates/*/src -name '*.rt' | sort | xargs awk '
         }
         if (head in listed) { if (/^ *pub (extern "C" )?fn /) there[head] = 1; else fail(head " is not public") }
     }
-    head in listed && /requires/ { fail(head " asks for something: " $0) }
+    head in listed && /^ *requires/ { fail(head " asks for something: " $0) }
     # a head ends where the body begins
-    head != "" && (/^ *\{$/ || /[^⌝] \{$/ || /\{ .* \}$/ && !/(requires|ensures)/) { head = "" }
+    head != "" && (/\{$/ || /\{.*\}$/ && !/^ *(requires|ensures) /) { head = "" }
     END {
         for (name in listed) if (!(name in there)) fail(name " is listed, and is no public function")
         for (name in inner) if (!(name in used)) fail(name " is listed as inner, and exports nothing")

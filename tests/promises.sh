@@ -7,21 +7,23 @@ cd "$(dirname "$0")/.."
 room=$(mktemp -d)
 trap 'rm -rf "$room"' EXIT
 
-# words with an underscore, by themselves and behind the name of their crate; names of files count too
+# all files but what the kit makes of them
+find crates include tests bench witness -name out -prune -o -type f -print >"$room/files"
+# words with an underscore, by themselves and behind the name of their crate; names of files and folders count too
 {
-    grep -roE '[A-Za-z0-9_]*_[A-Za-z0-9_]*' crates include tests bench witness
-    find crates include tests bench witness -name '*_*' | sed 's/\(.*\)\/\([^/.]*\).*/\1\/:\2/'
+    xargs grep -oE '[A-Za-z0-9_]*_[A-Za-z0-9_]*' /dev/null <"$room/files"
+    find crates include tests bench witness -name out -prune -o -name '*_*' -print | sed 's/\(.*\)\/\([^/.]*\).*/\1\/:\2/'
 } | awk -F: '
     function tell(name) { if (!seen[name]++) print "name " name }
     { tell($NF); if (split($1, part, "/") > 1 && part[1] == "crates") tell(part[2] "/" $NF) }' >"$room/there"
-# definitions and types: words with a capital inside
-find crates -name '*.antt' -o -name '*.rt' | xargs grep -ohE '[A-Za-z]*[a-z][A-Z][A-Za-z]*' | awk '!seen[$0]++ { print "definition " $0 }' >>"$room/there"
-# theorems: names with a hyphen, also behind the name of their file
-find crates/*/specs crates/*/proofs -name '*.antt' ! -name Proof.antt | sort | xargs awk '
+# types, and definitions that are called as one: words with a capital inside
+grep -e '^crates/.*\.antt$' -e '^crates/.*\.rt$' "$room/files" | xargs grep -ohE '[A-Za-z]*[a-z][A-Z][A-Za-z]*' | awk '!seen[$0]++ { print "definition " $0 }' >>"$room/there"
+# theorems: what is stated in a file of definitions or lemmas, by itself where its name has a hyphen, and behind the name of its file
+grep -E '^crates/[^/]*/(specs|proofs)/.*\.antt$' "$room/files" | grep -v -e '/Answers\.antt$' -e '/Invariants\.antt$' -e '/Proof\.antt$' | sort | xargs awk '
     FNR == 1 { file = FILENAME; sub(/.*\//, "", file); sub(/\.antt$/, "", file) }
     # what is said or declared begins a line; a field of a record is indented
     { line = $0; sub(/^ *(pub )?(abbrev |unfoldable |record )?/, "", line); sub(/[ :].*/, "", line) }
-    line ~ /-/ && line !~ /^--/ { print "theorem " line; print "theorem " file "." line }' >>"$room/there"
+    line ~ /[-_]/ && line !~ /^--/ { if (line ~ /-/) print "theorem " line; print "theorem " file "." line }' >>"$room/there"
 # functions by each end of their path, and modules: the path below src is that of its functions; lib.rt is the crate itself
 find crates/*/src -name '*.rt' | sort | xargs awk '
     function tell(path) { while (path ~ /::/) { print "function " path; sub(/^[^:]*::/, "", path) } }
@@ -39,12 +41,12 @@ awk '
         count[sort]++
         if (!((sort " " name) in there)) fail(FILENAME " names " (sort == "name" ? "" : "the " sort " ") name ", which is not there")
     }
-    # xOf, xText and so on, x-trip and x-back stand for one of each field and record; the functions of include/dagskimra.h may stand without their first word
+    # x_of, x_text and so on, x-trip and x-back stand for one of each field and record; the functions of include/dagskimra.h may stand without their first word
     function judge(name) {
+        if (name ~ /^x[_-]/ || name == "must-fail") return
         if (name ~ /^([a-z_0-9]*\/)?[a-z0-9]*_[a-z_0-9]*$/) { sub(/^_/, "dagskimra_", name); look("name", name) }
-        else if (name ~ /^x/ || name == "must-fail") return
         else if (name ~ /^[A-Za-z]*[a-z][A-Z][A-Za-z]*$/) look("definition", name)
-        else if (name ~ /^[A-Za-z0-9.]*-[A-Za-z0-9.-]*$/) look("theorem", name)
+        else if (name ~ /^[A-Za-z0-9.]*-[A-Za-z0-9.-]*$/ || name ~ /^[A-Z][A-Za-z]*\.[a-z0-9]*[-_][a-z0-9_-]*$/) look("theorem", name)
         else if (name ~ /^[a-z_0-9]*(::[A-Za-z_0-9]*)+(\(.*\))?$/) { sub(/\(.*/, "", name); look("function", name) }
     }
     NR == FNR { there[$0] = 1; if ($1 == "room") rooms[$2] = 0; next }
