@@ -3,31 +3,28 @@
 name=dagskimra
 # the one place that says it; docs/DECISIONS.md says how it is counted
 version=0.4
-# What a build takes, seen on two processors. Each job is a process of the prover; RT_JOBS says how many there are at once.
-takes='about 15 minutes on two processors, up to 1.5 GB of memory for each, and 0.9 GB of disk'
+# What a build takes where nothing is proved yet.
+takes='about an hour on two processors, up to 4 GB of memory, and 4 GB of disk'
 
 say() { printf '%s: %s\n' "$name" "$*" >&2; }
 
-# Sets kit, where rt stands, which may be a link to it, else where rt says that its guide is; and kit_id, the kit's version. Without a kit
-# the version counts that dist/ was made with.
+# Sets kit, the path of the kit's command, and kit_id, the kit's version: the line of its file KIT-ID, which stands above rt, or what rt says. Without a
+# kit the version counts that dist/ was made with.
 find_kit() {
     kit='' kit_id=''
     if rt=$(command -v rt 2>/dev/null); then
+        kit=$rt
         while [ -L "$rt" ]; do
             link=$(readlink "$rt")
             case $link in /*) rt=$link ;; *) rt=${rt%/*}/$link ;; esac
         done
-        kit=${RATTLE_HOME:-${rt%/bin/rt}}
-        if [ ! -d "$kit/on" ]; then
-            kit=$(rt doc 2>/dev/null) || kit=''
-            kit=${kit%/docs/*}
+        if [ -r "${rt%/bin/rt}/KIT-ID" ]; then
+            read -r kit_id <"${rt%/bin/rt}/KIT-ID" || :
+        else
+            kit_id=$(rt version 2>/dev/null) || kit=''
         fi
     fi
-    if [ -z "$kit" ]; then
-        kit_id=$(told kit dist/BUILT)
-    elif [ -r "$kit/KIT-ID" ]; then
-        read -r kit_id <"$kit/KIT-ID" || :
-    fi
+    [ -n "$kit" ] || kit_id=$(told kit dist/BUILT)
 }
 
 # what a text as dist/BUILT says of WORD
@@ -39,7 +36,7 @@ sum_of() { # FILE
     sum_line=$(sha256sum <"$root/$1") && echo "${sum_line%% *}"
 }
 
-# The crates that the program stands on, itself the last, in the order in which rt proves them: a line NAME DEP DEP.. each.
+# The crates that the program stands on, itself the last, each behind those that it stands on: a line NAME DEP DEP.. each.
 crates_of() {
     NAME=$name awk '
         function visit(n,    a, k, m, l) {
@@ -136,51 +133,47 @@ built() { # PROGRAM
     printf 'kit %s\nprocessor %s\nsources %s\nprogram %s\n' "$kit_id" "$(uname -m)" "$sum" "$(sum_of "$1")"
 }
 
-step() { # NAME...: the crates that are still to be proved, of $all
-    [ $# -gt 0 ] || return 0
+step() { # NAME NUMBER: the crate that is to be proved now, of $all
     if [ -t 2 ]; then
-        printf '\r%-70s' "$name: proving $((all - $# + 1)) of $all: $1" >&2
+        printf '\r%-70s' "$name: proving $2 of $all: $1" >&2
     else
-        say "proving $((all - $# + 1)) of $all: $1"
+        say "proving $2 of $all: $1"
     fi
 }
 
-# Reads what rt prints, passes it on, and says which crate is being proved. Its status is the one that the last line tells.
-follow() { # NAME...
-    all=$# ended=2
-    step "$@"
-    while IFS= read -r line; do
-        case $line in
-        'rt: '*' proved ('*)
-            [ $# -eq 0 ] || shift
-            step "$@"
-            ;;
-        'rt ended with '*) ended=${line##* } ;;
-        esac
-        printf '%s\n' "$line"
-    done
-    if [ -t 2 ]; then printf '\r%70s\r' '' >&2; fi
-    return "$ended"
+# Proves a crate and builds it, once those below it are built: a library, or the program, which rt runs then. It is given nothing to do, and says so.
+prove_crate() { # NAME
+    cd "$root/crates/$1" || return
+    if [ "$1" = "$name" ]; then rt run; else rt lib; fi </dev/null 3>/dev/null 9>&-
 }
 
 # Has rt prove and build the program, under the lock of target/; what it printed is in target/build.log. Where it fails its first fault is shown.
 prove() {
     log=$root/target/build.log
-    rm -f "$log"
-    if { (cd "$root" && rt check "$name") </dev/null 2>&1 9>&-; echo "rt ended with $?"; } |
-        # shellcheck disable=SC2046
-        follow $(crates_of | sed 's/ .*//') >"$log"; then
-        if [ "$(sources)" = "$sum" ]; then
-            built target/bin/$name >"$root/target/bin/$name.built"
-        else
-            say 'the sources were changed while the program was built: try again'
-            return 2
-        fi
-    else
+    : >"$log"
+    crates=$(crates_of | sed 's/ .*//')
+    # shellcheck disable=SC2086
+    all=$(set -- $crates && echo $#) number=0 proved=yes
+    for crate in $crates; do
+        number=$((number + 1))
+        step "$crate" "$number"
+        if (prove_crate "$crate") >>"$log" 2>&1; then continue; fi
+        proved=''
+        break
+    done
+    if [ -t 2 ]; then printf '\r%70s\r' '' >&2; fi
+    if [ -z "$proved" ]; then
         say "the program could not be built; the first fault, of what target/build.log in $root has:"
-        sed '/NOT PROVED/q' "$log" | tail -n 8 >&2
+        awk '/error|not proved|no proof/ { on = 1 } on { print; if (++n == 8) exit }' "$log" >&2
         return 2
     fi
+    if [ "$(sources)" != "$sum" ]; then
+        say 'the sources were changed while the program was built: try again'
+        return 2
+    fi
+    mkdir -p "$root/target/bin" &&
+        cp "$root/crates/$name/out/$name" "$root/target/bin/$name" &&
+        built target/bin/$name >"$root/target/bin/$name.built"
 }
 
 # Builds the program, one build at a time: whoever waited finds it done. Then sets program.

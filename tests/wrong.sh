@@ -38,10 +38,15 @@ for folder in crates/${1:-*}/; do
         function name_it(name) { if (name in named) fail(name " is there twice"); named[name] = 1; all++; called = called || name == label }
         # the file of proofs that a theorem stands in has a name of its own, with a capital; a function has none
         function is_law(of,    last) { last = of; sub(/.*::/, "", last); return last ~ /^[A-Z]/ }
-        # a theorem, or a need of a function, has its line in its file; of a proof that the prover makes there is none
-        function is_proved(of, file, name,    text) {
-            gsub("::", "/", of); text = read("crates/" crate "/proofs/" of file)
-            return text == "" && file ~ /Proof/ || name != "" && (index(text, "\n" name " :") || index(text, " " name " :"))
+        # a theorem has its line in its file
+        function is_proved(of, name,    text) {
+            gsub("::", "/", of); text = read("crates/" crate "/proofs/" of ".antt")
+            return name != "" && (index(text, "\n" name " :") || index(text, " " name " :"))
+        }
+        # each function has the need `returns`; any other that is named stands among its answers
+        function is_need(of, name,    text) {
+            gsub("::", "/", of); text = read("crates/" crate "/proofs/" of "/Answers.antt")
+            return name == "returns" || index(text, "\npub " name " :")
         }
         # the edit that ends here is called by one of its wrong programs
         function finish() { if (label != "" && !called) fail(folder "/" label ".edit has no wrong program of its name"); label = "" }
@@ -66,10 +71,10 @@ for folder in crates/${1:-*}/; do
             told = 1; name_it($2); of = what = $3; sub(/\..*/, "", of); inner = substr(what, length(of) + 2)
             if (what in here) fail(FILENAME ": " what " is wrong twice at once, so neither can be told from the other")
             here[what] = 1
-            if (is_law(of)) { if (!is_proved(of, ".antt", inner)) fail("no theorem " inner " in the proofs of " of); of = ""; next }
+            if (is_law(of)) { if (!is_proved(of, inner)) fail("no theorem " inner " in the proofs of " of); of = ""; next }
             if (of in here && what != of) fail(FILENAME ": " of " is wrong twice at once, so neither can be told from the other")
             here[of] = 1; fresh = 1
-            if (inner != "" && !is_proved(of, "/Proof.antt", inner)) fail("no need " inner " in the proof of " of)
+            if (inner != "" && !is_need(of, inner)) fail("no need " inner " in the proof of " of)
             if (inner != "" && folder == "must-fail") promise[$2] = inner
         }
         # a wrong program of a function is an edit of code; a definition that its code does not follow is none of its own

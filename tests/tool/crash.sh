@@ -12,8 +12,7 @@ cd "$room" || exit 2
 "$tool" help >/dev/null || exit 2
 bad=0 turns=0
 
-"$tools/bin/clang" --target=x86_64-unknown-linux-gnu -O1 -fPIC -ffreestanding -c "$here/nth.c" -o nth.o &&
-    "$tools/bin/ld.lld" -shared -o nth.so nth.o || {
+make_library "$here/nth.c" "$room/nth.so" || {
     echo 'crash: the library that counts calls could not be made'
     exit 1
 }

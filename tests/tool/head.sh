@@ -44,7 +44,7 @@ printf '3055501,,04032024,D002,D001,P\rZeilenanzahl:2,\r' >1D240305.txt
 expect 0 filed
 cp store/store good
 
-sed -n 's/^ *\([0-9][0-9]*\),$/\1/p' "$list" >days
+sed -n '/^ *[0-9][0-9, ]*,$/p' "$list" | tr -s ' ,' '\n\n' | sed '/^$/d' >days
 [ "$(sed -n 's/^pub const COUNT: usize = \([0-9]*\);/\1/p' "$list")" -eq "$(wc -l <days)" ] || fault 'the list is not read right here'
 headed "$(line_of <days)" good >worked
 same worked 'the head as it is worked out here'

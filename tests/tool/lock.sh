@@ -150,7 +150,7 @@ cp good store/store
 if [ "$(id -u)" -eq 0 ] && command -v setpriv >/dev/null 2>&1; then
     chmod 755 "$room" store f
     drop='setpriv --reuid=65534 --regid=65534 --clear-groups'
-    if $drop test -x "$tool" && $drop rt version >/dev/null 2>&1; then
+    if $drop test -x "$tool"; then
         $drop "$tool" file "$room/store" D001 "$room/f/1D240325.txt" >out 2>said
         expect 2 'Permission denied'
         $drop "$tool" rework "$room/store" >out 2>said
@@ -180,13 +180,9 @@ same 'a closed descriptor'
 ln -s "$tool" link
 (cd f && ../link show ../store) >out 2>said
 expect 0 '3055501	D001	-	-'
-# where the kit is not there: said clearly, unless the program runs by itself
+# where the kit is not there
 mkdir bare
 for command in sh readlink find head uname tr grep rm cat; do ln -s "$(command -v "$command")" bare/; done
-if [ "$(uname -m)" != x86_64 ]; then
-    PATH=$room/bare "$tool" files store >out 2>said
-    expect 2 'the Rattle kit.* is not here'
-fi
 PATH=$room/bare "$tool" help files >out 2>said
 expect 0 'usage: dagskimra files STORE'
 echo "lock: $looked looks; of 20 at once $filed were filed and $told told so; $bad faults"
