@@ -4,24 +4,22 @@ use mathlib.Core.Bool.{Bool, true, false, cond}
 use mathlib.Core.List.{List, [], ◌∷◌, map}
 use mathlib.Core.Option
 use mathlib.Core.Option.{Option, none, some}
-use Prim.Native.Nat.{ℕ, zero, suc, ◌+◌, ◌*◌, ◌≤◌, ◌<◌}
+use Prim.Native.Nat.{ℕ, suc, ◌+◌, ◌*◌, ◌≤◌, ◌<◌}
 use native.Mathlib.Omega.{arith}
 use borrow.Author.Tests.{ltb-true, ltb-false, le-leb}
-use lib.Dec.{leb, ltb}
-use lib.ListN.{length, take, drop, get_or, drop_of_length-le, length-map}
-use lib.Seq.{drop-cons, take_all}
+use lib.Dec.{ltb}
+use lib.ListN.{length, get_or, drop_of_length-le}
+use lib.Seq.{drop-cons}
 use Rattle.laws.specs.Lists.{table, first_at}
-use Rattle.laws.proofs.Tables.{length-table, get_or-table, map-table}
+use Rattle.laws.proofs.Tables.{length-table, get_or-table}
 use Rattle.fields.specs.Number.{same_number}
 use Rattle.fields.specs.declared.number.Number.{Number}
 use Rattle.entries.specs.declared.entry.Entry.{Entry}
-use Rattle.model.specs.Rules.{TableLine}
 use Rattle.model.specs.Model.{line_of, entry_of}
 use Rattle.rules.specs.Rules.{rules}
 use Rattle.store.specs.numbers.Lines.{line_at, line_count, lines_of}
 use Rattle.store.specs.numbers.Find.{is_of, found_line}
 use Rattle.store.specs.declared.numbers.lines.Line.{Line}
-use Rattle.store.specs.declared.numbers.find.FoundLine.{FoundLine}
 use Rattle.store.specs.declared.numbers.find.FoundLine.TheVariants.{At, Unknown}
 use Rattle.store.specs.Reads.{table_line}
 use Rattle.asking.specs.Items.{item_at}

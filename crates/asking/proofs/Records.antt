@@ -7,17 +7,16 @@ use Prim.Native.Nat.{ℕ, zero, suc, ◌+◌, ◌-◌, ◌*◌, ◌≤◌, ◌<�
 use native.Mathlib.Decide.{ℕ_discrete}
 use native.Mathlib.Numerals.{add-one}
 use native.Mathlib.Omega.{arith}
-use borrow.Author.Tests.{eqb-true, eq-eqb, ne_eqb}
+use borrow.Author.Tests.{eqb-true, ne_eqb}
 use lib.Dec.{eqb}
-use lib.ListN.{length, take, drop, get_or, length-append, get_or-append}
+use lib.ListN.{length, take, length-append, get_or-append}
 use lib.Seq.{take_all, drop-append-add}
 use Rattle.laws.specs.Lists.{table, keep, total}
 use Rattle.laws.proofs.Tables.{length-table, get_or-table}
 use Rattle.fields.specs.declared.number.Number.{Number}
 use Rattle.verdict.specs.declared.verdicts.Verdict.{Verdict}
-use Rattle.verdict.specs.declared.step.Record.{Record}
 use Rattle.model.specs.Rules.{Event, TableLine}
-use Rattle.model.specs.Model.{Filed, event_at, events, journal, journal_of, number_of, line_of}
+use Rattle.model.specs.Model.{Filed, event_at, events, journal, journal_of, line_of}
 use Rattle.model.proofs.Files.{journal-own, journal-other}
 use Rattle.store.specs.journals.Files.{file_at, file_count, records_in, records_of}
 use Rattle.store.specs.journals.Reads.{filed_after, filed_in, first_files, read_files, records_at}

@@ -1,20 +1,17 @@
 -- What the cheap test of the buffers gives, and that a store that reads passes it. Assumes nothing.
-use mathlib.Core.Path.{◌≡◌, refl, sym, ap, ◌∙◌}
-use mathlib.Core.Bool.{Bool, true, false, cond, ◌&&◌}
+use mathlib.Core.Path.{◌≡◌, sym, ap, ◌∙◌}
+use mathlib.Core.Bool.{Bool, true, false, ◌&&◌}
 use mathlib.Core.List.{List}
-use Prim.Native.Nat.{ℕ, ◌+◌, ◌*◌, ◌≤◌, ◌<◌}
+use Prim.Native.Nat.{ℕ, ◌≤◌, ◌<◌}
 use native.Mathlib.Omega.{arith}
 use borrow.Author.Tests.{leb-true, le-leb, lt-leb}
 use lib.Dec.{leb}
-use lib.ListN.{length, take}
-use Rattle.laws.specs.Lists.{table, all, none_twice}
-use Rattle.laws.proofs.Lists.{total-end}
-use Rattle.laws.proofs.Tests.{and_left, and_right, and-true}
+use lib.ListN.{length}
+use Rattle.laws.specs.Lists.{table, all}
+use Rattle.laws.proofs.Tests.{and_left, and_right}
 use Rattle.laws.proofs.Tables.{all-at, all-each, length-table, get_or-table}
-use Rattle.store.specs.journals.Files.{file_count, file_at, files_of, good_file, same_file, records_of}
+use Rattle.store.specs.journals.Files.{file_count, file_at, files_of, good_file, records_of}
 use Rattle.store.specs.numbers.Lines.{line_count}
-use Rattle.store.specs.Reads.{Buffers, lent, is_readable, long_enough, good_table, good_files, good_records}
-use Rattle.store.proofs.Checks.{Long, long, few-lines, few-files, few-reports, few-corrections}
 use Rattle.working.specs.Working.{Sound}
 use Rattle.working.proofs.SlipLaws.{records-grow}
 use Rattle.asking.specs.Showable.{files_in_range, is_showable}

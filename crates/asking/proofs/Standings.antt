@@ -1,14 +1,14 @@
 -- The answers on where a line stands and on a number's entry, put together from what the code found. Assumes nothing.
 use mathlib.Core.Path.{◌≡◌, refl, sym, ap, ◌∙◌}
 use mathlib.Core.Bool.{Bool, true, false, cond, ◌&&◌}
-use mathlib.Core.List.{List, [], ◌∷◌, ◌++◌, map}
+use mathlib.Core.List.{List, [], ◌∷◌, ◌++◌}
 use mathlib.Core.Option
 use mathlib.Core.Option.{Option, none, some}
 use Prim.Native.Nat.{ℕ, suc, ◌+◌, ◌*◌, ◌≤◌, ◌<◌}
 use native.Mathlib.Omega.{arith}
 use borrow.Author.Tests.{ltb-true, ltb-false, leb-true, lt-leb, le-leb}
 use lib.Dec.{leb, ltb}
-use lib.ListN.{length, take, length-map}
+use lib.ListN.{length, take}
 use lib.Seq.{take_all}
 use Rattle.laws.specs.Lists.{table}
 use Rattle.laws.proofs.Tests.{and_left, and_right}
@@ -16,9 +16,9 @@ use Rattle.laws.proofs.Tables.{length-table, map-table}
 use Rattle.fields.specs.declared.number.Number.{Number}
 use Rattle.entries.specs.declared.entry.Entry.{Entry}
 use Rattle.verdict.specs.declared.step.Standing.{Standing}
-use Rattle.model.specs.Model.{Filed, entry_over, line_of, entry_of}
+use Rattle.model.specs.Model.{Filed, entry_over}
 use Rattle.store.specs.journals.Files.{file_at, file_count}
-use Rattle.store.specs.journals.Reads.{filed_after, filed_in, first_files, read_files, records_at}
+use Rattle.store.specs.journals.Reads.{filed_in, first_files, read_files, records_at}
 use Rattle.store.specs.declared.journals.files.File.{File}
 use Rattle.rules.specs.Rules.{rules, standings}
 use Rattle.rules.proofs.Promises.{standing-entry}

@@ -1,5 +1,5 @@
 -- A number's entry, as the store holds it and as it stood before a file arrived. Assumes nothing: these are definitions.
-use Rattle.std.specs.Prelude.{Bool, cond, ◌&&◌, List, map, ℕ, leb, length, take}
+use Rattle.std.specs.Prelude.{Bool, ◌&&◌, List, map, ℕ, leb, length, take}
 use Rattle.std.proofs.Math.Option
 use Rattle.std.proofs.Math.Option.{Option, none, some}
 use Rattle.fields.specs.declared.number.Number.{Number}

@@ -27,7 +27,7 @@ use verdict::verdicts::Verdict;
 use working::{before, gather};
 
 // A filed record: its publisher, its publication day, its place in its file, its verdict.
-#[derive(Drop)]
+#[derive(Clone, Copy)]
 pub struct AskedRecord {
     pub publisher: Code,
     pub day: CalendarDays,
@@ -36,7 +36,7 @@ pub struct AskedRecord {
 }
 
 // The record, with its journal and its place there; its place is beyond the journal's records; the buffers do not read.
-#[derive(Drop)]
+#[derive(Clone, Copy)]
 pub enum Asked {
     Record(Journal, usize, AskedRecord),
     Beyond,

@@ -2,7 +2,7 @@
 use mathlib.Core.Path.{◌≡◌, refl, sym, ap, ◌∙◌}
 use mathlib.Core.Bool.{true, false}
 use mathlib.Core.List.{List, [], ◌∷◌, ◌++◌, map}
-use Prim.Native.Nat.{ℕ, ◌+◌, ◌<◌}
+use Prim.Native.Nat.{ℕ, ◌<◌}
 use native.Mathlib.Omega.{arith}
 use lib.ListN.{length, length-append}
 use Rattle.fields.specs.Code.{code_of}
@@ -15,7 +15,7 @@ use Rattle.model.specs.Model.{Filed, count_of}
 use Rattle.rules.specs.Rules.{rules}
 use Rattle.store.specs.Reads.{Buffers, table_line, held, is_readable, lent}
 use Rattle.filing.specs.declared.entering.kind.Filable.{Filable}
-use Rattle.filing.specs.entering.Entering.{file_kind, filed_as, entered, Enterable, Joined}
+use Rattle.filing.specs.entering.Entering.{file_kind, filed_as, Enterable, Joined}
 use Rattle.filing.proofs.entering.Entered.{entered-readable, entered-files}
 use Rattle.filing.specs.fitting.Renewing.{renewed_entries, last_filed}
 use Rattle.filing.proofs.fitting.Renewed.{last-filed}

@@ -8,15 +8,14 @@
 use mathlib.Core.Path.{◌≡◌, refl, sym, ap, ◌∙◌}
 use mathlib.Core.Bool.{Bool, true, false, cond}
 use mathlib.Core.List.{List, [], ◌∷◌, ◌++◌, map, zip_with}
-use mathlib.Core.Option.{Option, none, some}
+use mathlib.Core.Option.{none, some}
 use Prim.Native.Nat.{ℕ, ◌<◌}
 use native.Mathlib.Omega.{arith}
 use Rattle.laws.specs.Lists.{any}
 use Rattle.laws.specs.Slots.{slot_at}
 use Rattle.fields.specs.Code.{code_of}
-use Rattle.fields.specs.declared.code.Code.{Code}
 use Rattle.files.specs.Judged.{judged_file}
-use Rattle.model.specs.Model.{Filed, Store, Reached, alike, filed, renewed, started, named, entry_over}
+use Rattle.model.specs.Model.{Filed, Reached, alike, filed, renewed, started, named, entry_over}
 use Rattle.rules.specs.Rules.{rules}
 use Rattle.rules.proofs.Promises.{entries-worked-afresh}
 use Rattle.store.specs.Reads.{Buffers, Held, table_line, held, is_readable, reads}
@@ -31,7 +30,7 @@ use Rattle.filing.proofs.renewing.Renewed.{renewed-slot}
 use Rattle.store.specs.journals.Reads.{read_files}
 use Rattle.store.specs.numbers.Lines.{line_count, line_at}
 use Rattle.store.specs.declared.numbers.lines.Line.{Line}
-use Rattle.starting.specs.Start.{first_of, started_with, Starts}
+use Rattle.starting.specs.Start.{started_with}
 use Rattle.starting.proofs.Readable.{started-reads}
 use Rattle.filing.specs.declared.checking.answer.Answer.{Answer}
 use Rattle.filing.specs.declared.checking.check.Checked.{Checked}

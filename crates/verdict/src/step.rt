@@ -36,7 +36,7 @@ pub struct Outcome {
 }
 
 // Why the holder is who it is: the two reports that confirmed last, the one processed first coming first, or nothing yet.
-#[derive(Drop)]
+#[derive(Clone, Copy)]
 pub enum Why {
     Nothing,
     Pair(Place, Place),

@@ -9,7 +9,7 @@ use borrow.Author.Tests.{leb-true, eqb-false, not-true}
 use lib.Dec.{leb, eqb}
 use lib.ListN.{length, take, set, length-append, length-map}
 use lib.Seq.{take-suc-set}
-use Rattle.laws.specs.Lists.{table, keep, all}
+use Rattle.laws.specs.Lists.{table, keep}
 use Rattle.laws.proofs.Lists.{keep_append, keep-end-yes, keep-end-no, keep-at-most}
 use Rattle.laws.proofs.Tables.{table_more, length-table, get_or-table, all-at}
 use Rattle.laws.proofs.Tests.{and_left, and_right}

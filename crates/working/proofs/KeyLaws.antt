@@ -15,7 +15,7 @@ use Rattle.laws.proofs.Lists.{keep-map, mem-keep}
 use Rattle.laws.proofs.Order.{mem-in_order, length-in_order}
 use Rattle.laws.proofs.Folds.{fold-map, fold-agree, fold-keep}
 use Rattle.laws.proofs.Tests.{le-or-lt}
-use Rattle.laws.proofs.Keys.{Onward, onward-keep, onward-both, map-onward, map-in_order, packed-order, tagged-order}
+use Rattle.laws.proofs.Keys.{onward-keep, onward-both, map-onward, map-in_order, packed-order, tagged-order}
 use Rattle.fields.specs.declared.number.Number.{Number}
 use Rattle.model.specs.Rules.{Event}
 use Rattle.model.specs.Model.{journal, about, not_later, history, before}

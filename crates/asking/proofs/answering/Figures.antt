@@ -5,9 +5,7 @@
 use mathlib.Core.Path.{◌≡◌, refl, sym, ap, ◌∙◌}
 use mathlib.Core.Bool.{Bool, true, false, cond, not, true≢false}
 use mathlib.Core.List.{List, [], ◌∷◌, ◌++◌, map, zip_with}
-use mathlib.Core.Option.{Option, none, some}
-use Prim.Native.Nat.{ℕ, zero, suc, ◌+◌, ◌≤◌, ◌<◌}
-use native.Mathlib.Numerals.{add-one}
+use Prim.Native.Nat.{ℕ, zero, suc, ◌+◌}
 use native.Mathlib.Omega.{arith}
 use lib.ListN.{length, take}
 use lib.Seq.{take_all}
@@ -27,7 +25,7 @@ use Rattle.store.specs.journals.Files.{file_count}
 use Rattle.store.specs.journals.Reads.{read_files}
 use Rattle.store.specs.numbers.Lines.{line_count, line_at, lines_of}
 use Rattle.store.specs.entry_slots.Entries.{entry_at}
-use Rattle.store.specs.Reads.{Buffers, Held, table_line, lent, held, is_readable, reads}
+use Rattle.store.specs.Reads.{table_line, lent, held, is_readable, reads}
 use Rattle.store.proofs.Checks.{reads-some, reads_none}
 use Rattle.asking.specs.Standing.{lines_in}
 use Rattle.asking.proofs.Standings.{length-first}

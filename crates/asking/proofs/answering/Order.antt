@@ -5,7 +5,7 @@ use mathlib.Core.Bool.{Bool, true, false, not, true≢false}
 use mathlib.Core.List.Memᴰ
 use mathlib.Core.List.{List, [], ◌∷◌, ◌++◌, Memᴰ}
 use Rattle.laws.specs.Lists.{keep}
-use Rattle.laws.specs.Order.{in_order, Ordered}
+use Rattle.laws.specs.Order.{Ordered}
 use Rattle.laws.proofs.Lists.{mem-keep}
 use Rattle.laws.proofs.Order.{mem-in_order, in_order-ordered}
 use Rattle.laws.proofs.ByKey.{by_key}
@@ -24,7 +24,7 @@ use Rattle.model.proofs.Files.{Once, journal-decided}
 use Rattle.rules.specs.Rules.{rules, record_of}
 use Rattle.rules.proofs.Lawful.{lawful}
 use Rattle.asking.specs.answering.Confirmed.{processed_before}
-use Rattle.asking.proofs.answering.Roots.{Root, Roots, StandsBefore}
+use Rattle.asking.proofs.answering.Roots.{Roots}
 
 -- what stands before another in a list in order is not after it
 ordered-before : {A : Type 0} (le : A → A → Bool) (l m : List A) (x y : A) → Ordered le (l ++ (y ∷ m)) → Memᴰ x l → le x y ≡ true

@@ -8,7 +8,6 @@ use borrow.Author.Tests.{le-leb}
 use Rattle.laws.specs.Lists.{table}
 use Rattle.fields.specs.declared.number.Number.{Number}
 use Rattle.fields.specs.declared.number.NumberRead.{NumberRead}
-use Rattle.store.specs.journals.Files.{files_of}
 use Rattle.store.specs.journals.Reads.{read_files}
 use Rattle.store.specs.declared.journals.records.Journal.{Journal}
 use Rattle.store.specs.numbers.Lines.{line_count}

@@ -2,15 +2,14 @@
 -- has to; of a pair, the first one stands before the second. Assumes nothing.
 use mathlib.Core.Path.{◌≡◌, refl, sym, ap, subst, ◌∙◌}
 use mathlib.Core.Logic.{◌⊎◌, inl, inr, ⊎_elim}
-use mathlib.Core.Bool.{Bool, true, false, cond, not, true≢false}
+use mathlib.Core.Bool.{Bool, true, false, cond, true≢false}
 use mathlib.Core.List.Memᴰ
 use mathlib.Core.List.{List, [], ◌∷◌, ◌++◌, append_assoc, append-nil, map, foldl, Memᴰ}
-use Prim.Native.Nat.{ℕ, zero, suc, ◌<◌}
-use native.Mathlib.Omega.{arith}
-use borrow.Author.Tests.{eqb-true, not-false}
+use Prim.Native.Nat.{ℕ, zero, suc}
+use borrow.Author.Tests.{not-false}
 use lib.Dec.{eqb, leb, lit≤}
-use lib.ListN.{length, get_or, set, take, replicate}
-use Rattle.laws.specs.Lists.{any, first_line}
+use lib.ListN.{get_or, set, replicate}
+use Rattle.laws.specs.Lists.{any}
 use Rattle.laws.proofs.Lines.{line-passed}
 use Rattle.laws.proofs.Tests.{eqb_refl}
 use Rattle.fields.specs.declared.code.Code.{Code}
@@ -21,14 +20,13 @@ use Rattle.entries.specs.declared.entry.Place.{Place}
 use Rattle.entries.specs.declared.entry.Entry.{Entry}
 use Rattle.entries.specs.declared.entry.Line.{Line}
 use Rattle.entries.specs.declared.entry.Listed.TheVariants.{With}
-use Rattle.entries.specs.Entry.{free_place, first_entry}
+use Rattle.entries.specs.Entry.{free_place}
 use Rattle.entries.specs.Report.{meant_by, publisher_of, same_code, matches}
 use Rattle.entries.specs.places.Places.{lowest_free, lapsed}
 use Rattle.entries.proofs.SameLaws.{same_code_lem, matches-equal}
 use Rattle.verdict.specs.declared.verdicts.Verdict.{Verdict}
 use Rattle.verdict.specs.declared.verdicts.Verdict.TheVariants.{Kept}
 use Rattle.verdict.specs.declared.step.Says.{Says}
-use Rattle.verdict.specs.declared.step.Record.{Record}
 use Rattle.verdict.specs.declared.step.Why.{Why}
 use Rattle.verdict.specs.declared.step.Standing.{Standing}
 use Rattle.verdict.specs.declared.verdicts.Doing.{Doing}
@@ -37,7 +35,7 @@ use Rattle.verdict.specs.report_rules.Reports.{report_table, report_verdict}
 use Rattle.verdict.specs.effects.Reports.{report_effect, partner_at}
 use Rattle.verdict.specs.correction_rules.Corrections.{objection_verdict}
 use Rattle.verdict.specs.effects.Corrections.{objection_effect, named_at}
-use Rattle.verdict.specs.Step.{placed_as, verdict_by, effect_by, pair_after, why_by, verdict_on, stand_on, first_standing}
+use Rattle.verdict.specs.Step.{placed_as, verdict_by, effect_by, pair_after, why_by, stand_on, first_standing}
 use Rattle.verdict.specs.Sound.{Explained, Pairing, Paired}
 use Rattle.verdict.proofs.StepLaws.{kept_by, confirmed-by, explained-stays}
 use Rattle.model.specs.Rules.{Event}

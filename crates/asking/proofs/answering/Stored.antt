@@ -3,14 +3,14 @@ use mathlib.Core.Path.{◌≡◌, refl, sym, ap, ◌∙◌}
 use mathlib.Core.Bool.{Bool, true, false, cond, ◌&&◌, true≢false}
 use mathlib.Core.List.Memᴰ
 use mathlib.Core.List.{List, [], ◌∷◌, ◌++◌, head?, flat_map, Memᴰ}
-use mathlib.Core.Option.{Option, none, some}
+use mathlib.Core.Option.{some}
 use Prim.Native.Nat.{ℕ, zero, suc, ◌+◌, ◌<◌}
 use native.Mathlib.Decide.{ℕ_discrete}
 use native.Mathlib.Nat.{zero-add}
 use native.Mathlib.Omega.{arith}
 use borrow.Author.Tests.{eqb-true, eq-eqb, ne_eqb}
 use lib.Dec.{eqb}
-use lib.ListN.{length, get_or, length-append, get_or-append}
+use lib.ListN.{length, length-append, get_or-append}
 use lib.Seq.{drop-append-add}
 use Rattle.laws.specs.Lists.{table, keep}
 use Rattle.laws.proofs.Lists.{mem-keep, mem_below}
@@ -32,7 +32,7 @@ use Rattle.model.specs.Rules.{Event}
 use Rattle.model.specs.Model.{Filed, event_at, events, journal, journal_of, about, not_later, history}
 use Rattle.model.proofs.Files.{Once, journal-file}
 use Rattle.rules.specs.Records.{says_in, objected, corrected}
-use Rattle.rules.specs.Rules.{rules, record_of}
+use Rattle.rules.specs.Rules.{rules}
 use Rattle.asking.specs.Items.{item_at}
 use Rattle.asking.specs.Why.{is_file_of, reports_in, start_in, stored_as}
 use Rattle.asking.proofs.Lines.{item-at}

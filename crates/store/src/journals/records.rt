@@ -27,7 +27,7 @@ pub const REGULAR_LENGTH: usize = REPORTS * REPORT_SLOT;
 pub const CORRECTIONS_LENGTH: usize = CORRECTIONS * CORRECTION_SLOT;
 
 // Which of the two journals.
-#[derive(Drop)]
+#[derive(Clone, Copy)]
 pub enum Journal {
     Regular,
     Correction,

@@ -1,7 +1,6 @@
 -- `filing::file::accept` meets its contract. Assumes nothing.
 use Rattle.filing.proofs.entering.Entered.{enterable-ready}
 use Rattle.filing.proofs.Accepting.{joined-readable, joined-some, accepted}
-use borrow.Author.Rules.{rules}
 use Rattle.filing.proofs.file.accept.Goals as goal
 
 pub enter-requires : goal.enter-requires
@@ -16,4 +15,4 @@ renew-requires c =
 pub returns : goal.returns
 returns c =
     let r = c.renew.ensures in
-    accepted _ _ _ _ _ _ _ _ c.requires c.enter.ensures _ _ r.0 r.1
+    accepted _ _ _ _ _ _ _ _ c.requires c.enter.ensures _ _ r.value r.entries_after

@@ -6,7 +6,6 @@ use Rattle.store.proofs.Checks.{long}
 use Rattle.store.proofs.Whole.{whole_long, whole-files}
 use Rattle.filing.proofs.checking.Deciding.{passed-enterable}
 use Rattle.filing.proofs.Accepting.{files-unreadable, files-refused, files-accepted}
-use borrow.Author.Rules.{rules}
 use Rattle.filing.proofs.file.file.Goals as goal
 
 pub returns-then-not-readable : goal.returns-then-not-readable

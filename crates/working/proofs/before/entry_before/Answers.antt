@@ -1,7 +1,6 @@
 -- `working::before::entry_before` meets its contract: what the callees say, put together (`answer-before`). Assumes nothing.
 use Rattle.working.proofs.GatherLaws.{room-all}
 use Rattle.working.proofs.WorkLaws.{answer-before}
-use borrow.Author.Rules.{rules}
 use Rattle.working.proofs.before.entry_before.Goals as goal
 
 pub fold_all_before-s-requires : goal.fold_all_before-s-requires

@@ -1,7 +1,7 @@
 -- `working::before::fold_before` meets its contract: the loop's invariant is the fold over the first i keys; a turn is `before-turn`. Assumes nothing.
 use mathlib.Core.Path.{◌≡◌, ap, ◌∙◌}
 use mathlib.Core.List.{foldl}
-use Prim.Native.Nat.{ℕ, ◌-◌, ◌≤◌}
+use Prim.Native.Nat.{ℕ}
 use native.Mathlib.Omega.{arith}
 use lib.ListN.{take}
 use Rattle.verdict.specs.Step.{first_standing}

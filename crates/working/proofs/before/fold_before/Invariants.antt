@@ -1,13 +1,10 @@
 -- `working::before::fold_before` meets its contract: the loop's invariant is the fold over the first i keys; a turn is `before-turn`. Assumes nothing.
-use mathlib.Core.Path.{◌≡◌, ap, ◌∙◌}
+use mathlib.Core.Path.{◌≡◌}
 use mathlib.Core.List.{foldl}
-use Prim.Native.Nat.{ℕ, ◌-◌, ◌≤◌}
-use native.Mathlib.Omega.{arith}
+use Prim.Native.Nat.{◌-◌, ◌≤◌}
 use lib.ListN.{take}
 use Rattle.verdict.specs.Step.{first_standing}
 use Rattle.working.specs.Working.{stand_before}
-use Rattle.working.proofs.WorkLaws.{before-turn}
-use borrow.Author.Rules.{rules}
 use Rattle.working.proofs.before.fold_before.Given as goal
 
 abbrev pub invariant-loop-i : goal.invariant-loop-i

@@ -1,6 +1,5 @@
 -- `working::before::key_in` meets its contract. Assumes nothing.
 use Rattle.working.proofs.GatherLaws.{in_place}
-use borrow.Author.Rules.{rules}
 use Rattle.working.proofs.before.key_in.Goals as goal
 
 pub key_at-requires : goal.key_at-requires

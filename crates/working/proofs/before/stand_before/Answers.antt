@@ -1,7 +1,6 @@
 -- `working::before::stand_before` meets its contract. Assumes nothing.
 use borrow.Author.Tests.{lt-ltb, le-ltb}
 use Rattle.working.specs.Working.{stand_before}
-use borrow.Author.Rules.{rules}
 use Rattle.working.proofs.before.stand_before.Goals as goal
 
 pub returns-then-key-mark : goal.returns-then-key-mark

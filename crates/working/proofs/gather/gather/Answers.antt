@@ -1,10 +1,8 @@
 -- `working::gather::gather` meets its contract: the loop's invariant is the contract over the first k files; a turn is `gathered-turn`. Assumes nothing.
 use mathlib.Core.Path.{◌≡◌, ap, subst, ◌∙◌}
-use Prim.Native.Nat.{ℕ, ◌+◌, ◌-◌, ◌≤◌, ◌<◌}
+use Prim.Native.Nat.{ℕ, ◌+◌, ◌<◌}
 use native.Mathlib.Omega.{arith}
-use lib.ListN.{length}
-use Rattle.laws.specs.Lists.{table}
-use Rattle.store.specs.journals.Files.{file_at, records_of}
+use Rattle.store.specs.journals.Files.{file_at}
 use Rattle.store.proofs.journals.Counting.{records-none, records-next}
 use Rattle.store.specs.declared.journals.files.File.{File}
 use Rattle.working.specs.Working.{Gathered}
@@ -30,14 +28,17 @@ gather_file-r-requires c =
     let args = c.args in
     let f = c.file_at-f in
     let h : c.loop-k.k < args.n = omega arith in
-    let begun = begins args.n args.files.now args.regular.now args.corrections.now c.requires.sound c.loop-k.k f.result c.loop-k.reports c.loop-k.objections h f.ensures.0 c.loop-k.invariant.3 c.loop-k.invariant.4 in record { in_file = in-turn args.n args.files.now args.regular.now args.corrections.now c.requires.sound c.loop-k.k f.result c.begin-start.result h f.ensures.0 (c.begin-start.ensures ∙ begun); count_in_bounds = omega (
+    let begun = begins args.n args.files.now args.regular.now args.corrections.now c.requires.sound c.loop-k.k f.result c.loop-k.reports c.loop-k.objections h f.ensures.0 c.loop-k.invariant.3 c.loop-k.invariant.4 in record {
+      in_file = in-turn args.n args.files.now args.regular.now args.corrections.now c.requires.sound c.loop-k.k f.result c.begin-start.result h f.ensures.0 (c.begin-start.ensures ∙ begun);
+      count_in_bounds = omega (
         arith,
         room args.n args.files.now args.regular.now args.corrections.now c.requires.sound args.number c.loop-k.k h,
         ap (λ (g : File). g.count) f.ensures.0,
         c.loop-k.invariant.2.counted,
         c.loop-k.invariant.1,
         c.requires.in_bounds,
-      ) }
+      );
+    }
 
 pub overflow_add-reports : goal.overflow_add-reports
 overflow_add-reports c =

@@ -1,15 +1,10 @@
 -- `working::gather::gather` meets its contract: the loop's invariant is the contract over the first k files; a turn is `gathered-turn`. Assumes nothing.
-use mathlib.Core.Path.{◌≡◌, ap, subst, ◌∙◌}
-use Prim.Native.Nat.{ℕ, ◌+◌, ◌-◌, ◌≤◌, ◌<◌}
-use native.Mathlib.Omega.{arith}
+use mathlib.Core.Path.{◌≡◌}
+use Prim.Native.Nat.{◌-◌, ◌≤◌}
 use lib.ListN.{length}
 use Rattle.laws.specs.Lists.{table}
 use Rattle.store.specs.journals.Files.{file_at, records_of}
-use Rattle.store.proofs.journals.Counting.{records-none, records-next}
-use Rattle.store.specs.declared.journals.files.File.{File}
 use Rattle.working.specs.Working.{Gathered}
-use Rattle.working.proofs.GatherLaws.{gathered_none, gathered-turn, in-turn, room, begins, reports-few, objections-few}
-use borrow.Author.Rules.{rules}
 use Rattle.working.proofs.gather.gather.Given as goal
 
 abbrev pub invariant-loop-k : goal.invariant-loop-k

@@ -1,8 +1,8 @@
 -- `working::gather::gather_file` meets its contract: the loop's invariant is the contract over the first i records; a turn is `behind-yes` or `behind-no`. Assumes nothing.
 use mathlib.Core.Path.{◌≡◌, sym, subst, ◌∙◌}
-use Prim.Native.Nat.{ℕ, ◌+◌, ◌-◌, ◌≤◌}
+use Prim.Native.Nat.{ℕ}
 use native.Mathlib.Omega.{arith}
-use lib.ListN.{length, length-set}
+use lib.ListN.{length-set}
 use Rattle.store.specs.journals.Reads.{records_at}
 use Rattle.working.specs.Slips.{keys_in}
 use Rattle.working.specs.Working.{Behind}
@@ -25,7 +25,7 @@ loop-i-preserved c =
       elim c.if-names.branch [ then-names w ↦ rw w.keys-is (simp length-set c.loop-i.invariant.1) | else-names w ↦ rw w.keys-is c.loop-i.invariant.1 ],
       elim c.if-names.branch [ then-names w ↦ rw w.r-is (omega arith) | else-names w ↦ rw w.r-is (omega arith) ],
       elim c.if-names.branch [
-        then-names w ↦ rw (w.keys-is, w.r-is) (behind-yes r args.number args.f args.start args.keys.now c.loop-i.keys args.at c.loop-i.r c.loop-i.i inv _ (omega arith) (sym c.names.ensures ∙ w.if-names.true) w.key_at.ensures)
+        | then-names w ↦ rw (w.keys-is, w.r-is) (behind-yes r args.number args.f args.start args.keys.now c.loop-i.keys args.at c.loop-i.r c.loop-i.i inv _ (omega arith) (sym c.names.ensures ∙ w.if-names.true) w.key_at.ensures)
         | else-names w ↦ rw (w.keys-is, w.r-is) (behind-no r args.number args.f args.start args.keys.now c.loop-i.keys args.at c.loop-i.r c.loop-i.i inv (sym c.names.ensures ∙ w.if-names.false))
       ],
     )

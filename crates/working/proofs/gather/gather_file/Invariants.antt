@@ -1,14 +1,10 @@
 -- `working::gather::gather_file` meets its contract: the loop's invariant is the contract over the first i records; a turn is `behind-yes` or `behind-no`. Assumes nothing.
-use mathlib.Core.Path.{◌≡◌, sym, subst, ◌∙◌}
-use mathlib.Core.Logic.{⊎_elim}
-use Prim.Native.Nat.{ℕ, ◌+◌, ◌-◌, ◌≤◌}
-use native.Mathlib.Omega.{arith}
-use lib.ListN.{length, length-set}
+use mathlib.Core.Path.{◌≡◌}
+use Prim.Native.Nat.{◌+◌, ◌-◌, ◌≤◌}
+use lib.ListN.{length}
 use Rattle.store.specs.journals.Reads.{records_at}
 use Rattle.working.specs.Slips.{keys_in}
 use Rattle.working.specs.Working.{Behind}
-use Rattle.working.proofs.GatherLaws.{behind-none, behind-yes, behind-no}
-use borrow.Author.Rules.{rules}
 use Rattle.working.proofs.gather.gather_file.Given as goal
 
 abbrev pub invariant-loop-i : goal.invariant-loop-i

@@ -1,9 +1,8 @@
 -- `working::gather::names` meets its contract: the callees' contracts, one put into the other. Assumes nothing.
-use mathlib.Core.Path.{◌≡◌, sym, ap, ◌∙◌}
+use mathlib.Core.Path.{sym, ap, ◌∙◌}
 use Prim.Native.Nat.{ℕ}
 use Rattle.working.specs.Working.{apart}
 use Rattle.working.proofs.GatherLaws.{told-apart}
-use borrow.Author.Rules.{rules}
 use Rattle.working.proofs.gather.names.Goals as goal
 
 pub returns-then-is_apart : goal.returns-then-is_apart

@@ -3,7 +3,6 @@ use mathlib.Core.Path.{◌≡◌}
 use native.Mathlib.Omega.{arith}
 use Rattle.store.specs.journals.Records.{record_at}
 use Rattle.store.specs.journals.Reads.{records_at}
-use borrow.Author.Rules.{rules}
 use Rattle.working.proofs.gather.record_at.Goals as goal
 
 pub returns-then-kind-eq0 : goal.returns-then-kind-eq0

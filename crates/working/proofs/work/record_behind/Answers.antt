@@ -1,6 +1,5 @@
 -- `working::work::record_behind` meets its contract: the callee's contract. Assumes nothing.
 use Rattle.working.specs.Slips.{class_behind, event_behind}
-use borrow.Author.Rules.{rules}
 use Rattle.working.proofs.work.record_behind.Goals as goal
 
 pub returns : goal.returns

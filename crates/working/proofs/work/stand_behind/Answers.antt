@@ -1,6 +1,5 @@
 -- `working::work::stand_behind` meets its contract: the callees' contracts. Assumes nothing.
 use Rattle.working.specs.Working.{stand_behind}
-use borrow.Author.Rules.{rules}
 use Rattle.working.proofs.work.stand_behind.Goals as goal
 
 pub returns : goal.returns

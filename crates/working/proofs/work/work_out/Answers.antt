@@ -1,7 +1,6 @@
 -- `working::work::work_out` meets its contract: what the three callees say, put together (`answer`). Assumes nothing.
 use Rattle.working.proofs.GatherLaws.{room-all}
 use Rattle.working.proofs.WorkLaws.{answer}
-use borrow.Author.Rules.{rules}
 use Rattle.working.proofs.work.work_out.Goals as goal
 
 pub fold_all-requires : goal.fold_all-requires

@@ -1,5 +1,4 @@
 -- `filing::checking::check::check_day` meets its contract. Assumes nothing.
-use borrow.Author.Rules.{rules}
 use borrow.Author.Tests.{not-true, not-false}
 use mathlib.Core.Path.{sym, ◌∙◌}
 use Rattle.files.specs.Judged.{judged_file}

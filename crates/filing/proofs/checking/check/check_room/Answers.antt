@@ -1,5 +1,4 @@
 -- `filing::checking::check::check_room` meets its contract. Assumes nothing.
-use borrow.Author.Rules.{rules}
 use mathlib.Core.Path.{sym, ◌∙◌}
 use Rattle.filing.proofs.checking.check.check_room.Goals as goal
 

@@ -1,5 +1,4 @@
 -- `filing::checking::check::check_text` meets its contract. Assumes nothing.
-use borrow.Author.Rules.{rules}
 use mathlib.Core.Path.{sym, ap, ◌∙◌}
 use Rattle.records.specs.declared.names.kind.FileKind.{FileKind}
 use Rattle.files.specs.Judged.{judged_file}

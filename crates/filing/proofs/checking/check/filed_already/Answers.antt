@@ -1,10 +1,7 @@
 -- `filing::checking::check::filed_already` meets its contract. Assumes nothing.
 use native.Mathlib.Omega.{arith}
 use borrow.Author.Rules.{rules}
-use Prim.Native.Nat.{◌-◌, ◌≤◌}
-use mathlib.Core.Bool.{false}
 use mathlib.Core.Path.{◌≡◌, sym, ap, ◌∙◌}
-use Rattle.laws.specs.Lists.{table, any}
 use Rattle.laws.proofs.Tables.{any_none, any_next, any_here}
 use Rattle.store.specs.journals.Files.{file_at, files_of, file_count, same_file}
 use Rattle.store.proofs.Checks.{few-files}
@@ -22,11 +19,11 @@ returns-then-same_file c = let a = c.args in
 
 pub loop-k-preserved : goal.loop-k-preserved
 loop-k-preserved c = let a = c.args in (
-      search rules,
-      c.loop-k.invariant.1,
-      any_next (same_file a.sought) c.loop-k.k (file_at a.files.now) c.loop-k.invariant.2
-          (ap (same_file a.sought) (sym c.file_at-f.ensures.0) ∙ sym c.same_file.ensures ∙ c.if-same_file.false),
-    )
+  search rules,
+  c.loop-k.invariant.1,
+  any_next (same_file a.sought) c.loop-k.k (file_at a.files.now) c.loop-k.invariant.2
+      (ap (same_file a.sought) (sym c.file_at-f.ensures.0) ∙ sym c.same_file.ensures ∙ c.if-same_file.false),
+)
 
 pub returns : goal.returns
 unfolding files_of

@@ -1,13 +1,9 @@
 -- `filing::checking::check::filed_already` meets its contract. Assumes nothing.
-use native.Mathlib.Omega.{arith}
-use borrow.Author.Rules.{rules}
 use Prim.Native.Nat.{◌-◌, ◌≤◌}
 use mathlib.Core.Bool.{false}
-use mathlib.Core.Path.{◌≡◌, sym, ap, ◌∙◌}
+use mathlib.Core.Path.{◌≡◌}
 use Rattle.laws.specs.Lists.{table, any}
-use Rattle.laws.proofs.Tables.{any_none, any_next, any_here}
-use Rattle.store.specs.journals.Files.{file_at, files_of, file_count, same_file}
-use Rattle.store.proofs.Checks.{few-files}
+use Rattle.store.specs.journals.Files.{file_at, same_file}
 use Rattle.filing.proofs.checking.check.filed_already.Given as goal
 
 abbrev pub invariant-loop-k : goal.invariant-loop-k

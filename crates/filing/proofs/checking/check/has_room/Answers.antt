@@ -1,6 +1,5 @@
 -- `filing::checking::check::has_room` meets its contract. Assumes nothing.
 use native.Mathlib.Omega.{arith}
-use borrow.Author.Rules.{rules}
 use mathlib.Core.Path.{ap, ◌∙◌}
 use Prim.Native.Nat.{ℕ}
 use Rattle.store.specs.journals.Files.{file_at, records_of}

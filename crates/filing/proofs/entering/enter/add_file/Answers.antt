@@ -1,6 +1,5 @@
 -- `filing::entering::enter::add_file` meets its contract. Assumes nothing.
 use mathlib.Core.Path.{◌∙◌}
-use borrow.Author.Rules.{rules}
 use Rattle.filing.proofs.entering.Joining.{files-added}
 use Rattle.filing.proofs.entering.enter.add_file.Goals as goal
 

@@ -1,6 +1,5 @@
 -- `filing::entering::enter::enter` meets its contract. Assumes nothing.
 use native.Mathlib.Omega.{arith}
-use borrow.Author.Rules.{rules}
 use Rattle.filing.proofs.entering.Joining.{few, stored, joined}
 use Rattle.filing.proofs.entering.enter.enter.Goals as goal
 

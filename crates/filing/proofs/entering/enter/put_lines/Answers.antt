@@ -2,10 +2,8 @@
 use native.Mathlib.Omega.{arith}
 use borrow.Author.Rules.{rules}
 use mathlib.Core.Path.{◌≡◌, refl, ◌∙◌}
-use Prim.Native.Nat.{◌+◌, ◌-◌, ◌≤◌, ◌<◌}
-use lib.ListN.{length, drop}
-use Rattle.files.specs.Cursor.{line_start}
-use Rattle.filing.specs.entering.Entering.{journal_with, first_lines}
+use Prim.Native.Nat.{◌+◌, ◌<◌}
+use lib.ListN.{length}
 use Rattle.filing.proofs.entering.Writing.{line-here, room-here, places-fit, start, lines_none, lines_next, lines-done}
 use Rattle.filing.proofs.entering.enter.put_lines.Goals as goal
 
@@ -47,7 +45,7 @@ pub loop-i-preserved : goal.loop-i-preserved
 loop-i-preserved c =
     let l = line-here c.args.width c.args.text.now c.args.m c.requires.0 c.loop-i.i c.loop-i.at c.line_end-end.result (omega arith) c.loop-i.invariant.1.0 c.line_end-end.ensures in
     let put = c.put in
-    (omega arith, (l.next, (put.auto.0 ∙ c.loop-i.invariant.1.1.0, lines_next _ _ _ _ _ _ _ _ _ _ l put.ensures c.loop-i.invariant.1.1.1)))
+    (omega arith, (l.next, (put.auto.journal ∙ c.loop-i.invariant.1.1.0, lines_next _ _ _ _ _ _ _ _ _ _ l put.ensures c.loop-i.invariant.1.1.1)))
 
 pub shape_of-journal : goal.shape_of-journal
 shape_of-journal c = c.loop-i.invariant.1.1.0

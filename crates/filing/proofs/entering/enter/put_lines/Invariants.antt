@@ -1,12 +1,9 @@
 -- `filing::entering::enter::put_lines` meets its contract. What is left to write, written from here on, gives what is to be written in all. Assumes nothing.
-use native.Mathlib.Omega.{arith}
-use borrow.Author.Rules.{rules}
-use mathlib.Core.Path.{◌≡◌, refl, ◌∙◌}
-use Prim.Native.Nat.{◌+◌, ◌-◌, ◌≤◌, ◌<◌}
+use mathlib.Core.Path.{◌≡◌}
+use Prim.Native.Nat.{◌+◌, ◌-◌, ◌≤◌}
 use lib.ListN.{length, drop}
 use Rattle.files.specs.Cursor.{line_start}
 use Rattle.filing.specs.entering.Entering.{journal_with, first_lines}
-use Rattle.filing.proofs.entering.Writing.{line-here, room-here, places-fit, start, lines_none, lines_next, lines-done}
 use Rattle.filing.proofs.entering.enter.put_lines.Given as goal
 
 abbrev pub invariant-loop-i : goal.invariant-loop-i

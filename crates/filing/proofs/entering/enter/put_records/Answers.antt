@@ -1,6 +1,5 @@
 -- `filing::entering::enter::put_records` meets its contract. Assumes nothing.
 use lib.ListN.{length}
-use borrow.Author.Rules.{rules}
 use Rattle.filing.specs.declared.entering.kind.Filable.TheVariants.{Default, Correction}
 use Rattle.filing.proofs.entering.Joining.{asked, put-regular, put-correction}
 use Rattle.filing.proofs.entering.enter.put_records.Goals as goal

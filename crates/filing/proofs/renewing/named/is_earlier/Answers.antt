@@ -3,7 +3,6 @@ use Prim.Native.Nat.{◌%◌}
 use Rattle.store.specs.journals.Reads.{records_at}
 use Rattle.filing.specs.renewing.Turns.{filed_from}
 use Rattle.filing.proofs.renewing.Repeats.{earlier-yes, earlier-no}
-use borrow.Author.Rules.{rules}
 use Rattle.filing.proofs.renewing.named.is_earlier.Goals as goal
 
 pub returns-then-place-j : goal.returns-then-place-j

@@ -1,8 +1,8 @@
 -- `filing::renewing::named::lay_tags` meets its contract: the tags of the first i records are laid. Assumes nothing.
 use mathlib.Core.Path.{◌≡◌, subst}
-use Prim.Native.Nat.{ℕ, ◌-◌, ◌≤◌}
+use Prim.Native.Nat.{ℕ}
 use native.Mathlib.Omega.{arith}
-use lib.ListN.{length, take}
+use lib.ListN.{take}
 use Rattle.laws.specs.Lists.{table}
 use Rattle.laws.proofs.Tables.{lay-none, lay-next}
 use Rattle.order.specs.groups.Groups.{tag}

@@ -1,14 +1,11 @@
 -- `filing::renewing::named::lay_tags` meets its contract: the tags of the first i records are laid. Assumes nothing.
-use mathlib.Core.Path.{◌≡◌, subst}
+use mathlib.Core.Path.{◌≡◌}
 use Prim.Native.Nat.{ℕ, ◌-◌, ◌≤◌}
-use native.Mathlib.Omega.{arith}
 use lib.ListN.{length, take}
 use Rattle.laws.specs.Lists.{table}
-use Rattle.laws.proofs.Tables.{lay-none, lay-next}
 use Rattle.order.specs.groups.Groups.{tag}
 use Rattle.store.specs.journals.Reads.{records_at}
 use Rattle.filing.specs.renewing.Turns.{filed_from, front_from}
-use borrow.Author.Rules.{rules}
 use Rattle.filing.proofs.renewing.named.lay_tags.Given as goal
 
 abbrev pub invariant-loop-i : goal.invariant-loop-i

@@ -1,9 +1,8 @@
 -- `filing::renewing::named::named_among` meets its contract: what is left to be searched decides. Assumes nothing.
-use mathlib.Core.Path.{◌≡◌, refl, sym, ap, ◌∙◌}
-use Prim.Native.Nat.{ℕ, ◌-◌, ◌%◌, ◌≤◌, ◌<◌}
+use mathlib.Core.Path.{refl, sym, ap, ◌∙◌}
+use Prim.Native.Nat.{ℕ, ◌%◌, ◌<◌}
 use native.Mathlib.Omega.{arith}
 use lib.ListN.{take, drop}
-use Rattle.laws.specs.Lists.{any}
 use Rattle.laws.proofs.Loops.{any-on, any_found, any-passed}
 use Rattle.store.specs.journals.Reads.{records_at}
 use Rattle.filing.specs.renewing.Turns.{filed_from, earlier}

@@ -1,14 +1,10 @@
 -- `filing::renewing::named::named_among` meets its contract: what is left to be searched decides. Assumes nothing.
-use mathlib.Core.Path.{◌≡◌, refl, sym, ap, ◌∙◌}
-use Prim.Native.Nat.{ℕ, ◌-◌, ◌%◌, ◌≤◌, ◌<◌}
-use native.Mathlib.Omega.{arith}
+use mathlib.Core.Path.{◌≡◌}
+use Prim.Native.Nat.{ℕ, ◌-◌, ◌%◌, ◌≤◌}
 use lib.ListN.{take, drop}
 use Rattle.laws.specs.Lists.{any}
-use Rattle.laws.proofs.Loops.{any-on, any_found, any-passed}
 use Rattle.store.specs.journals.Reads.{records_at}
 use Rattle.filing.specs.renewing.Turns.{filed_from, earlier}
-use Rattle.filing.proofs.renewing.Repeats.{part_length, part_at}
-use borrow.Author.Rules.{rules}
 use Rattle.filing.proofs.renewing.named.named_among.Given as goal
 
 abbrev pub invariant-loop-i : goal.invariant-loop-i

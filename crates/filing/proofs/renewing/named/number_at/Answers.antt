@@ -1,7 +1,6 @@
 -- `filing::renewing::named::number_at` meets its contract: the callees' contracts, one put into the other. Assumes nothing.
 use Rattle.store.specs.journals.Reads.{records_at}
 use Rattle.filing.proofs.renewing.Stages.{number_read}
-use borrow.Author.Rules.{rules}
 use Rattle.filing.proofs.renewing.named.number_at.Goals as goal
 
 pub returns : goal.returns

@@ -1,6 +1,5 @@
 -- `filing::renewing::named::tag_at` meets its contract: the callee's contract. Assumes nothing.
 use Rattle.filing.specs.renewing.Turns.{front_from}
-use borrow.Author.Rules.{rules}
 use Rattle.filing.proofs.renewing.named.tag_at.Goals as goal
 
 pub returns : goal.returns

@@ -1,7 +1,6 @@
 -- `filing::renewing::named::tag_file` meets its contract: the callees' contracts put together (`tagged`). Assumes nothing.
 use mathlib.Core.Path.{sym}
 use native.Mathlib.Omega.{arith}
-use borrow.Author.Rules.{rules}
 use Rattle.store.specs.journals.Reads.{records_at}
 use Rattle.filing.specs.renewing.Turns.{filed_from}
 use Rattle.filing.proofs.renewing.Repeats.{tagged}

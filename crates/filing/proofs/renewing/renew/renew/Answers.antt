@@ -4,7 +4,6 @@ use Prim.Native.Nat.{◌+◌, ◌-◌}
 use native.Mathlib.Omega.{arith}
 use Rattle.store.specs.journals.Files.{file_count}
 use Rattle.filing.proofs.renewing.Loop.{workable, in-last, counted-last, renewed-last}
-use borrow.Author.Rules.{rules}
 use Rattle.filing.proofs.renewing.renew.renew.Goals as goal
 
 pub file_count-n-requires : goal.file_count-n-requires

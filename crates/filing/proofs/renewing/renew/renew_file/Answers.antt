@@ -1,5 +1,4 @@
 -- `filing::renewing::renew::renew_file` meets its contract: the file's records are tagged, the files are indexed for them, and the records are done. Assumes nothing.
-use borrow.Author.Rules.{rules}
 use Rattle.store.specs.journals.Reads.{records_at}
 use Rattle.filing.specs.renewing.Turns.{filed_from}
 use Rattle.filing.proofs.renewing.Repeats.{tagged-wanted}
@@ -14,7 +13,7 @@ pub renew_records-requires : goal.renew_records-requires
 renew_records-requires c =
     let a = c.args in
     let ordered = tagged-wanted (filed_from (records_at a.regular.now a.corrections.now) a.f a.start) _ c.tag_file-w.result c.tag_file-w.ensures in
-    (c.requires.workable, (record { ordered = ordered; c = c.index-c.ensures }, (c.requires.in_file, c.tag_file-w.ensures)))
+    record { workable = c.requires.workable; ready = record { ordered = ordered; indexed = c.index-c.ensures }; in_file = c.requires.in_file; tagged = c.tag_file-w.ensures }
 
 pub returns : goal.returns
 returns c = c.renew_records.ensures

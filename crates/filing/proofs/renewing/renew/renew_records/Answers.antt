@@ -1,8 +1,7 @@
 -- `filing::renewing::renew::renew_records` meets its contract: before the record at j the numbers of the first j records are done (`Staged`). Assumes nothing.
 use mathlib.Core.Path.{◌≡◌, subst}
-use Prim.Native.Nat.{ℕ, ◌-◌, ◌≤◌}
+use Prim.Native.Nat.{ℕ}
 use native.Mathlib.Omega.{arith}
-use lib.ListN.{length}
 use Rattle.store.specs.journals.Reads.{records_at, read_files}
 use Rattle.filing.specs.renewing.Turns.{filed_from, Staged}
 use Rattle.filing.proofs.renewing.Loop.{staged-none, staged-turn, still-workable}
@@ -16,11 +15,11 @@ loop-j-init c =
 
 pub renew_record-sum-requires : goal.renew_record-sum-requires
 renew_record-sum-requires c =
-    (still-workable c.requires.workable c.loop-j.entries c.loop-j.invariant.1, (c.requires.ready.0, (c.requires.ready.1.0, (search rules, c.requires.ready.1.1))))
+    record { workable = still-workable c.requires.workable c.loop-j.entries c.loop-j.invariant.1; ready = c.requires.ready; in_file = c.requires.in_file; j_lt_count = search rules; tagged = c.requires.tagged }
 
 pub overflow_add-sum : goal.overflow_add-sum
 overflow_add-sum c =
-    omega (arith, c.loop-j.invariant.2.few, c.renew_record-sum.ensures.few, c.loop-j.invariant.0, c.requires.ready.1.0.within)
+    omega (arith, c.loop-j.invariant.2.few, c.renew_record-sum.ensures.few, c.loop-j.invariant.0, c.requires.in_file.within)
 
 pub loop-j-preserved : goal.loop-j-preserved
 loop-j-preserved c =

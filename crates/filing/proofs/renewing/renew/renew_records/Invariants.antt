@@ -1,12 +1,9 @@
 -- `filing::renewing::renew::renew_records` meets its contract: before the record at j the numbers of the first j records are done (`Staged`). Assumes nothing.
-use mathlib.Core.Path.{◌≡◌, subst}
-use Prim.Native.Nat.{ℕ, ◌-◌, ◌≤◌}
-use native.Mathlib.Omega.{arith}
+use mathlib.Core.Path.{◌≡◌}
+use Prim.Native.Nat.{◌-◌, ◌≤◌}
 use lib.ListN.{length}
 use Rattle.store.specs.journals.Reads.{records_at, read_files}
 use Rattle.filing.specs.renewing.Turns.{filed_from, Staged}
-use Rattle.filing.proofs.renewing.Loop.{staged-none, staged-turn, still-workable}
-use borrow.Author.Rules.{rules}
 use Rattle.filing.proofs.renewing.renew.renew_records.Given as goal
 
 abbrev pub invariant-loop-j : goal.invariant-loop-j

@@ -4,7 +4,7 @@ use Rattle.filing.proofs.renewing.turn.count_all.Goals as goal
 
 pub gather_indexed-requires : goal.gather_indexed-requires
 gather_indexed-requires c =
-    (c.requires.sound, (c.requires.ready.ordered, c.requires.ready.indexed))
+    record { sound = c.requires.sound; wanted = c.requires.ready.ordered; indexed = c.requires.ready.indexed }
 
 pub returns : goal.returns
 returns c =

@@ -1,16 +1,15 @@
 -- `filing::renewing::turn::renew_line` meets its contract: what is worked out over as many files as there are, written (`line-worked`). Assumes nothing.
 use Rattle.filing.proofs.renewing.Steps.{line-worked}
 use native.Mathlib.Omega.{arith}
-use borrow.Author.Rules.{rules}
 use Rattle.filing.proofs.renewing.turn.renew_line.Goals as goal
 
 pub work_indexed-worked-requires : goal.work_indexed-worked-requires
 work_indexed-worked-requires c =
-    (c.requires.workable.sound, (c.requires.ready.0.ordered, c.requires.ready.0.indexed))
+    record { sound = c.requires.workable.sound; wanted = c.requires.ready.ordered; indexed = c.requires.ready.indexed }
 
 pub put_entry-requires : goal.put_entry-requires
 put_entry-requires c =
-    omega (arith, c.requires.workable.entry_room, c.requires.workable.few_lines, c.requires.ready.1)
+    omega (arith, c.requires.workable.entry_room, c.requires.workable.few_lines, c.requires.k_bound)
 
 pub returns : goal.returns
 returns c =

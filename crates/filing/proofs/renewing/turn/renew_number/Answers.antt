@@ -1,12 +1,11 @@
 -- `filing::renewing::turn::renew_number` meets its contract: with a line of the table, or without one. Assumes nothing.
 use Rattle.filing.proofs.renewing.Steps.{with-line, without-line}
 use native.Mathlib.Omega.{arith}
-use borrow.Author.Rules.{rules}
 use Rattle.filing.proofs.renewing.turn.renew_number.Goals as goal
 
 pub renew_line-requires : goal.renew_line-requires
 renew_line-requires c =
-    (c.requires.workable, (c.requires.ready, omega (arith, c.if-k-count.true, c.line_count-count.ensures.0)))
+    record { workable = c.requires.workable; ready = c.requires.ready; k_bound = omega (arith, c.if-k-count.true, c.line_count-count.ensures.0) }
 
 pub returns-then-k-count : goal.returns-then-k-count
 returns-then-k-count c =

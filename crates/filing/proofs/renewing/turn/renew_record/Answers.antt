@@ -4,12 +4,11 @@ use Rattle.store.specs.journals.Reads.{records_at}
 use Rattle.filing.specs.renewing.Turns.{filed_from}
 use Rattle.filing.proofs.renewing.Steps.{seen-before, seen_first}
 use native.Mathlib.Omega.{arith}
-use borrow.Author.Rules.{rules}
 use Rattle.filing.proofs.renewing.turn.renew_record.Goals as goal
 
 pub named_before-requires : goal.named_before-requires
 named_before-requires c =
-    (c.requires.ready.1.0, (omega (arith, c.requires.ready.1.1.0), c.requires.ready.1.1.1))
+    record { in_file = c.requires.in_file; j_le_count = omega (arith, c.requires.j_lt_count); tagged = c.requires.tagged }
 
 pub returns-then-named_before : goal.returns-then-named_before
 returns-then-named_before c =

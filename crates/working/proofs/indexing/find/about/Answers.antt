@@ -1,6 +1,5 @@
 -- `working::indexing::find::about` meets its contract: the callees' contracts, one put into the other. Assumes nothing.
 use Rattle.working.specs.indexing.Index.{about_key}
-use borrow.Author.Rules.{rules}
 use Rattle.working.proofs.indexing.find.about.Goals as goal
 
 pub returns : goal.returns

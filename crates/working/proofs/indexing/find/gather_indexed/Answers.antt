@@ -2,7 +2,6 @@
 use mathlib.Core.Path.{sym, ◌∙◌}
 use lib.ListN.{take}
 use Rattle.working.proofs.indexing.Finding.{index-ordered, gathered}
-use borrow.Author.Rules.{rules}
 use Rattle.working.proofs.indexing.find.gather_indexed.Goals as goal
 
 pub gather_group-requires : goal.gather_group-requires

@@ -3,7 +3,6 @@ use mathlib.Core.Path.{sym}
 use Prim.Native.Nat.{◌%◌}
 use lib.Seq.{get_or-take}
 use Rattle.working.proofs.indexing.Finding.{key-past}
-use borrow.Author.Rules.{rules}
 use Rattle.working.proofs.indexing.find.key_of.Goals as goal
 
 pub returns-then-place-c : goal.returns-then-place-c

@@ -2,7 +2,7 @@
 use lib.Seq.{length-take-le, get_or-take}
 use Rattle.working.proofs.indexing.Finding.{pick-none, pick_yes, pick_no}
 use mathlib.Core.Path.{◌≡◌, sym, ap, subst, ◌∙◌}
-use Prim.Native.Nat.{ℕ, ◌+◌, ◌-◌, ◌%◌, ◌≤◌, ◌<◌}
+use Prim.Native.Nat.{ℕ, ◌+◌, ◌%◌, ◌≤◌, ◌<◌}
 use native.Mathlib.Omega.{arith}
 use lib.ListN.{length, take, drop, get_or, length-set}
 use Rattle.laws.specs.Lists.{keep}
@@ -29,7 +29,7 @@ loop-i-preserved c =
       elim c.if-about.branch [ then-about w ↦ rw w.out-is (simp length-set c.loop-i.invariant.1) | else-about w ↦ rw w.out-is c.loop-i.invariant.1 ],
       elim c.if-about.branch [ then-about w ↦ rw w.r-is (omega arith) | else-about w ↦ rw w.r-is (omega arith) ],
       elim c.if-about.branch [
-        then-about w ↦ rw (w.out-is, w.r-is) (pick_yes q (take args.c args.keys.now) (take args.c args.places.now) args.from args.out.now c.loop-i.out c.loop-i.r c.loop-i.i c.key_of-key.result c.loop-i.invariant.3 in-first e (omega arith) (sym c.about.ensures ∙ w.if-about.true))
+        | then-about w ↦ rw (w.out-is, w.r-is) (pick_yes q (take args.c args.keys.now) (take args.c args.places.now) args.from args.out.now c.loop-i.out c.loop-i.r c.loop-i.i c.key_of-key.result c.loop-i.invariant.3 in-first e (omega arith) (sym c.about.ensures ∙ w.if-about.true))
         | else-about w ↦ rw (w.out-is, w.r-is) (pick_no q (take args.c args.keys.now) (take args.c args.places.now) args.from args.out.now c.loop-i.out c.loop-i.r c.loop-i.i c.key_of-key.result c.loop-i.invariant.3 in-first e (sym c.about.ensures ∙ w.if-about.false))
       ],
     )

@@ -1,15 +1,10 @@
 -- `working::indexing::find::pick` meets its contract: the loop's invariant is the contract over the first i tags; a turn is `pick_yes` or `pick_no`. Assumes nothing.
-use mathlib.Core.Logic.{⊎_elim}
-use lib.Seq.{length-take-le, get_or-take}
-use Rattle.working.proofs.indexing.Finding.{pick-none, pick_yes, pick_no}
-use mathlib.Core.Path.{◌≡◌, sym, ap, subst, ◌∙◌}
-use Prim.Native.Nat.{ℕ, ◌+◌, ◌-◌, ◌%◌, ◌≤◌, ◌<◌}
-use native.Mathlib.Omega.{arith}
-use lib.ListN.{length, take, drop, get_or, length-set}
+use mathlib.Core.Path.{◌≡◌}
+use Prim.Native.Nat.{◌-◌, ◌≤◌}
+use lib.ListN.{length, take, drop}
 use Rattle.laws.specs.Lists.{keep}
 use Rattle.working.specs.Working.{Behind}
 use Rattle.working.specs.indexing.Index.{about_key, keys_behind}
-use borrow.Author.Rules.{rules}
 use Rattle.working.proofs.indexing.find.pick.Given as goal
 
 abbrev pub invariant-loop-i : goal.invariant-loop-i

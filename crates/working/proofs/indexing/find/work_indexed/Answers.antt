@@ -1,7 +1,6 @@
 -- `working::indexing::find::work_indexed` meets its contract: what the three callees say, put together (`answer`). Assumes nothing.
 use Rattle.working.proofs.GatherLaws.{room-all}
 use Rattle.working.proofs.WorkLaws.{answer}
-use borrow.Author.Rules.{rules}
 use Rattle.working.proofs.indexing.find.work_indexed.Goals as goal
 
 pub fold_all-requires : goal.fold_all-requires

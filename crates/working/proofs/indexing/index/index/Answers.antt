@@ -3,7 +3,6 @@ use lib.ListN.{take}
 use Rattle.working.specs.indexing.Index.{front_behind}
 use Rattle.working.proofs.indexing.Listing.{room-all, listed-long}
 use Rattle.working.proofs.indexing.Grouping.{tags-laid}
-use borrow.Author.Rules.{rules}
 use Rattle.working.proofs.indexing.index.index.Goals as goal
 
 pub list_all-c-requires : goal.list_all-c-requires

@@ -1,7 +1,6 @@
 -- `working::indexing::index::is_below` meets its contract: there is such a key, or there is none. Assumes nothing.
 use borrow.Author.Tests.{lt-ltb, le-ltb}
 use lib.Seq.{get_or-take, length-take-le}
-use borrow.Author.Rules.{rules}
 use Rattle.working.proofs.indexing.index.is_below.Goals as goal
 
 pub returns-then-at-w : goal.returns-then-at-w

@@ -1,5 +1,4 @@
 -- `working::indexing::index::is_candidate` meets its contract: the callees' contracts, one put into the other. Assumes nothing.
-use borrow.Author.Rules.{rules}
 use Rattle.working.proofs.indexing.index.is_candidate.Goals as goal
 
 pub returns : goal.returns

@@ -1,7 +1,6 @@
 -- `working::indexing::index::is_sought` meets its contract: there is a mark and the field is searched for, or there is none (`not-marked`). Assumes nothing.
 use lib.ListN.{take}
 use Rattle.working.proofs.indexing.Marking.{not-marked}
-use borrow.Author.Rules.{rules}
 use Rattle.working.proofs.indexing.index.is_sought.Goals as goal
 
 pub returns : goal.returns

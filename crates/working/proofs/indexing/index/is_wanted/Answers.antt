@@ -1,6 +1,5 @@
 -- `working::indexing::index::is_wanted` meets its contract: a search, and a look at where it ends (`group-some`). Assumes nothing.
 use mathlib.Core.Path.{◌∙◌}
-use borrow.Author.Rules.{rules}
 use lib.ListN.{take}
 use Rattle.working.specs.indexing.Index.{front, is_wanted}
 use Rattle.working.proofs.indexing.Grouping.{group-some}

@@ -1,9 +1,9 @@
 -- `working::indexing::index::lay_tags` meets its contract: the tags of the first i keys are laid. Assumes nothing.
 use Rattle.laws.proofs.Tables.{lay-none, lay-next}
 use mathlib.Core.Path.{◌≡◌, subst}
-use Prim.Native.Nat.{ℕ, ◌-◌, ◌≤◌}
+use Prim.Native.Nat.{ℕ}
 use native.Mathlib.Omega.{arith}
-use lib.ListN.{length, take, get_or}
+use lib.ListN.{take, get_or}
 use Rattle.laws.specs.Lists.{table}
 use Rattle.order.specs.groups.Groups.{tag}
 use Rattle.working.specs.indexing.Index.{front_behind}

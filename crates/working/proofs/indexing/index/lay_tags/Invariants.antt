@@ -1,13 +1,10 @@
 -- `working::indexing::index::lay_tags` meets its contract: the tags of the first i keys are laid. Assumes nothing.
-use Rattle.laws.proofs.Tables.{lay-none, lay-next}
-use mathlib.Core.Path.{◌≡◌, subst}
+use mathlib.Core.Path.{◌≡◌}
 use Prim.Native.Nat.{ℕ, ◌-◌, ◌≤◌}
-use native.Mathlib.Omega.{arith}
 use lib.ListN.{length, take, get_or}
 use Rattle.laws.specs.Lists.{table}
 use Rattle.order.specs.groups.Groups.{tag}
 use Rattle.working.specs.indexing.Index.{front_behind}
-use borrow.Author.Rules.{rules}
 use Rattle.working.proofs.indexing.index.lay_tags.Given as goal
 
 abbrev pub invariant-loop-i : goal.invariant-loop-i

@@ -1,9 +1,9 @@
 -- `working::indexing::index::list_file` meets its contract: the loop's invariant is the contract over the first i records; a turn is `file-yes` or `file-no`. Assumes nothing.
 use mathlib.Core.Path.{◌≡◌, sym, subst, ◌∙◌}
 use mathlib.Core.Bool.{true, false}
-use Prim.Native.Nat.{ℕ, ◌+◌, ◌-◌, ◌≤◌}
+use Prim.Native.Nat.{ℕ}
 use native.Mathlib.Omega.{arith}
-use lib.ListN.{length, take, length-set}
+use lib.ListN.{take, length-set}
 use Rattle.store.specs.journals.Reads.{records_at}
 use Rattle.working.specs.Working.{Behind}
 use Rattle.working.specs.indexing.Index.{candidate, listed_in}
@@ -28,7 +28,7 @@ loop-i-preserved c =
       elim c.if-is_candidate.branch [ then-is_candidate w ↦ rw w.keys-is (simp length-set c.loop-i.invariant.1) | else-is_candidate w ↦ rw w.keys-is c.loop-i.invariant.1 ],
       elim c.if-is_candidate.branch [ then-is_candidate w ↦ rw w.r-is (omega arith) | else-is_candidate w ↦ rw w.r-is (omega arith) ],
       elim c.if-is_candidate.branch [
-        then-is_candidate w ↦ rw (w.keys-is, w.r-is) (file-yes p r args.f args.start args.keys.now c.loop-i.keys args.at c.loop-i.r c.loop-i.i inv _ (omega arith) (candidate-at r (take args.w args.wanted.now) args.f args.start c.loop-i.i true (sym c.is_candidate.ensures ∙ w.if-is_candidate.true)) w.key_at.ensures)
+        | then-is_candidate w ↦ rw (w.keys-is, w.r-is) (file-yes p r args.f args.start args.keys.now c.loop-i.keys args.at c.loop-i.r c.loop-i.i inv _ (omega arith) (candidate-at r (take args.w args.wanted.now) args.f args.start c.loop-i.i true (sym c.is_candidate.ensures ∙ w.if-is_candidate.true)) w.key_at.ensures)
         | else-is_candidate w ↦ rw (w.keys-is, w.r-is) (file-no p r args.f args.start args.keys.now c.loop-i.keys args.at c.loop-i.r c.loop-i.i inv (candidate-at r (take args.w args.wanted.now) args.f args.start c.loop-i.i false (sym c.is_candidate.ensures ∙ w.if-is_candidate.false)))
       ],
     )

@@ -1,15 +1,10 @@
 -- `working::indexing::index::list_file` meets its contract: the loop's invariant is the contract over the first i records; a turn is `file-yes` or `file-no`. Assumes nothing.
-use mathlib.Core.Path.{◌≡◌, sym, subst, ◌∙◌}
-use mathlib.Core.Bool.{true, false}
-use mathlib.Core.Logic.{⊎_elim}
-use Prim.Native.Nat.{ℕ, ◌+◌, ◌-◌, ◌≤◌}
-use native.Mathlib.Omega.{arith}
-use lib.ListN.{length, take, length-set}
+use mathlib.Core.Path.{◌≡◌}
+use Prim.Native.Nat.{◌+◌, ◌-◌, ◌≤◌}
+use lib.ListN.{length, take}
 use Rattle.store.specs.journals.Reads.{records_at}
 use Rattle.working.specs.Working.{Behind}
 use Rattle.working.specs.indexing.Index.{candidate, listed_in}
-use Rattle.working.proofs.indexing.Listing.{file-none, file-yes, file-no, candidate-at}
-use borrow.Author.Rules.{rules}
 use Rattle.working.proofs.indexing.index.list_file.Given as goal
 
 abbrev pub invariant-loop-i : goal.invariant-loop-i

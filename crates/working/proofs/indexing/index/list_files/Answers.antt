@@ -1,10 +1,9 @@
 -- `working::indexing::index::list_files` meets its contract: the loop's invariant is the contract over the first k files; a turn is `files-more`. Assumes nothing.
 use mathlib.Core.Path.{◌≡◌, ap, subst, ◌∙◌}
-use Prim.Native.Nat.{ℕ, ◌+◌, ◌-◌, ◌≤◌, ◌<◌}
+use Prim.Native.Nat.{ℕ, ◌+◌, ◌<◌}
 use native.Mathlib.Omega.{arith}
-use lib.ListN.{length, take}
-use Rattle.laws.specs.Lists.{table}
-use Rattle.store.specs.journals.Files.{file_at, records_of}
+use lib.ListN.{take}
+use Rattle.store.specs.journals.Files.{file_at}
 use Rattle.store.specs.declared.journals.files.File.{File}
 use Rattle.store.proofs.journals.Counting.{records-none, records-next}
 use Rattle.working.proofs.GatherLaws.{in-turn, begins, reports-few, objections-few}

@@ -1,11 +1,8 @@
 -- `working::indexing::index::mark` meets its contract: the first i tags are marked. Assumes nothing.
-use mathlib.Core.Path.{◌≡◌, subst}
-use Prim.Native.Nat.{ℕ, ◌-◌, ◌≤◌}
-use native.Mathlib.Omega.{arith}
+use mathlib.Core.Path.{◌≡◌}
+use Prim.Native.Nat.{◌-◌, ◌≤◌}
 use lib.ListN.{length, take}
 use Rattle.working.specs.indexing.Index.{Marked}
-use Rattle.working.proofs.indexing.Marking.{marked-none, marked_more}
-use borrow.Author.Rules.{rules}
 use Rattle.working.proofs.indexing.index.mark.Given as goal
 
 abbrev pub invariant-loop-i : goal.invariant-loop-i

@@ -5,7 +5,6 @@ use lib.ListN.{take}
 use Rattle.rules.specs.Records.{first_in}
 use borrow.Author.Tests.{eq-eqb, ne_eqb}
 use Rattle.working.specs.indexing.Index.{is_wanted, may_name}
-use borrow.Author.Rules.{rules}
 use Rattle.working.proofs.indexing.index.may_name.Goals as goal
 
 pub returns-then-digits-eq1 : goal.returns-then-digits-eq1

@@ -1,6 +1,5 @@
 -- `working::indexing::index::number_shown` meets its contract: the class's case, and the callees' contracts. Assumes nothing.
 use borrow.Author.Tests.{ne_eqb}
-use borrow.Author.Rules.{rules}
 use Rattle.working.proofs.indexing.index.number_shown.Goals as goal
 
 pub returns-then-class-eq2 : goal.returns-then-class-eq2

@@ -1,6 +1,5 @@
 -- `working::indexing::index::tag_behind` meets its contract: the callee's contract. Assumes nothing.
 use Rattle.working.specs.indexing.Index.{front_behind}
-use borrow.Author.Rules.{rules}
 use Rattle.working.proofs.indexing.index.tag_behind.Goals as goal
 
 pub returns : goal.returns

@@ -1,8 +1,7 @@
 -- `working::overview::lines::lay_tags` meets its contract: the tags of the first i lines are laid. Assumes nothing.
 use mathlib.Core.Path.{◌≡◌, ap, ◌∙◌}
-use Prim.Native.Nat.{ℕ, ◌-◌, ◌≤◌}
+use Prim.Native.Nat.{ℕ}
 use native.Mathlib.Omega.{arith}
-use lib.ListN.{length}
 use Rattle.laws.specs.Lists.{table}
 use Rattle.laws.specs.Overlay.{overlay}
 use Rattle.working.specs.overview.Lines.{line_tag}

@@ -1,13 +1,10 @@
 -- `working::overview::lines::lay_tags` meets its contract: the tags of the first i lines are laid. Assumes nothing.
-use mathlib.Core.Path.{◌≡◌, ap, ◌∙◌}
-use Prim.Native.Nat.{ℕ, ◌-◌, ◌≤◌}
-use native.Mathlib.Omega.{arith}
+use mathlib.Core.Path.{◌≡◌}
+use Prim.Native.Nat.{◌-◌, ◌≤◌}
 use lib.ListN.{length}
 use Rattle.laws.specs.Lists.{table}
 use Rattle.laws.specs.Overlay.{overlay}
 use Rattle.working.specs.overview.Lines.{line_tag}
-use Rattle.working.proofs.overview.Wanting.{tags-none, tags-more}
-use borrow.Author.Rules.{rules}
 use Rattle.working.proofs.overview.lines.lay_tags.Given as goal
 
 abbrev pub invariant-loop-i : goal.invariant-loop-i

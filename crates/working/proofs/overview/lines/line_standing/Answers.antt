@@ -1,5 +1,4 @@
 -- `working::overview::lines::line_standing` meets its contract. Assumes nothing.
-use borrow.Author.Rules.{rules}
 use Rattle.working.proofs.overview.lines.line_standing.Goals as goal
 
 pub returns : goal.returns

@@ -2,7 +2,6 @@
 use mathlib.Core.Path.{ap}
 use Prim.Native.Nat.{◌+◌, ◌*◌, ◌%◌}
 use Rattle.store.specs.declared.numbers.lines.Line.{Line}
-use borrow.Author.Rules.{rules}
 use Rattle.working.specs.overview.Lines.{line_tag}
 use Rattle.working.proofs.overview.lines.line_tag.Goals as goal
 

@@ -1,9 +1,6 @@
 -- `working::overview::lines::want_lines` meets its contract: what is laid, sorted. Assumes nothing.
 use mathlib.Core.Path.{ap, ◌∙◌}
-use mathlib.Core.List.{List}
-use Prim.Native.Nat.{ℕ}
 use Rattle.working.specs.overview.Lines.{sorted_first}
-use borrow.Author.Rules.{rules}
 use Rattle.working.proofs.overview.lines.want_lines.Goals as goal
 
 pub returns : goal.returns
