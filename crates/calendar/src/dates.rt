@@ -8,7 +8,7 @@ ghost use Rattle.calendar.specs.Answers.{day_of, date_of, full_year, weekday_of}
 pub struct CalendarDays(pub u16);
 
 // A date, of the calendar or not.
-#[derive(Drop)]
+#[derive(Clone, Copy)]
 pub struct Date {
     pub year: u16,
     pub month: u8,

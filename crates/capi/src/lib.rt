@@ -1,6 +1,7 @@
 // Dagskimra for programs in other languages: functions on numbers and byte slices, exported under their plain names. include/dagskimra.h tells
 // what each means to a C program.
 #![tactic(auto)]
+
 pub mod again;
 pub mod ask;
 pub mod begin;

@@ -34,7 +34,7 @@ impl Cause {
 }
 
 // Where a fault is: the place of the record, counted from 0, and the field in it; a fault of no field has field 0.
-#[derive(Drop)]
+#[derive(Clone, Copy)]
 pub struct FaultPlace {
     pub place: usize,
     pub field: usize,

@@ -8,7 +8,7 @@ use faults::cause::{Cause, FaultPlace, RecordCheck};
 use records::names::kind::FileKind;
 
 // A file has so many records, or a fault: at a place, with a cause.
-#[derive(Drop)]
+#[derive(Clone, Copy)]
 pub enum Judged {
     Records(usize),
     Fault(FaultPlace, Cause),

@@ -10,7 +10,7 @@ use crate::report::{Report, ReportRead};
 use fields::correction_code::{CorrectionCode, CorrectionCodeRead};
 use fields::number::Number;
 
-#[derive(Drop)]
+#[derive(Clone, Copy)]
 pub struct Correction {
     pub code: CorrectionCode,
     pub u: Part,

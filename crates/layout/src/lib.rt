@@ -2,6 +2,7 @@
 // correction of two parts, a request. A reader takes the record's bytes and answers its value or a fault; a writer
 // lays the record into a lent buffer and answers the place behind it.
 #![tactic(auto)]
+
 pub mod correction;
 pub mod part;
 mod putting;

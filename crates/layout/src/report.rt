@@ -11,7 +11,7 @@ use fields::gaining::Gaining;
 use fields::kind::{Kind, MaybeKind};
 use fields::number::Number;
 
-#[derive(Drop)]
+#[derive(Clone, Copy)]
 pub struct Report {
     pub number: Number,
     pub date: CalendarDays,

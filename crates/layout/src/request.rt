@@ -6,7 +6,7 @@ ghost use Rattle.layout.specs.Request.{request_of, request_of_words, request_fit
 use fields::code::{Code, CodeRead};
 use fields::date::{MaybeDate, MaybeDateRead};
 
-#[derive(Drop)]
+#[derive(Clone, Copy)]
 pub struct Request {
     pub code: Code,
     pub from: MaybeDate,

@@ -1,5 +1,5 @@
 -- What becomes of a file that is offered by its path. Assumes nothing: these are definitions.
-use Rattle.std.specs.Prelude.{◌≡◌, Bool, true, false, List, ℕ, take}
+use Rattle.std.specs.Prelude.{◌≡◌, true, false, List, ℕ, take}
 use Rattle.calendar.specs.declared.dates.CalendarDays.{CalendarDays}
 use Rattle.records.specs.declared.names.kind.FileKind.{FileKind}
 use Rattle.records.specs.declared.names.name.NameRead.{NameRead}

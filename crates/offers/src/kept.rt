@@ -7,7 +7,7 @@ ghost use Rattle.offers.specs.Kept.{kept_with, kept_at};
 pub const KEPT: usize = 65536;
 
 // An answer: its number, the count of a 0, and of a 4 the place, the field and the number of its cause.
-#[derive(Drop)]
+#[derive(Clone, Copy)]
 pub struct Told {
     pub number: u8,
     pub value: usize,

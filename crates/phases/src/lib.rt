@@ -1,6 +1,7 @@
 // The parts of filing by themselves, so that bench/ can time each. They are no interface: each asks for what the parts before it have found, and
 // whoever files a file calls `dagskimra_file` of crate `capi`.
 #![tactic(auto)]
+
 ghost use Rattle.std.specs.Prelude.{◌≡◌, true, map, ◌≤◌, ◌<◌, length};
 ghost use Rattle.fields.specs.Code.{code_of};
 ghost use Rattle.files.specs.Judged.{judged_file};

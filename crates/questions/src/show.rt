@@ -13,7 +13,7 @@ use store::numbers::find::FoundLine;
 use text::Spelt;
 
 // What is asked for: the stored entries, or those that the first files lead to.
-#[derive(Drop)]
+#[derive(Clone, Copy)]
 pub struct Wanted {
     pub stored: bool,
     pub files: usize,

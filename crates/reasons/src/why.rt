@@ -18,10 +18,11 @@ fn report<'a>(
     corrections: &'a [u8],
     s: Stored,
 ) -> Page {
+    let day = s.day;
     let mut p = page::tab(rt, first, room);
     p = page::text(rt, p, room, asked::report(regular, corrections, s));
     p = page::tab(rt, p, room);
-    piece::date(rt, p, room, s.day)
+    piece::date(rt, p, room, day)
 }
 
 // A page, and whether all was known so far.
@@ -31,11 +32,8 @@ struct Told {
     known: bool,
 }
 
-fn with(t: Told, p: Page) -> Told {
-    Told {
-        page: p,
-        known: t.known,
-    }
+fn with(known: bool, p: Page) -> Told {
+    Told { page: p, known }
 }
 
 fn unknown(rt: &impl Host, p: Page, room: &mut [u8; ROOM], word: &[u8]) -> Told {
@@ -57,17 +55,18 @@ fn print_word<'a>(
     regular: &'a [u8],
     corrections: &'a [u8],
 ) -> Told {
+    let known = t.known;
     let p = page::text(rt, t.page, room, word);
     let number = shown::number::read(word);
     match asked::why(lines, files, regular, corrections, number) {
         LookedWhy::UnknownNumber => unknown(rt, p, room, word),
         LookedWhy::Unshowable => unknown(rt, p, room, word),
-        LookedWhy::Nothing => with(t, page::text(rt, p, room, b"\tnone\n")),
+        LookedWhy::Nothing => with(known, page::text(rt, p, room, b"\tnone\n")),
         LookedWhy::Pair(first, second) => {
             let q = page::text(rt, p, room, b"\tpair");
             let r = report(rt, q, room, regular, corrections, first);
             let s = report(rt, r, room, regular, corrections, second);
-            with(t, page::line_end(rt, s, room))
+            with(known, page::line_end(rt, s, room))
         }
     }
 }

@@ -1,19 +1,18 @@
 -- What reworking answers and leaves: for a list without room, for buffers that don't read, and for a store. Assumes nothing.
-use mathlib.Core.Path.{◌≡◌, refl, sym, ap, ap₂, ◌∙◌}
+use mathlib.Core.Path.{◌≡◌, sym, ap, ap₂, ◌∙◌}
 use mathlib.Core.Bool.{Bool, true, false, cond}
-use mathlib.Core.List.{List, [], ◌∷◌, map, flat_map, zip_with}
+use mathlib.Core.List.{List, map, flat_map}
 use mathlib.Core.Option.{Option, none, some}
 use Prim.Native.Nat.{ℕ, ◌≤◌, ◌<◌}
 use native.Mathlib.Omega.{arith}
 use borrow.Author.Tests.{le-leb, lt-leb}
-use lib.Dec.{leb, ltb}
+use lib.Dec.{ltb}
 use lib.ListN.{length, get_or, take}
 use Rattle.laws.specs.Lists.{table, keep}
 use Rattle.laws.specs.Overlay.{overlay}
 use Rattle.laws.proofs.Lists.{keep_same, mem_below}
 use Rattle.laws.proofs.Tables.{length-table, get_or-table, map-table}
 use Rattle.fields.specs.declared.number.Number.{Number}
-use Rattle.entries.specs.declared.entry.Entry.{Entry}
 use Rattle.model.specs.Rules.{TableLine}
 use Rattle.model.specs.Model.{Filed}
 use Rattle.store.specs.journals.Files.{file_count}

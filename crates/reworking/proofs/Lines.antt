@@ -17,13 +17,11 @@ use Rattle.laws.specs.Slots.{slot_at}
 use Rattle.laws.proofs.Lists.{keep-end-yes, keep-end-no, keep-at-most, flat_append}
 use Rattle.laws.proofs.Overlay.{length-overlay, overlay-append, overlay-none, part-after}
 use Rattle.laws.proofs.Tables.{table_more, length-table}
-use Rattle.fields.specs.declared.number.Number.{Number}
 use Rattle.entries.specs.declared.entry.Entry.{Entry}
 use Rattle.entries.specs.comparing.Same.{same_entry}
 use Rattle.verdict.specs.declared.step.Standing.{Standing}
-use Rattle.model.specs.Rules.{TableLine}
 use Rattle.model.specs.Model.{Filed, entry_over}
-use Rattle.rules.specs.Rules.{rules, standings}
+use Rattle.rules.specs.Rules.{standings}
 use Rattle.rules.proofs.Promises.{standing-entry}
 use Rattle.store.specs.entry_slots.Entries.{entry_slot, entry_of, entry_at}
 use Rattle.asking.specs.answering.Figure.{differs}

@@ -5,13 +5,13 @@
 --     all-files            over the first `all_files` files of a store is over all
 --     none-again           a second time, nothing is listed
 --     none-in-a-reached    nor, over all files, in a store that starting and filing lead to
-use mathlib.Core.Path.{◌≡◌, refl, sym, ap, ap₂, subst, ◌∙◌}
+use mathlib.Core.Path.{◌≡◌, refl, sym, ap, subst, ◌∙◌}
 use mathlib.Core.Bool.{Bool, true, false, not}
 use mathlib.Core.List.Memᴰ
 use mathlib.Core.List.{List, [], ◌∷◌, map, flat_map, zip_with, ◌++◌, Memᴰ}
 use mathlib.Core.Logic.{⊎_elim}
 use mathlib.Core.Option.{some, none-ne-some, some-injective}
-use Prim.Native.Nat.{ℕ, zero, suc, ◌+◌, ◌*◌, ◌≤◌, ◌<◌}
+use Prim.Native.Nat.{ℕ, zero, suc, ◌≤◌, ◌<◌}
 use native.Mathlib.Nat.{eq-or-lt_of_le}
 use native.Mathlib.Omega.{arith}
 use lib.ListN.{length, get_or, take, length-map}
@@ -33,7 +33,7 @@ use Rattle.rules.proofs.Promises.{entries-worked-afresh}
 use Rattle.store.specs.journals.Files.{file_count}
 use Rattle.store.specs.journals.Reads.{read_files}
 use Rattle.store.specs.numbers.Lines.{line_count, line_at, lines_of}
-use Rattle.store.specs.entry_slots.Entries.{entry_slot, entry_of, entry_at, good_entry}
+use Rattle.store.specs.entry_slots.Entries.{entry_of, entry_at, good_entry}
 use Rattle.store.proofs.entry_slots.Back.{length-entry, entry-back, entry-fine}
 use Rattle.store.specs.Reads.{Buffers, Held, lent, table_line, held, long_enough, is_readable, reads}
 use Rattle.store.proofs.Checks.{long, few-lines, few-files, read-entries, reads-some, reads_none}

@@ -8,11 +8,10 @@ use borrow.Author.Rules.{rules}
 use Rattle.entries.proofs.places.lapse_all.Goals as goal
 
 pub loop-i-preserved : goal.loop-i-preserved
-loop-i-preserved c =
-    (
-      search rules,
-      map_on (lapsed c.args.d) free_place c.args.places c.loop-i.ps c.loop-i.i c.loop-i.invariant.1 c.lapse.result c.lapse.ensures,
-    )
+loop-i-preserved c = (
+  search rules,
+  map_on (lapsed c.args.d) free_place c.args.places c.loop-i.ps c.loop-i.i c.loop-i.invariant.1 c.lapse.result c.lapse.ensures,
+)
 
 pub returns : goal.returns
 returns c =
