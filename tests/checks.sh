@@ -50,7 +50,12 @@ add() { # PATH LINE..: lines behind a file of the copy
 }
 
 mkdir "$room/copy"
-cp -R crates.txt crates docs tests .ci bin dist include bench witness "$room/copy/"
+cp -R crates.txt docs tests .ci bin dist include bench witness "$room/copy/"
+# all but what the kit makes
+for folder in crates/*/; do
+    mkdir -p "$room/copy/$folder"
+    for part in "$folder"*; do [ "$part" = "${folder}out" ] || cp -R "$part" "$room/copy/$folder"; done
+done
 cd "$room/copy" || exit 2
 
 # ---- listed.sh
@@ -68,15 +73,15 @@ add $of 'pub fn loose(x: u8) -> u8 {' '    x' '}'
 fails 'text::loose: no ensures' tests/outcomes.sh
 add $of 'pub(crate) fn loose(x: u8) -> u8 { x }'
 fails 'text::loose: no ensures' tests/outcomes.sh
-add $of 'pub fn loose(x: u8) -> u8' '    ensures { λ r. ⌜ r ≡ r ⌝ }' '{' '    x' '}'
-fails 'text::loose: says nothing: r ≡ r' tests/outcomes.sh
-add $of 'pub fn loose(out: &mut [u8]) -> u8' '    ensures { λ r. ⌜ (r ≡ 1) × (now (out .exit) ≡ now (out .exit)) ⌝ }' '{' '    1' '}'
-fails 'text::loose: says nothing: now (out' tests/outcomes.sh
-add $of 'pub fn loose(out: &mut [u8]) -> u8' '    ensures { λ r. ⌜ r ≡ 1 ⌝ }' '{' '    1' '}'
+add $of 'pub fn loose(x: u8) -> u8' '    ensures { result ≡ result }' '{' '    x' '}'
+fails 'text::loose: says nothing: result ≡ result' tests/outcomes.sh
+add $of 'pub fn loose(out: &mut [u8]) -> u8' '    ensures { (result ≡ 1) × (out.new ≡ out.new) }' '{' '    1' '}'
+fails 'text::loose: says nothing: out.new ≡ out.new' tests/outcomes.sh
+add $of 'pub fn loose(out: &mut [u8]) -> u8' '    ensures { result ≡ 1 }' '{' '    1' '}'
 fails 'text::loose: what becomes of out is not said' tests/outcomes.sh
-add $of 'pub fn loose(out: &mut [u8]) -> u8' '    ensures { λ _. ⌜ now (out .exit) ≡ now (out .entry) ⌝ }' '{' '    1' '}'
+add $of 'pub fn loose(out: &mut [u8]) -> u8' '    ensures { out.new ≡ out.old }' '{' '    1' '}'
 fails 'text::loose: no equation for the answer' tests/outcomes.sh
-add $of 'pub fn loose(x: u8) -> u8' '    ensures { λ r. ⌜ Unheard x r ⌝ }' '{' '    x' '}'
+add $of 'pub fn loose(x: u8) -> u8' '    ensures heard { Unheard x result }' '{' '    x' '}'
 fails 'no theorem says that Unheard settles its outcome' tests/outcomes.sh
 change crates/working/src/gather.rt 's/fn gather_all/fn gather_some/'
 fails 'working::gather::gather_all is left out and is not there' tests/outcomes.sh
@@ -88,11 +93,11 @@ pf=crates/desk/src/run.rt
 passes tests/contracts.sh
 add $pf 'pub fn loose(x: u8) -> u8 {' '    x' '}'
 fails 'desk::run::loose has no contract on its result, and is not listed' tests/contracts.sh
-add $pf 'pub(crate) fn loose(x: u8) -> u8' '    ensures { λ r. ⌜ r ≡ r ⌝ }' '{' '    x' '}'
+add $pf 'pub(crate) fn loose(x: u8) -> u8' '    ensures { result ≡ result }' '{' '    x' '}'
 fails 'desk::run::loose has no contract on its result, and is not listed' tests/contracts.sh
-add $pf 'pub fn loose(out: &mut [u8]) -> u8' '    ensures { λ r. ⌜ now (out .exit) ≡ now (out .entry) ⌝ }' '{' '    1' '}'
+add $pf 'pub fn loose(out: &mut [u8]) -> u8' '    ensures { out.new ≡ out.old }' '{' '    1' '}'
 fails 'desk::run::loose has no contract on its result, and is not listed' tests/contracts.sh
-change crates/disk/src/saved.rt '/Loads r/d'
+change crates/disk/src/saved.rt '/Loads result/d'
 fails 'disk::saved::load has no contract on its result, and is not listed' tests/contracts.sh
 add tests/without-contract 'system disk::saved::load'
 fails 'disk::saved::load is listed, and has a contract' tests/contracts.sh
@@ -105,7 +110,7 @@ fails 'not a reason and a function: because desk::page::torn' tests/contracts.sh
 
 # ---- outer.sh
 passes tests/outer.sh
-change crates/capi/src/offer.rt '/^pub extern "C" fn dagskimra_file/,/ensures/s/^    ensures/    requires { ⌜ length (now text) ≤ 100 ⌝ }\n&/'
+change crates/capi/src/offer.rt '/^pub extern "C" fn dagskimra_file/,/ensures/s/^    ensures/    requires { length text.now ≤ 100 }\n&/'
 fails 'capi::offer::dagskimra_file asks for something' tests/outer.sh
 add crates/filing/src/file.rt 'pub extern "C" fn dagskimra_loose(x: u8) -> u8 {' '    x' '}'
 fails 'filing::file::dagskimra_loose is exported, and tests/outer does not list it' tests/outer.sh
@@ -169,7 +174,7 @@ fails 'the row of calendar does not name its modules' tests/rooms.sh
 # ---- wrong.sh, of one crate
 edit=crates/text/must-fail/letter_is_a_digit.edit
 passes tests/wrong.sh text
-add $of 'pub fn loose(x: u8) -> u8' '    ensures { λ r. ⌜ r ≡ x ⌝ }' '{' '    x' '}'
+add $of 'pub fn loose(x: u8) -> u8' '    ensures { result ≡ x }' '{' '    x' '}'
 fails 'text: loose has 0 of two wrong programs' tests/wrong.sh text
 change $edit '/^wrong: byte_at_the_front/,/^$/d'
 fails 'text: put_byte has no wrong program that is tried at each gate' tests/wrong.sh text
@@ -307,17 +312,49 @@ machine apt-get "echo fetched >$room/again"
 lacks 'where nothing is missing' ''
 [ ! -e "$room/again" ] || fault '.ci/packages fetches what is there'
 
-# ---- refused, in a repository of one crate and one edit
-mkdir -p "$room/small/crates/digits/must-fail" "$room/small/target/must-fail/digits/wrong_digit"
+# ---- tried, by what rt says of one edit
+mkdir -p "$room/small/crates/digits/must-fail"
 cp -R "$root/tests" "$room/small/"
 cd "$room/small" || exit 2
-printf 'wrong: wrong_digit spell\nfile: src/lib.rt\nold: 9\nnew: 8\n' >crates/digits/must-fail/wrong_digit.edit
-said=target/must-fail/digits/wrong_digit/.log
-fails 'digits/wrong_digit was not tried' tests/refused
-says() { printf '%s\n' "$@" >$said; }
 of_edit() { printf '%s\n' "$1" 'file: src/lib.rt' 'old: 9' 'new: 8' >crates/digits/must-fail/wrong_digit.edit; }
-at=/somewhere/target/must-fail/digits/wrong_digit
-proof=$at/proofs/spell/Proof.antt:3:7:
+of_edit 'wrong: wrong_digit spell'
+of=digits/wrong_digit.edit ok='rt: ok; handles allowed: none; must-fail edits: 1 refused'
+says() { printf '%s\n' "$@" >said; }
+says "rt: must-fail $of: refused, as it must be: ./proofs/spell/Answers.antt:3:7: error: \`returns\`: .." "$ok; every proof and must-fail edit was done in this run" '2 passed, 0 failed'
+passes tests/tried said
+says "$ok; every proof and must-fail edit was done in this run"
+fails "$of was not tried" tests/tried said
+while IFS= read -r other; do
+    says "rt: must-fail $of: $other" "$ok; and so on"
+    fails "tried: $of: $other" tests/tried said
+done <<'END'
+refused, as it must be
+refused, as it must be (only because a proof file names what the edit took away, so this says little of the contract: ..): ./proofs/spell/Answers.antt:3:7: ..
+refused, as it must be (only by a limit of the prover, which gave no verdict, so this says less of the contract: ..): antt ran out of stack
+BAD EDIT: an 'old:' text is in src/lib.rt 0 times, and not once
+NOT TRIED: its check was killed, most likely for memory, so nothing is known of it: run this again
+NOT REFUSED: the crate is still proved with this edit (one that means the same as before cannot be refused: remove it)
+END
+right="rt: must-fail $of: refused, as it must be: ./proofs/spell/Answers.antt:3:7: .."
+says "$right" "$ok, 1 of them only by a limit; and so on"
+fails 'of the edits rt says: 1 refused, 1 of them only by a limit' tests/tried said
+says "$right" "$ok, 1 bad; and so on"
+fails 'of the edits rt says: 1 refused, 1 bad' tests/tried said
+says "$right" 'rt: ok; handles allowed: none; every proof was done in this run'
+fails 'rt ci says that 0 edits were refused, and there are 1' tests/tried said
+says "$right" 'rt: FAILED: digits' '1 passed, 1 failed'
+fails 'rt ci does not say that all is well' tests/tried said
+says "$right" 'rt: crates/digits/must-fail/notes.txt: BAD EDIT: an edit stands right in must-fail/, ..' "$ok; and so on"
+fails 'notes.txt: BAD EDIT' tests/tried said
+says "$right" "rt: must-fail digits/another.edit: refused, as it must be: .." "$ok; and so on"
+fails 'digits/another.edit was tried, and is not there' tests/tried said
+
+# ---- refused, by what the prover says of that edit
+edit=crates/digits/must-fail/wrong_digit.edit
+says() { printf '%s\n' "$@" 'fn digits::spell: not proved' 'logic=not-proved' >said; }
+refused() { passes tests/refused $edit said; }
+stays() { fails "$1" tests/refused $edit said; }
+proof=./proofs/spell/Answers.antt:3:7:
 unproved="$proof error: \`returns\`: expected type \`r ≡ 9\`, but this has type \`r ≡ 8\`"
 # what the prover says of a fact that is not proved, in each of its forms
 for form in 'computed as far as they go, the two types are `Path ℕ 9 8` (expected) and `Path ℕ 8 8` (found)
@@ -342,20 +379,31 @@ for form in 'computed as far as they go, the two types are `Path ℕ 9 8` (expec
   `x` ≟ `9`: does not hold (this comparison, made at this position, had to wait for a metavariable)' \
     'expected type `spell.Reads.Post c`, but this has type `Laid before at text`'; do
     says "$proof error: \`returns\`: $form"
-    passes tests/refused
+    refused
 done
-says 'fn digits::spell: no proof: expected `spell-spec` in Proof.antt; `search` does not close `cast`, `returns`'
-passes tests/refused
+says './proofs/spell/Invariants.antt:3:7: error: `loop-i`: expected type `x ≡ 9`, but this has type `x ≡ 8`'
+refused
+says './proofs/+spell/Answers.antt:3:7: error: `returns`: expected type `x ≡ 9`, but this has type `x ≡ 8`'
+refused
+says 'note: src/lib.rt:3:9: it is not proved that what the function ensures holds when it returns (`returns-then-b`); the facts known there allow values at which this goal is false'
+refused
 # and what is said else
-says 'fn digits::spell: proved'
-fails 'wrong_digit: nothing is said against spell' tests/refused
-says "$at/proofs/read/Proof.antt:3:7: error: \`returns\`: expected type \`r ≡ 9\`, but this has type \`r ≡ 8\`"
-fails 'wrong_digit: nothing is said against spell' tests/refused
+says
+stays 'wrong_digit: nothing is said against spell'
+says './proofs/read/Answers.antt:3:7: error: `returns`: expected type `r ≡ 9`, but this has type `r ≡ 8`'
+stays 'wrong_digit: nothing is said against spell'
+says './proofs/spell/Answers.antt:3:7: note: the two sides may simply be different'
+stays 'wrong_digit: nothing is said against spell'
+says 'note: src/lib.rt:3:9: it is not proved that what the function ensures holds when it returns (`returns`)' 'fn digits::read: not proved'
+stays 'wrong_digit: nothing is said against spell'
+says 'note: `search` has not tried the goals of `digits::spell`, which wait for a callee'"'"'s proof: some may be open after it'
+stays 'wrong_digit: nothing is said against spell'
 while IFS= read -r other; do
     says "$proof error: \`returns\`: $other"
-    fails 'wrong_digit: no fact of spell is unproved' tests/refused
+    stays 'wrong_digit: no fact of spell is unproved'
 done <<'END'
 `value` was not admitted (it has holes or undetermined implicits, or was rejected), so this cannot be checked
+1 declaration that depends on `value`, which was rejected, was not checked: returns
 `value` cannot be unfolded because it was not admitted: it has an error, a hole, or an implicit argument that could not be determined
 this line starts at column 3, but the `(` opened at 2:19 is still open
 `valeu` is not in scope; did you mean `value`?
@@ -364,58 +412,98 @@ expected type `List ℕ`, but this has type `List Bool`
 expected type `x ≡ 9`, but this has type `ℕ`
 expected type `Laid before at text`, but this has type `List ℕ → List ℕ`
 this is applied to an argument but has type `ℕ`, which is not a function or extension (path) type
-record `Rattle·digits·proofs.proofs.spell.Lts.After-value` has no field `before`
-`tie.Need-mul`: module `Rattle·digits·proofs.proofs.spell.Tie` has no `Need-mul` that can be named from here
+record `Rattle.digits.proofs.spell.Lts.After-value` has no field `if-b-gt57` (nearest: .if-b-gt65)
+`goal.returns-then-b-gt57`: module `Rattle.digits.proofs.spell.Goals` has no `returns-then-b-gt57` that can be named from here
 `omega` stopped at a bound of its own, having met more than 6 case splits
 END
 # a definition or code that can't be read is no program, whatever is said else
 for other in '`valeu` is not in scope' 'expected type `Bool`, but this has type `ℕ`' 'the `(` opened at 2:19 is still open'; do
-    says "$at/specs/Digits.antt:2:19: error: \`value\`: $other" "$unproved"
-    fails 'digits/wrong_digit: is no program: specs/Digits.antt' tests/refused
+    says "./specs/Digits.antt:2:19: error: \`value\`: $other" "$unproved"
+    stays 'digits/wrong_digit: is no program: specs/Digits.antt'
 done
+says 'error[mismatched-types]: src/lib.rt:2:19: expected `u8`, found `bool`' "$unproved"
+stays 'digits/wrong_digit: is no program: error[mismatched-types]'
+printf '%s\n' "$unproved" >said
+stays 'digits/wrong_digit: is no program: no proof was tried'
+printf '%s\n' "$unproved" 'logic=proved functions=1' >said
+stays 'digits/wrong_digit: is proved'
 # a need of a function, and a theorem, by name; and nothing by name
 of_edit 'wrong: wrong_digit spell.returns'
 says "$unproved"
-passes tests/refused
-says 'fn digits::spell: no proof: expected `spell-spec` in Proof.antt; `search` does not close `cast`, `returns`'
-passes tests/refused
-of_edit 'wrong: wrong_digit spell.returns-2'
-fails 'nothing is said against spell.returns-2' tests/refused
+refused
+says './proofs/spell/Answers.antt:3:7: error: `returns-then-b`: expected type `r ≡ 9`, but this has type `r ≡ 8`'
+refused
+says 'note: src/lib.rt:3:9: it is not proved that what the function ensures holds when it returns (`returns-then-b`)'
+refused
+of_edit 'wrong: wrong_digit spell.loop-i-init'
+stays 'nothing is said against spell.loop-i-init'
 says "$unproved"
-fails 'nothing is said against spell.returns-2' tests/refused
+stays 'nothing is said against spell.loop-i-init'
 of_edit 'wrong: wrong_digit reading::Digits.spelt-back'
-says "$at/proofs/reading/Digits.antt:3:7: error: \`spelt-back\`: expected type \`r ≡ 9\`, but this has type \`r ≡ 8\`"
-passes tests/refused
-says "$at/proofs/reading/Digits.antt:3:7: error: \`another\`: expected type \`r ≡ 9\`, but this has type \`r ≡ 8\`"
-fails 'nothing is said against reading::Digits.spelt-back' tests/refused
+says './proofs/reading/Digits.antt:3:7: error: `spelt-back`: expected type `r ≡ 9`, but this has type `r ≡ 8`'
+refused
+says './proofs/reading/Digits.antt:3:7: error: `another`: expected type `r ≡ 9`, but this has type `r ≡ 8`'
+stays 'nothing is said against reading::Digits.spelt-back'
 of_edit '# no such line'
 says "$unproved"
-fails 'digits/wrong_digit: names nothing that is refused' tests/refused
+stays 'digits/wrong_digit: names nothing that is refused'
+of_edit 'wrong: wrong_digit spell'
+
+# ---- apply.awk, in the crate's folder
+mkdir -p crates/laws/src crates/laws/specs crates/laws/proofs crates/digits/src crates/digits/specs crates/digits/proofs
+applies() { # TEXT [NAMES]: how the code is then
+    shown=$((shown + 1))
+    cp crates/digits/src/lib.rt "$room/was"
+    (cd crates/digits && awk -v only="${2:+ $2 }" -f ../../tests/apply.awk ../../$edit) >"$room/said" 2>&1 || fault 'apply.awk fails'
+    [ "$(tr '\n' ' ' <crates/digits/src/lib.rt)" = "$1" ] || fault "apply.awk should make '$1', and makes '$(cat crates/digits/src/lib.rt)'"
+    cp "$room/was" crates/digits/src/lib.rt
+}
+cannot() { # WORDS
+    shown=$((shown + 1))
+    if (cd crates/digits && awk -f ../../tests/apply.awk ../../$edit) >"$room/said" 2>&1; then fault "apply.awk passes, and should say '$1'"; fi
+    grep -qF -- "$1" "$room/said" || fault "apply.awk should say '$1', and says:"
+}
+printf '%s\n' 'a 9' 'b & 7' >crates/digits/src/lib.rt
+printf '%s\n' 'wrong: one spell' 'file: src/lib.rt' 'old: 9' 'new: 8' '' 'wrong: two read' 'file: src/lib.rt' 'old: b & 7' 'new: b \\ &' >$edit
+applies 'a 8 b \\ & '
+applies 'a 8 b & 7 ' one
+applies 'a 9 b \\ & ' two
+printf '%s\n' 'file: src/lib.rt' 'old: 6' 'new: 8' >$edit
+cannot 'does not stand once in src/lib.rt: 6'
+printf '%s\n' 'file: src/lib.rt' 'old:  ' 'new: 8' >$edit
+cannot 'does not stand once in src/lib.rt:  '
 of_edit 'wrong: wrong_digit spell'
 
 # ---- again, with a command rt that says what it is told to
-mkdir -p bin crates/laws/src crates/laws/specs crates/laws/proofs crates/digits/src crates/digits/specs crates/digits/proofs
+mkdir -p bin
 mv crates/digits/must-fail crates/digits/wrong
 printf 'laws:\ndigits: laws\n' >crates.txt
-for crate in laws digits; do echo "$crate" | tee crates/$crate/src/lib.rt crates/$crate/specs/Lib.antt >crates/$crate/proofs/Lib.antt; done
+for crate in laws digits; do echo "$crate 9" | tee crates/$crate/src/lib.rt crates/$crate/specs/Lib.antt >crates/$crate/proofs/Lib.antt; done
 echo 'kit 1' >kit
-says "$unproved"
-cp $said answer
-mkdir -p target/stamp target/rlib
+# of code that is not wrong it says that it is proved; of other code the next of its answers
 cat >bin/rt <<END
 #!/bin/sh
 case \$1 in
 version) cat "$room/small/kit" ;;
-must-fail)
-    mkdir -p target/must-fail/digits/wrong_digit
-    cp "$room/small/answer" target/must-fail/digits/wrong_digit/.log
-    echo 'rt: must-fail digits/wrong_digit: tried'
-    [ ! -f "$room/small/survives" ]
+check)
+    grep -qx 'digits 9' src/lib.rt && exit
+    echo "\$(cat src/lib.rt)" >>"$room/small/asked"
+    if [ -e "$room/small/survives" ]; then echo logic=proved && exit; fi
+    turn=\$(wc -l <"$room/small/asked")
+    cat "$room/small/answer-\$turn" 2>/dev/null || cat "$room/small/answer-1"
+    exit 1
     ;;
 esac
 END
 chmod 755 bin/rt
 PATH=$room/small/bin:$PATH
+answer() { # NUMBER LINE..
+    number=$1
+    shift
+    printf '%s\n' "$@" 'logic=not-proved' >"answer-$number"
+    : >asked
+}
+answer 1 "$unproved"
 : >tests/seen
 lists() { # CRATES WHAT: these would be tried
     shown=$((shown + 1))
@@ -424,14 +512,13 @@ lists() { # CRATES WHAT: these would be tried
 }
 lists 'digits ' 'nothing was seen'
 : >survives
-fails 'must-fail digits/wrong_digit' tests/again --keep
+fails 'digits/wrong_digit: the crate is still proved' tests/again --keep
 rm survives
 lists 'digits ' 'a wrong program that was not refused'
-says 'fn digits::spell: proved'
-cp $said answer
+answer 1 'fn digits::spell: not proved'
 fails 'nothing is said against spell' tests/again --keep
 lists 'digits ' 'a wrong program that nothing is said against'
-echo "$unproved" >answer
+answer 1 "$unproved"
 passes tests/again --keep
 lists '' 'all were seen refused'
 passes tests/again
@@ -450,6 +537,20 @@ turn 'digits ' 'a change of a definition below it' crates/laws/specs/Lib.antt
 turn '' 'a change of a proof below it' crates/laws/proofs/Lib.antt
 turn 'digits ' 'another kit' kit
 turn 'digits ' 'another judge' tests/refused
+mv crates/digits/wrong crates/digits/must-fail
+lists 'digits ' 'another folder of its edit'
+mv crates/digits/must-fail crates/digits/wrong
+# of an edit with two that wait for one another the one that is left is tried by itself
+printf '%s\n' 'wrong: wrong_digit spell' 'file: src/lib.rt' 'old: 9' 'new: 8' '' 'wrong: another read' 'file: src/lib.rt' 'old: digits' 'new: letters' >crates/digits/wrong/wrong_digit.edit
+answer 1 "$unproved" 'fn digits::read: not proved; it calls `digits::spell`, which is not proved'
+answer 2 './proofs/read/Answers.antt:3:7: error: `returns`: expected type `r ≡ 9`, but this has type `r ≡ 8`'
+passes tests/again
+shown=$((shown + 1))
+[ "$(tr '\n' ' ' <asked)" = 'letters 8 letters 9 ' ] || fault "tests/again should have tried both and then the other, and tried: $(cat asked)"
+answer 2 'fn digits::read: not proved'
+fails 'another: nothing is said against read' tests/again
+of_edit() { printf '%s\n' "$1" 'file: src/lib.rt' 'old: 9' 'new: 8' >crates/digits/wrong/wrong_digit.edit; }
+of_edit 'wrong: wrong_digit spell'
 lists '' 'all is as it was'
 
 echo "checks: $shown looks at the checking scripts; $bad faults"
