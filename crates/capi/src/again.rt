@@ -21,8 +21,7 @@ fn tell(r: Reworked) -> Numbers
 
 // Works out every entry again: 0, how many were others, and the lines of these at the beginning of the list; 44, also for a list without room
 // for every line, and nothing changes.
-#[unsafe(no_mangle)]
-pub extern "C" fn dagskimra_rework<'a>(
+pub fn dagskimra_rework<'a>(
     table: &[u8],
     files: &'a [u8],
     regular: &'a [u8],

@@ -102,8 +102,7 @@ fn tell_figure(f: FigureAnswer) -> Numbers
 // ---- what is exported
 // Why a number stands where it does: 0, and the places in the regular journal of the two reports of its last confirmed pair, the one
 // processed first coming first, or 8192 twice where there is none; 12 for a number that is not in the table; 44.
-#[unsafe(no_mangle)]
-pub extern "C" fn dagskimra_why<'a>(
+pub fn dagskimra_why<'a>(
     table: &[u8],
     files: &'a [u8],
     regular: &'a [u8],
@@ -125,8 +124,7 @@ pub extern "C" fn dagskimra_why<'a>(
 }
 
 // The record at a place of a journal: 0, with its publisher, publication day, place in its file and verdict; 7 for a place beyond; 44.
-#[unsafe(no_mangle)]
-pub extern "C" fn dagskimra_record<'a>(
+pub fn dagskimra_record<'a>(
     table: &[u8],
     files: &'a [u8],
     regular: &'a [u8],
@@ -152,8 +150,7 @@ pub extern "C" fn dagskimra_record<'a>(
 }
 
 // The figure: 0, and how many stored entries differ from those worked out from the journals; 44.
-#[unsafe(no_mangle)]
-pub extern "C" fn dagskimra_figure<'a>(
+pub fn dagskimra_figure<'a>(
     table: &[u8],
     files: &'a [u8],
     regular: &'a [u8],

@@ -22,8 +22,7 @@ fn tell(s: Started) -> Numbers
 }
 
 // Starts a store from the text of a number table: 0, and how many lines it has; 44 for a short buffer; 6 for a text that is no table.
-#[unsafe(no_mangle)]
-pub extern "C" fn dagskimra_start(
+pub fn dagskimra_start(
     text: &[u8],
     table: &mut [u8],
     files: &mut [u8],
@@ -41,8 +40,7 @@ pub extern "C" fn dagskimra_start(
 }
 
 // Whether the buffers read as a store; where they don't, filing and asking answer 44.
-#[unsafe(no_mangle)]
-pub extern "C" fn dagskimra_readable(
+pub fn dagskimra_readable(
     table: &[u8],
     files: &[u8],
     regular: &[u8],

@@ -59,40 +59,35 @@ fn later_word(later: Later) -> u16
 
 // ---- what is exported
 // The day of a date, or NO_DAY.
-#[unsafe(no_mangle)]
-pub extern "C" fn dagskimra_day_of(year: u16, month: u8, day: u8) -> u16
+pub fn dagskimra_day_of(year: u16, month: u8, day: u8) -> u16
     ensures { result ≡ day_word (day_of (record { year = year; month = month; day = day })) }
 {
     day_word(dates::day_of(Date { year, month, day }))
 }
 
 // The date of a day, ddmmyyyy as one number; 0 past the calendar's end.
-#[unsafe(no_mangle)]
-pub extern "C" fn dagskimra_date_of(day: u16) -> u32
+pub fn dagskimra_date_of(day: u16) -> u32
     ensures { result ≡ date_word (date_of day) }
 {
     date_word(dates::date_of(CalendarDays(day)))
 }
 
 // Whether a day is a working day: 1 if it is, 0 if it is not, 2 past the calendar's end.
-#[unsafe(no_mangle)]
-pub extern "C" fn dagskimra_kind_of_day(day: u16) -> u8
+pub fn dagskimra_kind_of_day(day: u16) -> u8
     ensures { result ≡ kind_word (day_kind day) }
 {
     kind_word(working_days::kind_of(CalendarDays(day)))
 }
 
 // The day that is `count` working days after a day, or NO_DAY where the calendar ends.
-#[unsafe(no_mangle)]
-pub extern "C" fn dagskimra_working_day_after(day: u16, count: u8) -> u16
+pub fn dagskimra_working_day_after(day: u16, count: u8) -> u16
     ensures { result ≡ later_word (working_day_after day count) }
 {
     later_word(working_days::working_day_after(CalendarDays(day), WorkingDays(count)))
 }
 
 // How many days the holiday list has, and its mark: entries that were worked out with another list are to be worked out again.
-#[unsafe(no_mangle)]
-pub extern "C" fn dagskimra_holidays(mark: &mut u64) -> u64
+pub fn dagskimra_holidays(mark: &mut u64) -> u64
     ensures { (result ≡ length holidays) × (mark.new ≡ mark_of holidays) }
 {
     *mark = holidays::mark();

@@ -1,5 +1,5 @@
-// Dagskimra for programs in other languages: functions on numbers and byte slices, exported under their plain names. include/dagskimra.h tells
-// what each means to a C program.
+// Dagskimra for programs in other languages: functions on numbers and byte slices, which crate capi_c exports under their plain names.
+// include/dagskimra.h tells what each means to a C program.
 #![tactic(auto)]
 
 pub mod again;

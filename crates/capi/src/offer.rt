@@ -49,8 +49,7 @@ fn tell(a: Answer) -> Numbers
 
 // Files a file: 0, and the count of the journal records whose number it names; or 44, 1, 2, 3, 4 with the place of its first faulty record, the
 // field in it (0: none) and the number of the cause, 5, and no byte of the buffers changes.
-#[unsafe(no_mangle)]
-pub extern "C" fn dagskimra_file(
+pub fn dagskimra_file(
     table: &[u8],
     files: &mut [u8],
     regular: &mut [u8],

@@ -33,8 +33,7 @@ fn tell_found(f: Found) -> Numbers
 
 // A file of a kind: 0, and how many records it has; or 4, and the place of its first faulty record, the field in it (0: none) and the number of
 // the cause.
-#[unsafe(no_mangle)]
-pub extern "C" fn dagskimra_judge(
+pub fn dagskimra_judge(
     kind: u8,
     file: &[u8],
     more: &mut u64,
@@ -52,8 +51,7 @@ pub extern "C" fn dagskimra_judge(
 }
 
 // What stands at a place of a file: 0 a record; 4 the file has a fault, told as judging does; 7 the place is beyond its records.
-#[unsafe(no_mangle)]
-pub extern "C" fn dagskimra_find(
+pub fn dagskimra_find(
     kind: u8,
     file: &[u8],
     place: usize,
@@ -72,8 +70,7 @@ pub extern "C" fn dagskimra_find(
 }
 
 // Where the line that starts at `at` ends: at its CR, or at the file's end. The next one starts behind the CR.
-#[unsafe(no_mangle)]
-pub extern "C" fn dagskimra_line_end(file: &[u8], at: usize) -> usize
+pub fn dagskimra_line_end(file: &[u8], at: usize) -> usize
     ensures { result ≡ end_of 13 file.now at }
 {
     read::line_end(file, at)

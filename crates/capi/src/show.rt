@@ -38,8 +38,7 @@ fn put(a: EntryAnswer, out: &mut [u8]) -> u8
 }
 
 // The stored entry of a number: 0, and its 100 bytes; 44; 12 for a number that is not in the table; 41 where `out` is too short.
-#[unsafe(no_mangle)]
-pub extern "C" fn dagskimra_entry<'a>(
+pub fn dagskimra_entry<'a>(
     table: &[u8],
     files: &'a [u8],
     regular: &'a [u8],
@@ -57,8 +56,7 @@ pub extern "C" fn dagskimra_entry<'a>(
 }
 
 // The same before the file at `file` arrived, counted from 0; all files where it is beyond them.
-#[unsafe(no_mangle)]
-pub extern "C" fn dagskimra_entry_before<'a>(
+pub fn dagskimra_entry_before<'a>(
     table: &[u8],
     files: &'a [u8],
     regular: &'a [u8],

@@ -18,8 +18,6 @@ use Rattle.layout.specs.declared.request.RequestRead.{RequestRead}
 use Rattle.layout.specs.Report.{report_of, report_part}
 use Rattle.layout.specs.Correction.{correction_of}
 use Rattle.layout.specs.Request.{request_of}
-use Rattle.layout.proofs.PartLaws.{begins}
-use Rattle.layout.proofs.CorrectionLaws as corrections
 use Rattle.layout.proofs.RecordBytes.{part-record-bytes, correction-bytes, request-bytes}
 use Rattle.layout.proofs.ReportLaws.{report-back}
 use Rattle.layout.proofs.RequestTrip.{request-back}

@@ -1,5 +1,4 @@
 -- `entries::comparing::same_last` meets its contract: the arms' equations and computation. Assumes nothing.
-use borrow.Author.Rules.{rules}
 use Rattle.entries.proofs.comparing.same_last.Goals as goal
 
 pub returns-in-On-m-2 : goal.returns-in-On-m-2

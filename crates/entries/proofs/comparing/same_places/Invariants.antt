@@ -1,14 +1,10 @@
 -- `entries::comparing::same_places` meets its contract: the loop compares from the front (`laws`). Assumes nothing.
-use mathlib.Core.Path.{◌≡◌, ◌∙◌, sym}
-use borrow.Author.Tests.{not-true, not-false}
+use mathlib.Core.Path.{◌≡◌}
 use Prim.Native.Nat.{◌≤◌, ◌-◌}
-use native.Mathlib.Omega.{arith}
 use lib.ListN.{drop}
 use Rattle.laws.specs.Lists.{same_lists}
-use Rattle.laws.proofs.Same.{same-on, same-failed, same-passed}
-use Rattle.entries.specs.Entry.{place_count, free_place}
+use Rattle.entries.specs.Entry.{place_count}
 use Rattle.entries.specs.comparing.Same.{same_place}
-use borrow.Author.Rules.{rules}
 use Rattle.entries.proofs.comparing.same_places.Given as goal
 
 abbrev pub invariant-loop-i : goal.invariant-loop-i

@@ -1,5 +1,4 @@
 -- `entries::entry::first` meets its contract: the callee's contract, put into the repeat. Assumes nothing.
-use borrow.Author.Rules.{rules}
 use Rattle.entries.proofs.entry.first.Goals as goal
 
 pub returns : goal.returns

@@ -1,5 +1,4 @@
 -- `entries::entry::line_in` meets its contract: the arm's equation and computation. Assumes nothing.
-use borrow.Author.Rules.{rules}
 use Rattle.entries.proofs.entry.line_in.Goals as goal
 
 pub returns-in-Missing : goal.returns-in-Missing

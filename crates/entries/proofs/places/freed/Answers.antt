@@ -3,7 +3,6 @@ use mathlib.Core.Path.{sym}
 use native.Mathlib.Omega.{arith}
 use lib.Seq.{set_out}
 use Rattle.entries.specs.Entry.{free_place}
-use borrow.Author.Rules.{rules}
 use Rattle.entries.proofs.places.freed.Goals as goal
 
 pub returns-then-i-lt-PLACES : goal.returns-then-i-lt-PLACES

@@ -1,6 +1,5 @@
 -- `entries::places::holds` meets its contract: each operand of `&` is the definition's. Assumes nothing.
 use Rattle.entries.specs.places.Places.{holds_open}
-use borrow.Author.Rules.{rules}
 use Rattle.entries.proofs.places.holds.Goals as goal
 
 pub returns : goal.returns

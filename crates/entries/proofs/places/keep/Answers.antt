@@ -3,7 +3,6 @@ use mathlib.Core.Path.{sym}
 use native.Mathlib.Omega.{arith}
 use lib.Seq.{set_out}
 use Rattle.entries.specs.places.Places.{lowest_free}
-use borrow.Author.Rules.{rules}
 use Rattle.entries.proofs.places.keep.Goals as goal
 
 pub returns-then-i-lt-PLACES : goal.returns-then-i-lt-PLACES

@@ -1,8 +1,7 @@
 -- `entries::places::lapse_all` meets its contract: after i turns the function is done to the first i places (`laws`). Assumes nothing.
-use Prim.Native.Nat.{◌≤◌, ◌-◌}
 use native.Mathlib.Omega.{arith}
-use Rattle.laws.proofs.Loops.{Mapped, map_on, map-done}
-use Rattle.entries.specs.Entry.{place_count, free_place}
+use Rattle.laws.proofs.Loops.{map_on, map-done}
+use Rattle.entries.specs.Entry.{free_place}
 use Rattle.entries.specs.places.Places.{lapsed}
 use borrow.Author.Rules.{rules}
 use Rattle.entries.proofs.places.lapse_all.Goals as goal

@@ -1,10 +1,8 @@
 -- `entries::places::lowest_free` meets its contract: the loop's invariant is that of a search (`laws`). Assumes nothing.
 use Prim.Native.Nat.{◌≤◌, ◌-◌}
-use native.Mathlib.Omega.{arith}
-use Rattle.laws.proofs.Loops.{Searched, search-on, search-here, search-none}
-use Rattle.entries.specs.Entry.{place_count, free_place}
+use Rattle.laws.proofs.Loops.{Searched}
+use Rattle.entries.specs.Entry.{place_count}
 use Rattle.entries.specs.places.Places.{is_free}
-use borrow.Author.Rules.{rules}
 use Rattle.entries.proofs.places.lowest_free.Given as goal
 
 abbrev pub invariant-loop-i : goal.invariant-loop-i

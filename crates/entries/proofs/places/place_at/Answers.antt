@@ -3,7 +3,6 @@ use mathlib.Core.Path.{◌∙◌, sym}
 use native.Mathlib.Omega.{arith}
 use lib.ListN.{get_or-eq_default}
 use Rattle.entries.specs.Entry.{free_place}
-use borrow.Author.Rules.{rules}
 use Rattle.entries.proofs.places.place_at.Goals as goal
 
 pub returns : goal.returns

@@ -1,5 +1,4 @@
 -- `entries::report::meant` meets its contract: the callee's contract, put into the report. Assumes nothing.
-use borrow.Author.Rules.{rules}
 use Rattle.entries.proofs.report.meant.Goals as goal
 
 pub returns : goal.returns

@@ -2,7 +2,6 @@
 use mathlib.Core.Path.{sym, ◌∙◌}
 use borrow.Author.Tests.{not-true, not-false}
 use Rattle.layout.specs.Correction.{is_sound}
-use borrow.Author.Rules.{rules}
 use Rattle.layout.proofs.correction.is_sound.Goals as goal
 
 pub returns-in_default : goal.returns-in_default

@@ -1,7 +1,6 @@
 -- `layout::correction::read_head` meets its contract. Assumes nothing.
 use mathlib.Core.Path.{sym, ◌∙◌}
 use Rattle.layout.proofs.CorrectionLaws.{head-length, head-letter, head-code}
-use borrow.Author.Rules.{rules}
 use Rattle.layout.proofs.correction.read_head.Goals as goal
 
 pub returns-then-f-ne5 : goal.returns-then-f-ne5

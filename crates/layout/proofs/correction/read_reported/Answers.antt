@@ -5,7 +5,6 @@ use Rattle.layout.specs.Part.{part_of}
 use mathlib.Core.Path.{◌≡◌, sym, ap, ◌∙◌}
 use native.Mathlib.Omega.{arith}
 use Rattle.layout.proofs.CorrectionLaws.{reported-short, reported-comma, reported-letter, reported-part}
-use borrow.Author.Rules.{rules}
 use Rattle.layout.proofs.correction.read_reported.Goals as goal
 
 pub returns-then-f-lt2 : goal.returns-then-f-lt2

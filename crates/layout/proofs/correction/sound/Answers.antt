@@ -2,7 +2,6 @@
 use mathlib.Core.Path.{sym, ◌∙◌}
 use borrow.Author.Tests.{not-true, not-false}
 use Rattle.layout.specs.Correction.{sound_of}
-use borrow.Author.Rules.{rules}
 use Rattle.layout.proofs.correction.sound.Goals as goal
 
 pub returns-then-not-is_sound : goal.returns-then-not-is_sound

@@ -1,7 +1,6 @@
 -- `layout::walk::date_at` meets its contract. Assumes nothing.
 use mathlib.Core.Path.{sym, ◌∙◌}
 use native.Mathlib.Omega.{arith}
-use borrow.Author.Rules.{rules}
 use Rattle.layout.proofs.WidthLaws.{dates, past, empty-here, short, unended, unread, read}
 use Rattle.layout.proofs.walk.date_at.Goals as goal
 

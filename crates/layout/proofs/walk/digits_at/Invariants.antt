@@ -1,12 +1,9 @@
 -- `layout::walk::digits_at` meets its contract: what the digits passed are worth, and what is left of the line, say what the field reads as. Assumes nothing.
-use Prim.Native.Nat.{suc, ◌+◌, ◌-◌, ◌*◌, ◌^◌, ◌≤◌, ◌<◌}
-use mathlib.Core.Path.{◌≡◌, refl, sym, ap, ◌∙◌}
-use native.Mathlib.Omega.{arith}
-use borrow.Author.Rules.{rules}
-use lib.ListN.{length, drop}
-use Rattle.text.proofs.Read.{bound, bound-more}
+use Prim.Native.Nat.{◌+◌, ◌-◌, ◌*◌, ◌^◌, ◌≤◌, ◌<◌}
+use mathlib.Core.Path.{◌≡◌}
+use lib.ListN.{drop}
 use Rattle.layout.specs.Walk.{digits_at}
-use Rattle.layout.proofs.DigitsWalk.{found, found_first, found-comma, found-digit, found-low, found-high, found-beyond, reach-within, reach-twelve}
+use Rattle.layout.proofs.DigitsWalk.{found}
 use Rattle.layout.proofs.walk.digits_at.Given as goal
 
 abbrev pub invariant-loop-i : goal.invariant-loop-i

@@ -1,7 +1,5 @@
 -- `layout::walk::kind_at` meets its contract. Assumes nothing.
 use mathlib.Core.Path.{sym, ◌∙◌}
-use native.Mathlib.Omega.{arith}
-use borrow.Author.Rules.{rules}
 use Rattle.fields.specs.Kind.{maybe_kind_from}
 use Rattle.layout.proofs.WidthLaws.{kind-empty, kind-read}
 use Rattle.layout.proofs.walk.kind_at.Goals as goal

@@ -1,7 +1,6 @@
 -- `layout::walk::number_at` meets its contract. Assumes nothing.
 use mathlib.Core.Path.{sym, ◌∙◌}
 use native.Mathlib.Omega.{arith}
-use borrow.Author.Rules.{rules}
 use Rattle.layout.proofs.WalkLaws.{end-from, number-none, number-then}
 use Rattle.layout.proofs.DigitsWalk.{number-empty, number-beyond}
 use Rattle.layout.proofs.walk.number_at.Goals as goal

@@ -2,7 +2,6 @@
 use Rattle.layout.proofs.PartLaws.{part-short}
 use native.Mathlib.Omega.{arith}
 use Rattle.layout.proofs.CorrectionLaws.{length-correction}
-use borrow.Author.Rules.{rules}
 use Rattle.layout.proofs.correction.Correction.len.Goals as goal
 
 pub overflow_add-result : goal.overflow_add-result

@@ -1,7 +1,6 @@
 -- `layout::correction::Correction::named_number` meets its contract. Assumes nothing.
 use mathlib.Core.Path.{sym, ◌∙◌}
 use Rattle.layout.specs.Correction.{named_number}
-use borrow.Author.Rules.{rules}
 use Rattle.layout.proofs.correction.Correction.named_number.Goals as goal
 
 pub returns-then-is_empty : goal.returns-then-is_empty

@@ -1,7 +1,6 @@
 -- `layout::correction::Correction::of_words` meets its contract. Assumes nothing.
 use mathlib.Core.Path.{sym, ◌∙◌}
 use Rattle.layout.proofs.CorrectionLaws.{words-1, words-2, words-3, words-4, words-5}
-use borrow.Author.Rules.{rules}
 use Rattle.layout.proofs.correction.Correction.of_words.Goals as goal
 
 pub returns-then-w-ne13 : goal.returns-then-w-ne13

@@ -2,7 +2,6 @@
 use Prim.Native.Nat.{◌+◌}
 use mathlib.Core.Path.{sym, ◌∙◌}
 use native.Mathlib.Omega.{arith}
-use borrow.Author.Rules.{rules}
 use Rattle.text.proofs.Passing.{next-from}
 use Rattle.layout.proofs.CorrectionWalk.{part-rest, one, colon-1, head-1, colon-2, reported-2, part-3, part-4}
 use Rattle.layout.proofs.correction.Correction.read.Goals as goal

@@ -1,7 +1,6 @@
 -- `layout::part::Part::len` meets its contract. Assumes nothing.
 use native.Mathlib.Omega.{arith}
 use Rattle.layout.proofs.PartLaws.{length_part, digits-short, date-short, code-short, kind-short}
-use borrow.Author.Rules.{rules}
 use Rattle.layout.proofs.part.Part.len.Goals as goal
 
 pub overflow_add-result : goal.overflow_add-result

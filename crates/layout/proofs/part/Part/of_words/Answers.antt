@@ -2,7 +2,6 @@
 use mathlib.Core.Path.{sym, ◌∙◌}
 use borrow.Author.Tests.{not-true, not-false}
 use Rattle.layout.proofs.PartLaws.{words_count, words-number, words-rest, rest-1, rest-2, rest-3, rest-4, rest-5}
-use borrow.Author.Rules.{rules}
 use Rattle.layout.proofs.part.Part.of_words.Goals as goal
 
 pub returns-then-w-ne6 : goal.returns-then-w-ne6

@@ -1,7 +1,6 @@
 -- `layout::part::Part::read` meets its contract: each field's reader says which way the walk goes. Assumes nothing.
 use mathlib.Core.Path.{sym, ◌∙◌}
 use Rattle.layout.proofs.WalkLaws.{walk_1, walk_2, walk_3, walk_4, walk_5, walk_6, walk-7}
-use borrow.Author.Rules.{rules}
 use Rattle.layout.proofs.part.Part.read.Goals as goal
 
 pub returns-in_default : goal.returns-in_default

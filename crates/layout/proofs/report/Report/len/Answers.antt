@@ -2,7 +2,6 @@
 use mathlib.Core.Path.{ap, ◌∙◌}
 use lib.ListN.{length}
 use Rattle.layout.specs.Part.{part_text}
-use borrow.Author.Rules.{rules}
 use Rattle.layout.proofs.report.Report.len.Goals as goal
 
 pub returns : goal.returns

@@ -3,7 +3,6 @@ use Rattle.layout.proofs.ReportLaws.{whole-report}
 use mathlib.Core.Path.{sym, ◌∙◌}
 use borrow.Author.Tests.{not-true, not-false}
 use Rattle.layout.specs.Report.{whole_of}
-use borrow.Author.Rules.{rules}
 use Rattle.layout.proofs.report.Report.of_part.Goals as goal
 
 pub returns-then-is_empty : goal.returns-then-is_empty

@@ -1,7 +1,6 @@
 -- `layout::report::Report::of_words` meets its contract. Assumes nothing.
 use mathlib.Core.Path.{sym, ◌∙◌}
 use Rattle.layout.specs.Report.{report_of_words, report_from}
-use borrow.Author.Rules.{rules}
 use Rattle.layout.proofs.report.Report.of_words.Goals as goal
 
 pub returns-in_default : goal.returns-in_default

@@ -1,5 +1,4 @@
 -- `layout::report::Report::part` meets its contract. Assumes nothing.
-use borrow.Author.Rules.{rules}
 use Rattle.layout.proofs.report.Report.part.Goals as goal
 
 pub returns : goal.returns

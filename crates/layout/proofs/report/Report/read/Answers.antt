@@ -1,7 +1,6 @@
 -- `layout::report::Report::read` meets its contract. Assumes nothing.
 use mathlib.Core.Path.{sym, ◌∙◌}
 use Rattle.layout.specs.Report.{report_of, report_from}
-use borrow.Author.Rules.{rules}
 use Rattle.layout.proofs.report.Report.read.Goals as goal
 
 pub returns-in_default : goal.returns-in_default

@@ -1,6 +1,5 @@
 -- `layout::report::Report::write` meets its contract. Assumes nothing.
 use mathlib.Core.Path.{sym}
-use borrow.Author.Rules.{rules}
 use Rattle.layout.proofs.PutLaws.{report-part}
 use Rattle.layout.proofs.report.Report.write.Goals as goal
 

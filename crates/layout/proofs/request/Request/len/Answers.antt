@@ -2,7 +2,6 @@
 use native.Mathlib.Omega.{arith}
 use Rattle.layout.proofs.RequestLaws.{length-request}
 use Rattle.layout.proofs.PartLaws.{date-short}
-use borrow.Author.Rules.{rules}
 use Rattle.layout.proofs.request.Request.len.Goals as goal
 
 pub overflow_add-result : goal.overflow_add-result

@@ -1,7 +1,6 @@
 -- `layout::request::Request::of_words` meets its contract. Assumes nothing.
 use mathlib.Core.Path.{sym, ◌∙◌}
 use Rattle.layout.proofs.RequestLaws.{words-1, words-2, words-3, words-4}
-use borrow.Author.Rules.{rules}
 use Rattle.layout.proofs.request.Request.of_words.Goals as goal
 
 pub returns-then-w-ne2 : goal.returns-then-w-ne2

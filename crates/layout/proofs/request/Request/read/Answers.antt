@@ -4,7 +4,6 @@ use lib.ListN.{length}
 use Rattle.fields.specs.Code.{code_of}
 use Rattle.fields.specs.Date.{maybe_date_of}
 use Rattle.layout.proofs.RequestLaws.{request-count, request-three, three-1, three-2, three-3, three-4}
-use borrow.Author.Rules.{rules}
 use Rattle.layout.proofs.request.Request.read.Goals as goal
 
 pub returns-then-cuts-ne2 : goal.returns-then-cuts-ne2

@@ -1,0 +1,34 @@
+// Starting a store, and whether five buffers read as one.
+ghost use Rattle.std.specs.Prelude.{◌≡◌};
+ghost use Rattle.store.specs.Reads.{lent, is_readable};
+ghost use Rattle.capi.specs.Starting.{StartsAs};
+
+// Starts a store from the text of a number table: 0, and how many lines it has; 44 for a short buffer; 6 for a text that is no table.
+#[unsafe(no_mangle)]
+pub extern "C" fn dagskimra_start(
+    text: &[u8],
+    table: &mut [u8],
+    files: &mut [u8],
+    regular: &mut [u8],
+    corrections: &mut [u8],
+    entries: &mut [u8],
+    more: &mut u64,
+) -> u8
+    ensures { StartsAs text.now (lent table.old files.old regular.old corrections.old entries.old) result more.new (lent table.new files.new regular.new corrections.new entries.new) }
+{
+    capi::begin::dagskimra_start(text, table, files, regular, corrections, entries, more)
+}
+
+// Whether the buffers read as a store; where they don't, filing and asking answer 44.
+#[unsafe(no_mangle)]
+pub extern "C" fn dagskimra_readable(
+    table: &[u8],
+    files: &[u8],
+    regular: &[u8],
+    corrections: &[u8],
+    entries: &[u8],
+) -> bool
+    ensures { result ≡ is_readable (lent table.now files.now regular.now corrections.now entries.now) }
+{
+    capi::begin::dagskimra_readable(table, files, regular, corrections, entries)
+}
