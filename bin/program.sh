@@ -4,7 +4,7 @@ name=dagskimra
 # the one place that says it; docs/DECISIONS.md says how it is counted
 version=0.4
 # What a build takes where nothing is proved yet.
-takes='about 60 minutes on two processors, up to 4 GB of memory, and 4 GB of disk'
+takes='about 60 minutes on two processors, up to 4 GB of memory at a time, and 4 GB of disk'
 
 say() { printf '%s: %s\n' "$name" "$*" >&2; }
 
