@@ -85,6 +85,9 @@ long write(int fd, const void *bytes, size n) {
     return answer(call(WRITE, fd, (long)bytes, (long)n));
 }
 
+/* the name by which the kit's own C calls it */
+long __write(int fd, const void *bytes, size n) { return write(fd, bytes, n); }
+
 int open(const char *path, int flags, ...) {
     /* a file that may be made (O_CREAT); its mode is what the program's own code asks for */
     if (flags & 0100) return (int)other(1, OPENAT, -100, (long)path, flags, 0666);
