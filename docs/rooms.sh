@@ -12,13 +12,13 @@ awk '
     /^#/ || NF == 0 || $1 ~ /_run:$/ { next }
     { add_room() }
 
-    # a room of the program stands on the io of the kit
+    # a room of the program stands on `desk`
     function add_room(    i) {
         rooms++; room[rooms] = $1; sub(/:$/, "", room[rooms]); number[room[rooms]] = rooms; level[rooms] = 0
         if (length(word[room[rooms]]) > longest) longest = length(word[room[rooms]])
+        if (room[rooms] == "desk") program[rooms] = 1
         for (i = 2; i <= NF; i++)
-            if ($i == "io") program[rooms] = 1
-            else if ($i in number) direct[rooms, number[$i]] = 1
+            if ($i in number) { direct[rooms, number[$i]] = 1; if ($i == "desk") program[rooms] = 1 }
     }
 
     # ---- arrows and levels

@@ -1,6 +1,6 @@
 /* Dagskimra for C: telephone porting data in five buffers that the caller lends.
  *
- * Build the archive by `rt staticlib capi` (target/staticlib/libcapi.a, for x86-64 Linux) and link it. Nothing else is needed: the functions keep no
+ * Build the archive by `bin/archive capi` (target/staticlib/libcapi.a, for x86-64 Linux) and link it. Nothing else is needed: the functions keep no
  * state, ask for no memory, and touch only what they are lent. They may be called from several threads as long as no two calls share a buffer that one
  * of them writes. Each function's contract is in crates/capi/src; the numbers of answers and verdicts are those of docs/promises/rows.md.
  *

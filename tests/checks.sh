@@ -110,10 +110,16 @@ fails 'not a reason and a function: because desk::page::torn' tests/contracts.sh
 
 # ---- outer.sh
 passes tests/outer.sh
-change crates/capi/src/offer.rt '/^pub extern "C" fn dagskimra_file/,/ensures/s/^    ensures/    requires { length text.now ≤ 100 }\n&/'
+change crates/capi/src/offer.rt '/^pub fn dagskimra_file/,/ensures/s/^    ensures/    requires { length text.now ≤ 100 }\n&/'
 fails 'capi::offer::dagskimra_file asks for something' tests/outer.sh
 add crates/filing/src/file.rt 'pub extern "C" fn dagskimra_loose(x: u8) -> u8 {' '    x' '}'
 fails 'filing::file::dagskimra_loose is exported, and tests/outer does not list it' tests/outer.sh
+change crates/capi_c/src/again.rt 's/ ReworksAs (lent/ ReworksAs (other/'
+fails 'capi_c::again::dagskimra_rework has other parameters or clauses than capi::again::dagskimra_rework' tests/outer.sh
+change crates/capi_c/src/again.rt 's/^    list: &mut/    list: \&/'
+fails 'capi_c::again::dagskimra_rework has other parameters or clauses than capi::again::dagskimra_rework' tests/outer.sh
+change crates/capi_c/src/again.rt 's/entries, list, more)/list, entries, more)/'
+fails 'capi_c::again::dagskimra_rework does not just call capi::again::dagskimra_rework' tests/outer.sh
 change crates/starting/src/start.rt 's/^pub fn start(/fn start(/'
 fails 'starting::start::start is not public' tests/outer.sh
 change crates/filing/src/file.rt 's/^pub fn file(/pub fn filed(/'
@@ -299,11 +305,8 @@ lacks() { # WHEN PACKAGES: what is missing in the end
     [ "$(cat "$room/said")" = "$2" ] || fault "$1 '$2' should be missing, and it says:"
 }
 machine id 'echo 0'
-machine uname 'echo x86_64'
 lacks 'without a package manager' 'util-linux bsdutils rustc gcc libc6-dev'
-machine uname 'echo aarch64'
-lacks 'without a package manager' 'util-linux bsdutils rustc gcc-x86-64-linux-gnu libc6-dev-amd64-cross'
-machine flock : && machine script : && machine x86_64-linux-gnu-gcc :
+machine flock : && machine script : && machine cc :
 machine apt-get 'exit 100'
 lacks 'where nothing can be fetched' rustc
 machine apt-get "case \"\$*\" in *--no-download*' rustc') cp='#!/bin/sh'; echo \"\$cp\" >$few/rustc; chmod 755 $few/rustc ;; esac"

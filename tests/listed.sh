@@ -5,7 +5,7 @@ cd "$(dirname "$0")/.."
 lost=0
 for folder in crates/*/; do
     name=$(basename "$folder")
-    grep -q "^$name:" crates.txt || {
+    grep -qE "^$name( [a-z][a-z0-9_= ]*)?:" crates.txt || {
         echo "tests/listed.sh: crates.txt does not list crates/$name" >&2
         lost=1
     }

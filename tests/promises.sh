@@ -31,7 +31,7 @@ find crates/*/src -name '*.rt' | sort | xargs awk '
     /^impl / { type = $2; sub(/[^A-Za-z0-9_].*/, "", type); type = type "::" }
     /^}/ { type = "" }
     /^ *(pub(\([a-z]*\))? )?(extern "C" )?fn / { name = $0; sub(/^.*fn /, "", name); sub(/[^a-z_0-9A-Z].*/, "", name); tell(file "::" type name) }' >>"$room/there"
-sed -n 's/^\([a-z_0-9]*\):.*/room \1/p' crates.txt | grep -v -e '_run$' -e ' laws$' >>"$room/there"
+sed -n 's/^\([a-z_0-9]*\)\( staticlib\)\{0,1\}:.*/room \1/p' crates.txt | grep -v -e '_run$' -e ' laws$' >>"$room/there"
 
 awk '
     function fail(why) { printf "promises: %s\n", why; failed = 1 }
