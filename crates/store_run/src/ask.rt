@@ -24,6 +24,19 @@ fn stored(rt: &impl Host, w: &[u8], bytes: &[u8], s: Stored) {
     from(rt, w, s.publisher.0, s.day.0);
 }
 
+// The same report once more.
+fn again(s: &Stored) -> Stored {
+    Stored {
+        place: s.place,
+        publisher: s.publisher,
+        day: s.day,
+    }
+}
+
+fn pair(one: &Stored, two: &Stored) -> WhyAnswer {
+    WhyAnswer::Pair(again(one), again(two))
+}
+
 fn why<'a>(
     rt: &impl Host,
     w: &[u8],
@@ -35,11 +48,12 @@ fn why<'a>(
 ) {
     match why::look(t, f, r, c, number) {
         LookedWhy::Pair(one, two) => {
-            let a = WhyAnswer::Pair(one, two);
+            let first = why::first_part(r, c, pair(&one, &two));
+            let second = why::second_part(r, c, pair(&one, &two));
             print::word(rt, w, print::PAIR);
-            stored(rt, w, why::first_part(r, c, a), one);
+            stored(rt, w, first, one);
             print::word(rt, w, print::AND);
-            stored(rt, w, why::second_part(r, c, a), two);
+            stored(rt, w, second, two);
         }
         LookedWhy::Nothing => print::word(rt, w, print::NO_PAIR),
         LookedWhy::UnknownNumber => print::word(rt, w, print::NO_NUMBER),
@@ -97,7 +111,7 @@ pub fn about<'a>(
     standing(rt, w, t, f, 2, r, c, i);
     print::word(rt, w, print::NOW);
     standing(rt, w, t, f, ALL_FILES, r, c, i);
-    why(w, t, f, r, c, number);
+    why(rt, w, t, f, r, c, number);
     print::end(rt);
 }
 
