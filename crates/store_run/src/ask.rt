@@ -24,19 +24,6 @@ fn stored(rt: &impl Host, w: &[u8], bytes: &[u8], s: Stored) {
     from(rt, w, s.publisher.0, s.day.0);
 }
 
-// The same report once more.
-fn again(s: &Stored) -> Stored {
-    Stored {
-        place: s.place,
-        publisher: s.publisher,
-        day: s.day,
-    }
-}
-
-fn pair(one: &Stored, two: &Stored) -> WhyAnswer {
-    WhyAnswer::Pair(again(one), again(two))
-}
-
 fn why<'a>(
     rt: &impl Host,
     w: &[u8],
@@ -48,12 +35,11 @@ fn why<'a>(
 ) {
     match why::look(t, f, r, c, number) {
         LookedWhy::Pair(one, two) => {
-            let first = why::first_part(r, c, pair(&one, &two));
-            let second = why::second_part(r, c, pair(&one, &two));
+            let a = WhyAnswer::Pair(one, two);
             print::word(rt, w, print::PAIR);
-            stored(rt, w, first, one);
+            stored(rt, w, why::first_part(r, c, a), one);
             print::word(rt, w, print::AND);
-            stored(rt, w, second, two);
+            stored(rt, w, why::second_part(r, c, a), two);
         }
         LookedWhy::Nothing => print::word(rt, w, print::NO_PAIR),
         LookedWhy::UnknownNumber => print::word(rt, w, print::NO_NUMBER),

@@ -2,35 +2,15 @@
 use crate::{line, print};
 use calendar::dates::CalendarDays;
 use desk::Host;
-use faults::cause::FaultPlace;
 use filing::checking::answer;
 use filing::checking::answer::Answer;
 use filing::entering::kind::Filable;
 use filing::file;
 
-// The same answer once more.
-fn again(a: &Answer) -> Answer {
-    match a {
-        Answer::Filed(n) => Answer::Filed(*n),
-        Answer::Unreadable => Answer::Unreadable,
-        Answer::NoCode => Answer::NoCode,
-        Answer::NoDay => Answer::NoDay,
-        Answer::FiledAlready => Answer::FiledAlready,
-        Answer::Fault(at, cause) => {
-            let place = FaultPlace {
-                place: at.place,
-                field: at.field,
-            };
-            Answer::Fault(place, *cause)
-        }
-        Answer::Full => Answer::Full,
-    }
-}
-
 // What was answered: the number, with the count or the place where it has one.
 fn said(rt: &impl Host, line: &[u8], w: &[u8], a: Answer) {
     print::text(rt, line::field(line, 1));
-    print::count(rt, w, print::ANSWER, answer::number(again(&a)) as usize);
+    print::count(rt, w, print::ANSWER, answer::number(a) as usize);
     match a {
         Answer::Filed(n) => {
             print::count(rt, w, print::COUNT, n);
@@ -44,7 +24,7 @@ fn said(rt: &impl Host, line: &[u8], w: &[u8], a: Answer) {
 // Whether the file was filed; what was answered is said where it is offered once.
 fn told(rt: &impl Host, line: &[u8], w: &[u8], a: Answer) -> bool {
     if line::number(line, 8) == 0 {
-        said(rt, line, w, again(&a));
+        said(rt, line, w, a);
     }
     answer::number(a) == 0
 }
