@@ -15,7 +15,7 @@ use store::journals::{files, sums};
 use verdict::step::Why;
 
 // A stored report: its place in the regular journal, its publisher and its publication day.
-#[derive(Drop)]
+#[derive(Clone, Copy)]
 pub struct Stored {
     pub place: usize,
     pub publisher: Code,
@@ -24,7 +24,7 @@ pub struct Stored {
 
 // The pair that confirmed last, the report processed first coming first; that there is none; the number is not in the table;
 // the buffers do not read.
-#[derive(Drop)]
+#[derive(Clone, Copy)]
 pub enum WhyAnswer {
     Pair(Stored, Stored),
     Nothing,

@@ -65,11 +65,7 @@ fn read_bytes(rt: &impl Host, path: &[u8], kind: FileKind, file: &[u8]) -> u8
 {
     match files::judge::judge(kind, file) {
         Judged::Fault(at, cause) => {
-            let place = FaultPlace {
-                place: at.place,
-                field: at.field,
-            };
-            words::fault::refused(rt, path, kind, file, place, cause);
+            words::fault::refused(rt, path, kind, file, at, cause);
             refused(rt, at, cause)
         }
         Judged::Records(n) => records(rt, file, n),

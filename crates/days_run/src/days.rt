@@ -9,15 +9,6 @@ use calendar::{dates, working_days};
 // For a fault, and where the calendar ends.
 const NONE: u16 = 65535;
 
-// The same date once more.
-fn again(x: &Date) -> Date {
-    Date {
-        year: x.year,
-        month: x.month,
-        day: x.day,
-    }
-}
-
 // The day of a date.
 pub fn found(date: Date) -> u16 {
     let Found::Day(n) = dates::day_of(date) else {
@@ -67,7 +58,7 @@ pub fn dated(n: u16) -> u64 {
     let Dated::At(x) = dates::date_of(CalendarDays(n)) else {
         return 0;
     };
-    if found(again(&x)) == n {
+    if found(x) == n {
         return eight(x);
     }
     0
@@ -112,12 +103,10 @@ pub fn counted(rt: &impl Print, s: &[u8]) {
     let on = after(found(date_at(s, 0)), (input::number(s, 32, 2) % 256) as u8);
     let more = (input::number(s, 32, 5) % 16) as u16;
     let here = dated(on % 40000 + more); // no day there is has a higher number
-    let ok = here == eight(again(&stated));
-    outcome(rt, here, ok & is_weekday(s, 9, stated));
+    outcome(rt, here, (here == eight(stated)) & is_weekday(s, 9, stated));
 }
 
 pub fn free(rt: &impl Print, s: &[u8]) {
     let date = date_at(s, 0);
-    let is_free = works(found(again(&date))) == 0;
-    input::ended(rt, is_free & is_weekday(s, 23, date));
+    input::ended(rt, (works(found(date)) == 0) & is_weekday(s, 23, date));
 }

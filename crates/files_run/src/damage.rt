@@ -6,7 +6,7 @@ use records::names::kind::FileKind;
 pub fn whole(rt: &impl Print, kind: FileKind, file: &[u8], brief: bool) {
     let j = files::judge::judge(kind, file);
     if brief {
-        show::judged(rt, &j);
+        show::judged(rt, j);
         return;
     }
     show::found(rt, j);

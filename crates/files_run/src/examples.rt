@@ -57,7 +57,7 @@ pub fn walk(rt: &impl Print, kind: FileKind, file: &[u8], n: usize, said: bool) 
 // The records, and the file written from the words that `numbers` gives for them.
 pub fn file(rt: &impl Print, kind: FileKind, file: &[u8], numbers: &[u8]) {
     let j = files::judge::judge(kind, file);
-    show::judged(rt, &j);
+    show::judged(rt, j);
     let Judged::Records(n) = j else {
         return;
     };

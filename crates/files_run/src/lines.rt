@@ -11,44 +11,11 @@ use layout::report::{Report, ReportRead};
 use layout::request::{Request, RequestRead};
 use records::names::kind::FileKind;
 
-// The same values once more.
-fn report_again(r: &Report) -> Report
-    ensures { result ≡ r.now }
-{
-    Report {
-        number: r.number,
-        date: r.date,
-        gaining: r.gaining,
-        losing: r.losing,
-        kind: r.kind,
-    }
-}
-
-fn correction_again(c: &Correction) -> Correction
-    ensures { result ≡ c.now }
-{
-    Correction {
-        code: c.code,
-        u: c.u,
-        k: c.k,
-    }
-}
-
-fn request_again(r: &Request) -> Request
-    ensures { result ≡ r.now }
-{
-    Request {
-        code: r.code,
-        from: r.from,
-    }
-}
-
 // How many bytes were written, and 1,000 for a fault.
 fn put_report(r: Report, out: &mut [u8]) -> usize
     requires { report_fits r ≡ true }
 {
-    let again = report_again(&r);
-    if out.len() < again.len() {
+    if out.len() < r.len() {
         return 1000;
     }
     r.write(out, 0)
@@ -57,8 +24,7 @@ fn put_report(r: Report, out: &mut [u8]) -> usize
 fn put_correction(c: Correction, out: &mut [u8]) -> usize
     requires { correction_fits c ≡ true }
 {
-    let again = correction_again(&c);
-    if out.len() < again.len() {
+    if out.len() < c.len() {
         return 1000;
     }
     c.write(out, 0)
@@ -67,8 +33,7 @@ fn put_correction(c: Correction, out: &mut [u8]) -> usize
 fn put_request(r: Request, out: &mut [u8]) -> usize
     requires { request_fits r ≡ true }
 {
-    let again = request_again(&r);
-    if out.len() < again.len() {
+    if out.len() < r.len() {
         return 1000;
     }
     r.write(out, 0)

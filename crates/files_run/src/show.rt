@@ -85,21 +85,21 @@ fn fault(rt: &impl Print, place: usize) {
 }
 
 // `N records`, or `4 at I`
-pub fn judged(rt: &impl Print, j: &Judged) {
+pub fn judged(rt: &impl Print, j: Judged) {
     match j {
-        Judged::Records(n) => records(rt, *n),
+        Judged::Records(n) => records(rt, n),
         Judged::Fault(at, _) => fault(rt, at.place),
     }
 }
 
 // `N bytes`, or `4 at I`, or `41`
-pub fn written(rt: &impl Print, w: &Written) {
+pub fn written(rt: &impl Print, w: Written) {
     match w {
         Written::Length(n) => {
-            number(rt, *n);
+            number(rt, n);
             word(rt, 9);
         }
-        Written::Fault(i) => fault(rt, *i),
+        Written::Fault(i) => fault(rt, i),
         Written::Long => word(rt, 32),
     }
 }
@@ -138,9 +138,9 @@ pub fn sign(rt: &impl Print, j: Judged) {
 }
 
 // A number for what was found, from 1. No case has a thousand records.
-fn sum(j: &Judged) -> u64 {
+fn sum(j: Judged) -> u64 {
     match j {
-        Judged::Records(n) => 1 + *n as u64 % 1000,
+        Judged::Records(n) => 1 + n as u64 % 1000,
         Judged::Fault(at, why) => {
             let place = at.place as u64 % 1000;
             let field = at.field as u64 % 1000;
@@ -151,7 +151,7 @@ fn sum(j: &Judged) -> u64 {
 
 // What was found at `at`, said where it is not what was found before.
 pub fn changed(rt: &impl Print, at: usize, j: Judged, last: u64) -> u64 {
-    let mark = sum(&j);
+    let mark = sum(j);
     if mark != last {
         word(rt, FROM);
         number(rt, at);

@@ -54,7 +54,7 @@ fn written(rt: &impl Print, kind: FileKind, s: &[u8], words: &mut [u64], out: &m
         return 0;
     }
     let w = composing::write::write(kind, &words[0..used], &mut out[0..room]);
-    show::written(rt, &w);
+    show::written(rt, w);
     show::length(w)
 }
 
@@ -73,7 +73,7 @@ fn changed(rt: &impl Print, s: &[u8], at: usize) {
 // What is found in a file.
 fn found(rt: &impl Print, kind: FileKind, file: &[u8]) {
     let j = files::judge::judge(kind, file);
-    show::judged(rt, &j);
+    show::judged(rt, j);
     let Judged::Records(n) = j else {
         return;
     };

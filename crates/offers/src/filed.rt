@@ -34,11 +34,7 @@ fn fault(
 ) -> Told
     ensures { result ≡ told_of (Fault at cause) }
 {
-    let place = FaultPlace {
-        place: at.place,
-        field: at.field,
-    };
-    words::fault::refused(rt, path, kind.file_kind(), text, place, cause);
+    words::fault::refused(rt, path, kind.file_kind(), text, at, cause);
     Told {
         number: 4,
         value: at.place,

@@ -97,7 +97,7 @@ pub fn about<'a>(
     standing(rt, w, t, f, 2, r, c, i);
     print::word(rt, w, print::NOW);
     standing(rt, w, t, f, ALL_FILES, r, c, i);
-    why(w, t, f, r, c, number);
+    why(rt, w, t, f, r, c, number);
     print::end(rt);
 }
 

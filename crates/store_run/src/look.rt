@@ -137,7 +137,7 @@ pub fn one<'a>(
             print::end(rt);
         }
         b'-' => rest(rt, line),
-        b'e' => entry(line, w, e),
+        b'e' => entry(rt, line, w, e),
         b'r' => said(rt, line, w, reads(line, t, f, r, c, e)),
         b'l' => said(
             rt,

@@ -7,7 +7,7 @@ use faults::cause::{Cause, FaultPlace};
 // Filed, with the count of the journal records whose number the file names; or a refusal: the buffers don't read as a store, the publisher
 // is no network code, the day is outside the calendar, a file alike is filed, a record breaks its layout
 // (where, and why), a limit would be passed.
-#[derive(Drop)]
+#[derive(Clone, Copy)]
 pub enum Answer {
     Filed(usize),
     Unreadable,

@@ -1,6 +1,5 @@
 -- `entries::comparing::same_places` meets its contract: the loop compares from the front (`laws`). Assumes nothing.
 use mathlib.Core.Path.{◌∙◌, sym}
-use borrow.Author.Tests.{not-true, not-false}
 use native.Mathlib.Omega.{arith}
 use Rattle.laws.proofs.Same.{same-on, same-failed, same-passed}
 use Rattle.entries.specs.Entry.{free_place}
@@ -11,12 +10,12 @@ use Rattle.entries.proofs.comparing.same_places.Goals as goal
 pub returns-then-not-same_place : goal.returns-then-not-same_place
 returns-then-not-same_place c =
     let g = c.args in
-    same-failed same_place free_place g.ps g.qs c.loop-i.i (omega arith) (omega arith) (sym c.same_place.ensures ∙ not-true _ c.if-not-same_place.true-raw) c.loop-i.invariant.1
+    same-failed same_place free_place g.ps g.qs c.loop-i.i (omega arith) (omega arith) (sym c.same_place.ensures ∙ c.if-not-same_place.true) c.loop-i.invariant.1
 
 pub loop-i-preserved : goal.loop-i-preserved
 loop-i-preserved c =
     let g = c.args in
-    (search rules, same-on same_place free_place g.ps g.qs c.loop-i.i (omega arith) (omega arith) (sym c.same_place.ensures ∙ not-false _ c.if-not-same_place.false-raw) c.loop-i.invariant.1)
+    (search rules, same-on same_place free_place g.ps g.qs c.loop-i.i (omega arith) (omega arith) (sym c.same_place.ensures ∙ c.if-not-same_place.false) c.loop-i.invariant.1)
 
 pub returns : goal.returns
 returns c =

@@ -1,6 +1,5 @@
 -- `layout::correction::is_sound` meets its contract. Assumes nothing.
 use mathlib.Core.Path.{sym, ◌∙◌}
-use borrow.Author.Tests.{not-true, not-false}
 use Rattle.layout.specs.Correction.{is_sound}
 use Rattle.layout.proofs.correction.is_sound.Goals as goal
 
@@ -14,8 +13,8 @@ returns-then-is_objection c = simp (sym c.is_objection.ensures ∙ c.if-is_objec
 
 pub returns-then-not-is_empty : goal.returns-then-not-is_empty
 unfolding is_sound
-returns-then-not-is_empty c = simp (sym c.is_objection.ensures ∙ c.if-is_objection.false, sym c.is_empty.ensures ∙ not-true _ c.if-not-is_empty.true-raw)
+returns-then-not-is_empty c = simp (sym c.is_objection.ensures ∙ c.if-is_objection.false, sym c.is_empty.ensures ∙ c.if-not-is_empty.true)
 
 pub returns : goal.returns
 unfolding is_sound
-returns c = simp (sym c.is_objection.ensures ∙ c.if-is_objection.false, sym c.is_empty.ensures ∙ not-false _ c.if-not-is_empty.false-raw, sym c.is_empty-2.ensures)
+returns c = simp (sym c.is_objection.ensures ∙ c.if-is_objection.false, sym c.is_empty.ensures ∙ c.if-not-is_empty.false, sym c.is_empty-2.ensures)

@@ -3,7 +3,6 @@ use mathlib.Core.List.{List}
 use Prim.Native.Nat.{ℕ}
 use mathlib.Core.Bool.{true, false}
 use mathlib.Core.Path.{◌≡◌, sym, ap, ◌∙◌}
-use borrow.Author.Tests.{not-true, not-false}
 use Rattle.laws.specs.Slots.{slot_at, is_held}
 use Rattle.layout.specs.Correction.{is_report}
 use Rattle.layout.specs.Report.{report_of}
@@ -13,11 +12,11 @@ use Rattle.store.proofs.records.good_report.Goals as goal
 pub returns-then-not-is_held : goal.returns-then-not-is_held
 unfolding good_report
 returns-then-not-is_held c = let a = c.args in
-    let h : is_held 45 (slot_at 0 45 a.regular.now a.k) ≡ false = sym c.is_held.ensures ∙ not-true _ c.if-not-is_held.true-raw in
+    let h : is_held 45 (slot_at 0 45 a.regular.now a.k) ≡ false = sym c.is_held.ensures ∙ c.if-not-is_held.true in
     rw h
 
 pub returns : goal.returns
 unfolding good_report
 returns c = let a = c.args in
-    let h : is_held 45 (slot_at 0 45 a.regular.now a.k) ≡ true = sym c.is_held.ensures ∙ not-false _ c.if-not-is_held.false-raw in
+    let h : is_held 45 (slot_at 0 45 a.regular.now a.k) ≡ true = sym c.is_held.ensures ∙ c.if-not-is_held.false in
     rw h (c.is_report.ensures ∙ ap (λ (l : List ℕ). is_report (report_of l)) c.bytes.ensures)

@@ -2,7 +2,6 @@
 use native.Mathlib.Omega.{arith}
 use borrow.Author.Rules.{rules}
 use mathlib.Core.Path.{◌≡◌, sym, ◌∙◌}
-use borrow.Author.Tests.{not-true, not-false}
 use Rattle.laws.specs.Slots.{slot_at}
 use Rattle.laws.proofs.Tables.{all_none, all-next, all-not}
 use Rattle.store.specs.Records.{good_report}
@@ -13,11 +12,11 @@ loop-i-init c = (search rules, all_none _ _)
 
 pub returns-then-not-good_report : goal.returns-then-not-good_report
 returns-then-not-good_report c = let a = c.args in
-    sym (all-not good_report a.n c.loop-i.i (slot_at 0 45 a.regular.now) (search rules) (sym c.good_report.ensures ∙ not-true _ c.if-not-good_report.true-raw))
+    sym (all-not good_report a.n c.loop-i.i (slot_at 0 45 a.regular.now) (search rules) (sym c.good_report.ensures ∙ c.if-not-good_report.true))
 
 pub loop-i-preserved : goal.loop-i-preserved
 loop-i-preserved c = let a = c.args in
-    (search rules, all-next good_report c.loop-i.i (slot_at 0 45 a.regular.now) c.loop-i.invariant.1 (sym c.good_report.ensures ∙ not-false _ c.if-not-good_report.false-raw))
+    (search rules, all-next good_report c.loop-i.i (slot_at 0 45 a.regular.now) c.loop-i.invariant.1 (sym c.good_report.ensures ∙ c.if-not-good_report.false))
 
 pub returns : goal.returns
 returns c = let e : c.loop-i.i ≡ c.args.n = omega arith in

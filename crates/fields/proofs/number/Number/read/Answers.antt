@@ -1,6 +1,6 @@
 -- `fields::number::Number::read` meets its contract: the tests and what the calls answer say which way `number_of` goes. Assumes nothing.
 use mathlib.Core.Path.{sym, ◌∙◌}
-use borrow.Author.Tests.{eq-eqb, ne_eqb, not-true, not-false}
+use borrow.Author.Tests.{eq-eqb, ne_eqb}
 use Rattle.fields.specs.Number.{number_of, number_from}
 use Rattle.fields.proofs.NumberLaws.{digits-back, digits-counted}
 use Rattle.fields.proofs.number.Number.read.Goals as goal
@@ -22,9 +22,9 @@ begins_block-requires c =
 pub returns-then-not-begins_block : goal.returns-then-not-begins_block
 unfolding number_of number_from
 returns-then-not-begins_block c =
-    simp (ne_eqb _ _ c.if-f-eq0.false, sym c.read.ensures ∙ c.in-Digits.is, sym c.begins_block.ensures ∙ not-true _ c.if-not-begins_block.true-raw)
+    simp (ne_eqb _ _ c.if-f-eq0.false, sym c.read.ensures ∙ c.in-Digits.is, sym c.begins_block.ensures ∙ c.if-not-begins_block.true)
 
 pub returns : goal.returns
 unfolding number_of number_from
 returns c =
-    simp (ne_eqb _ _ c.if-f-eq0.false, sym c.read.ensures ∙ c.in-Digits.is, sym c.begins_block.ensures ∙ not-false _ c.if-not-begins_block.false-raw)
+    simp (ne_eqb _ _ c.if-f-eq0.false, sym c.read.ensures ∙ c.in-Digits.is, sym c.begins_block.ensures ∙ c.if-not-begins_block.false)

@@ -1,5 +1,4 @@
 -- `filing::checking::check::check_day` meets its contract. Assumes nothing.
-use borrow.Author.Tests.{not-true, not-false}
 use mathlib.Core.Path.{sym, ◌∙◌}
 use Rattle.files.specs.Judged.{judged_file}
 use Rattle.filing.specs.entering.Entering.{file_kind}
@@ -9,17 +8,17 @@ use Rattle.filing.proofs.checking.check.check_day.Goals as goal
 pub returns-then-not-in_calendar : goal.returns-then-not-in_calendar
 returns-then-not-in_calendar c = let a = c.args in
     day-outside a.files.now a.kind a.code a.day.0 (judged_file (file_kind a.kind) a.text.now)
-    (sym c.in_calendar.ensures ∙ not-true _ c.if-not-in_calendar.true-raw)
+    (sym c.in_calendar.ensures ∙ c.if-not-in_calendar.true)
 
 pub returns-then-filed_already : goal.returns-then-filed_already
 returns-then-filed_already c = let a = c.args in
     day-alike a.files.now a.kind a.code a.day.0 (judged_file (file_kind a.kind) a.text.now)
-    (sym c.in_calendar.ensures ∙ not-false _ c.if-not-in_calendar.false-raw)
+    (sym c.in_calendar.ensures ∙ c.if-not-in_calendar.false)
     c.number.result c.number.ensures c.filed_already.result c.filed_already.ensures c.if-filed_already.true
 
 pub returns : goal.returns
 returns c = let a = c.args in
     day-new a.files.now a.kind a.code a.day.0 (judged_file (file_kind a.kind) a.text.now)
-    (sym c.in_calendar.ensures ∙ not-false _ c.if-not-in_calendar.false-raw)
+    (sym c.in_calendar.ensures ∙ c.if-not-in_calendar.false)
     c.number.result c.number.ensures c.filed_already.result c.filed_already.ensures c.if-filed_already.false
     c.check_text.result c.check_text.ensures

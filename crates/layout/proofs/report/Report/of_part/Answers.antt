@@ -1,7 +1,6 @@
 -- `layout::report::Report::of_part` meets its contract: what each field holds says which way `whole_of` goes. Assumes nothing.
 use Rattle.layout.proofs.ReportLaws.{whole-report}
 use mathlib.Core.Path.{sym, ◌∙◌}
-use borrow.Author.Tests.{not-true, not-false}
 use Rattle.layout.specs.Report.{whole_of}
 use Rattle.layout.proofs.report.Report.of_part.Goals as goal
 
@@ -27,8 +26,8 @@ returns-in_default-maybe_kind c =
 pub returns-then-not-is_named : goal.returns-then-not-is_named
 unfolding whole_of
 returns-then-not-is_named c =
-    simp (sym c.is_empty.ensures ∙ c.if-is_empty.false, c.in-Date.is, c.in-Code.is, c.in-Kind.is, sym c.is_named.ensures ∙ not-true _ c.if-not-is_named.true-raw)
+    simp (sym c.is_empty.ensures ∙ c.if-is_empty.false, c.in-Date.is, c.in-Code.is, c.in-Kind.is, sym c.is_named.ensures ∙ c.if-not-is_named.true)
 
 pub returns : goal.returns
 returns c =
-    sym (whole-report _ (sym c.is_empty.ensures ∙ c.if-is_empty.false) c.in-Date.is c.in-Code.is c.in-Kind.is (sym c.is_named.ensures ∙ not-false _ c.if-not-is_named.false-raw) c.of-gaining.ensures)
+    sym (whole-report _ (sym c.is_empty.ensures ∙ c.if-is_empty.false) c.in-Date.is c.in-Code.is c.in-Kind.is (sym c.is_named.ensures ∙ c.if-not-is_named.false) c.of-gaining.ensures)

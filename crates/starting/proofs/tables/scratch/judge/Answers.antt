@@ -1,7 +1,6 @@
 -- `starting::tables::scratch::judge` meets its contract. Assumes nothing.
 use native.Mathlib.Omega.{arith}
 use mathlib.Core.Path.{sym, ◌∙◌}
-use borrow.Author.Tests.{not-true, not-false}
 use Rattle.starting.proofs.tables.Spreading.{judged-some, judged-none}
 use Rattle.starting.proofs.tables.scratch.judge.Goals as goal
 
@@ -15,8 +14,8 @@ no_number_twice-requires c = let s = rw c.in-Lines.is at c.lay_out.ensures in
 
 pub returns-then-not-no_number_twice : goal.returns-then-not-no_number_twice
 returns-then-not-no_number_twice c = let s = rw c.in-Lines.is at c.lay_out.ensures in
-    judged-none s.0 c.args.room.now c.in-Lines.n c.lay_out.new.room s.2 c.requires c.args.text.now s.1 (sym c.no_number_twice.ensures ∙ not-true _ c.if-not-no_number_twice.true-raw)
+    judged-none s.0 c.args.room.now c.in-Lines.n c.lay_out.new.room s.2 c.requires c.args.text.now s.1 (sym c.no_number_twice.ensures ∙ c.if-not-no_number_twice.true)
 
 pub returns : goal.returns
 returns c = let s = rw c.in-Lines.is at c.lay_out.ensures in
-    (s.0, judged-some s.0 c.args.room.now c.in-Lines.n c.lay_out.new.room s.2 c.requires c.args.text.now s.1 (sym c.no_number_twice.ensures ∙ not-false _ c.if-not-no_number_twice.false-raw), s.2)
+    (s.0, judged-some s.0 c.args.room.now c.in-Lines.n c.lay_out.new.room s.2 c.requires c.args.text.now s.1 (sym c.no_number_twice.ensures ∙ c.if-not-no_number_twice.false), s.2)

@@ -2,7 +2,6 @@
 use native.Mathlib.Omega.{arith}
 use borrow.Author.Rules.{rules}
 use mathlib.Core.Path.{◌≡◌, sym, ap, ◌∙◌}
-use borrow.Author.Tests.{not-true, not-false}
 use Rattle.laws.proofs.Tables.{all_none, all-next, all-not}
 use Rattle.store.specs.journals.Files.{file_at, good_file}
 use Rattle.store.proofs.journals.files.good_files.Goals as goal
@@ -13,13 +12,13 @@ loop-i-init c = (search rules, all_none _ _)
 pub returns-then-not-good_file : goal.returns-then-not-good_file
 returns-then-not-good_file c = let a = c.args in
     sym (all-not good_file a.n c.loop-i.i (file_at a.files.now) (search rules)
-    (ap good_file (sym c.file_at-f.ensures.0) ∙ sym c.good_file.ensures ∙ not-true _ c.if-not-good_file.true-raw))
+    (ap good_file (sym c.file_at-f.ensures.0) ∙ sym c.good_file.ensures ∙ c.if-not-good_file.true))
 
 pub loop-i-preserved : goal.loop-i-preserved
 loop-i-preserved c = let a = c.args in (
   search rules,
   all-next good_file c.loop-i.i (file_at a.files.now) c.loop-i.invariant.1
-      (ap good_file (sym c.file_at-f.ensures.0) ∙ sym c.good_file.ensures ∙ not-false _ c.if-not-good_file.false-raw),
+      (ap good_file (sym c.file_at-f.ensures.0) ∙ sym c.good_file.ensures ∙ c.if-not-good_file.false),
 )
 
 pub returns : goal.returns

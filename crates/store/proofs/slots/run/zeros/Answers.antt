@@ -1,5 +1,4 @@
 -- `store::slots::run::zeros` meets its contract: what is left of the bytes says what all of them say. Assumes nothing.
-use borrow.Author.Tests.{not-true, not-false}
 use mathlib.Core.Path.{refl, sym, ◌∙◌}
 use native.Mathlib.Omega.{arith}
 use Rattle.store.proofs.slots.Zeros.{eight-failed, eight-passed, rest}
@@ -10,12 +9,12 @@ loop-i-init c = (omega arith, refl)
 
 pub returns-then-not-eight_zeros : goal.returns-then-not-eight_zeros
 returns-then-not-eight_zeros c =
-    sym (eight-failed c.args.s.now c.loop-i.i c.eight_zeros.result c.eight_zeros.ensures (not-true _ c.if-not-eight_zeros.true-raw)) ∙ c.loop-i.invariant.1
+    sym (eight-failed c.args.s.now c.loop-i.i c.eight_zeros.result c.eight_zeros.ensures (c.if-not-eight_zeros.true)) ∙ c.loop-i.invariant.1
 
 pub loop-i-preserved : goal.loop-i-preserved
 loop-i-preserved c = (
   omega arith,
-  sym (eight-passed c.args.s.now c.loop-i.i c.eight_zeros.result c.eight_zeros.ensures (not-false _ c.if-not-eight_zeros.false-raw)) ∙ c.loop-i.invariant.1,
+  sym (eight-passed c.args.s.now c.loop-i.i c.eight_zeros.result c.eight_zeros.ensures (c.if-not-eight_zeros.false)) ∙ c.loop-i.invariant.1,
 )
 
 pub returns : goal.returns
