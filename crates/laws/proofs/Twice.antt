@@ -1,7 +1,7 @@
 -- No element twice, by a number for each element: where the sorted numbers rise, no element is there twice (`rising-once`); and where elements of one
 -- number are the same, the other way round (`once-rising`), so that the test of the numbers is the test (`once-by-number`). Assumes nothing.
 use mathlib.Core.Path.{◌≡◌, refl, sym, ap, ◌∙◌}
-use mathlib.Core.Bool.{Bool, true, false, cond, not, ◌&&◌}
+use mathlib.Core.Bool.{Bool, true, false, cond, not}
 use mathlib.Core.List.{List, [], ◌∷◌, map}
 use Prim.Native.Nat.{ℕ, zero, suc, ◌+◌, ◌≤◌, ◌<◌}
 use native.Mathlib.Numerals.{add-one}
@@ -9,7 +9,7 @@ use native.Mathlib.Omega.{arith}
 use lib.ListN.{length, get_or, drop, drop_of_length-le}
 use lib.Seq.{drop-cons}
 use lib.Dec.{eqb}
-use borrow.Author.Tests.{eqb-true, eqb-false, eq-eqb}
+use borrow.Author.Tests.{eqb-true, eqb-false}
 use Rattle.laws.specs.Lists.{any, all, none_twice}
 use Rattle.laws.specs.Order.{sorted, rising, count}
 use Rattle.laws.proofs.Tests.{and_left, and_right, and-true, not_yes}

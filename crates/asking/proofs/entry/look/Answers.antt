@@ -1,7 +1,6 @@
 -- `asking::entry::look` meets its contract. Assumes nothing.
 use mathlib.Core.Path.{sym, ap, ◌∙◌}
 use native.Mathlib.Omega.{arith}
-use borrow.Author.Tests.{not-true, not-false}
 use Rattle.laws.proofs.Tests.{passes}
 use Rattle.store.specs.entry_slots.Entries.{entry_at}
 use Rattle.asking.specs.Looks.{entry_look, entry_looked}
@@ -11,12 +10,12 @@ use Rattle.asking.proofs.entry.look.Goals as goal
 
 pub returns-then-not-has_entries : goal.returns-then-not-has_entries
 unfolding entry_looked
-returns-then-not-has_entries c = passes _ _ _ _ (sym c.has_entries.ensures ∙ not-true _ c.if-not-has_entries.true-raw) c.not_seen.ensures
+returns-then-not-has_entries c = passes _ _ _ _ (sym c.has_entries.ensures ∙ c.if-not-has_entries.true) c.not_seen.ensures
 
 pub entry_at-e-requires : goal.entry_at-e-requires
 entry_at-e-requires c =
     let a = c.args in
-    let s = has_room a.table.now a.entries.now (sym c.has_entries.ensures ∙ not-false _ c.if-not-has_entries.false-raw) in
+    let s = has_room a.table.now a.entries.now (sym c.has_entries.ensures ∙ c.if-not-has_entries.false) in
     let found = c.find_line-found in
     let f = c.in-At in
     omega (arith, s.long-table, s.few-lines, s.long-entries, found_below a.table.now a.number (omega (arith, s.long-table, s.few-lines)) f.i (sym f.is ∙ found.ensures))
@@ -25,7 +24,7 @@ pub returns-in-At : goal.returns-in-At
 unfolding entry_looked
 returns-in-At c =
     let a = c.args in
-    let yes = sym c.has_entries.ensures ∙ not-false _ c.if-not-has_entries.false-raw in
+    let yes = sym c.has_entries.ensures ∙ c.if-not-has_entries.false in
     let s = has_room a.table.now a.entries.now yes in
     let found = c.find_line-found in
     let f = c.in-At in
@@ -36,7 +35,7 @@ pub returns-in-Unknown : goal.returns-in-Unknown
 unfolding entry_looked
 returns-in-Unknown c =
     let a = c.args in
-    let yes = sym c.has_entries.ensures ∙ not-false _ c.if-not-has_entries.false-raw in
+    let yes = sym c.has_entries.ensures ∙ c.if-not-has_entries.false in
     let s = has_room a.table.now a.entries.now yes in
     let found = c.find_line-found in
     shows _ _ _ _ yes

@@ -2,7 +2,6 @@
 use mathlib.Core.List.{List}
 use mathlib.Core.Path.{sym, ap, ◌∙◌, refl}
 use native.Mathlib.Omega.{arith}
-use borrow.Author.Tests.{not-true, not-false}
 use Rattle.laws.proofs.Tests.{passes}
 use Rattle.model.specs.Model.{Filed, entry_over}
 use Rattle.store.specs.journals.Files.{file_count}
@@ -18,18 +17,18 @@ use Rattle.asking.proofs.entry.look_before.Goals as goal
 
 pub returns-then-not-showable : goal.returns-then-not-showable
 unfolding before_looked
-returns-then-not-showable c = passes _ _ _ _ (sym c.showable.ensures ∙ not-true _ c.if-not-showable.true-raw) c.not_seen.ensures
+returns-then-not-showable c = passes _ _ _ _ (sym c.showable.ensures ∙ c.if-not-showable.true) c.not_seen.ensures
 
 pub files_among-m-requires : goal.files_among-m-requires
 files_among-m-requires c =
     let a = c.args in
-    let s = showable a.table.now a.files.now a.regular.now a.corrections.now (sym c.showable.ensures ∙ not-false _ c.if-not-showable.false-raw) in
+    let s = showable a.table.now a.files.now a.regular.now a.corrections.now (sym c.showable.ensures ∙ c.if-not-showable.false) in
     omega (arith, s.long-files)
 
 pub standing_at-s-requires : goal.standing_at-s-requires
 standing_at-s-requires c =
     let a = c.args in
-    let s = showable a.table.now a.files.now a.regular.now a.corrections.now (sym c.showable.ensures ∙ not-false _ c.if-not-showable.false-raw) in
+    let s = showable a.table.now a.files.now a.regular.now a.corrections.now (sym c.showable.ensures ∙ c.if-not-showable.false) in
     let found = c.find_line-found in
     let f = c.in-At in record { sound = sound a.table.now a.files.now a.regular.now a.corrections.now c.files_among-m.result s (among_below a.n (file_count a.files.now) c.files_among-m.result c.files_among-m.ensures); i_in_bounds = omega (arith, s.long-table, s.few-lines, found_below a.table.now a.number (omega (arith, s.long-table, s.few-lines)) f.i (sym f.is ∙ found.ensures)) }
 
@@ -37,7 +36,7 @@ pub returns-in-At : goal.returns-in-At
 unfolding before_looked
 returns-in-At c =
     let a = c.args in
-    let yes = sym c.showable.ensures ∙ not-false _ c.if-not-showable.false-raw in
+    let yes = sym c.showable.ensures ∙ c.if-not-showable.false in
     let s = showable a.table.now a.files.now a.regular.now a.corrections.now yes in
     let found = c.find_line-found in
     let f = c.in-At in
@@ -51,7 +50,7 @@ pub returns-in-Unknown : goal.returns-in-Unknown
 unfolding before_looked
 returns-in-Unknown c =
     let a = c.args in
-    let yes = sym c.showable.ensures ∙ not-false _ c.if-not-showable.false-raw in
+    let yes = sym c.showable.ensures ∙ c.if-not-showable.false in
     let s = showable a.table.now a.files.now a.regular.now a.corrections.now yes in
     let found = c.find_line-found in
     shows _ _ _ _ yes

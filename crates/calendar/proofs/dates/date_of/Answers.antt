@@ -1,7 +1,6 @@
 -- `calendar::dates::date_of` meets its contract: the day is counted back from the year and the month in which it lies.
 -- Assumes nothing.
 use native.Mathlib.Omega.{arith}
-use borrow.Author.Rules.{rules}
 use borrow.Author.Tests.{le-leb, lt-leb}
 use Rattle.calendar.specs.Answers.{date_of, date_in}
 use Rattle.calendar.proofs.DateLaws.{month_days-le, year-found, month-found}

@@ -1,7 +1,6 @@
 -- `calendar::dates::day_of` meets its contract: each return rewrites with the tests that led there.
 -- Assumes nothing.
 use native.Mathlib.Omega.{arith}
-use borrow.Author.Rules.{rules}
 use borrow.Author.Tests.{le-leb, lt-leb}
 use Rattle.calendar.specs.Dates.{valid, day_number}
 use Rattle.calendar.specs.Answers.{day_of}

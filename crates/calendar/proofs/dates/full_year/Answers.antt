@@ -1,6 +1,5 @@
 -- `calendar::dates::full_year` meets its contract: each return rewrites with the tests that led there.
 -- Assumes nothing.
-use borrow.Author.Rules.{rules}
 use borrow.Author.Tests.{lt-ltb, le-ltb, le-leb, lt-leb}
 use Rattle.calendar.specs.Answers.{full_year}
 use Rattle.calendar.proofs.dates.full_year.Goals as goal

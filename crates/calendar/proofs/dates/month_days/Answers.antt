@@ -1,7 +1,6 @@
 -- `calendar::dates::month_days` meets its contract.
 -- Assumes nothing.
 use mathlib.Core.Path.{sym, ◌∙◌}
-use borrow.Author.Rules.{rules}
 use Rattle.calendar.proofs.DateLaws.{month_days-plain, month_days-february, month_days-none}
 use Rattle.calendar.proofs.dates.month_days.Goals as goal
 

@@ -2,7 +2,6 @@
 -- Assumes nothing.
 use mathlib.Core.Path.{sym, ◌∙◌}
 use native.Mathlib.Omega.{arith}
-use borrow.Author.Rules.{rules}
 use Rattle.laws.specs.Sums.{sum_to}
 use Rattle.laws.specs.Lists.{table}
 use Rattle.calendar.proofs.DateLaws.{month_starts, month_start-le, month-early, month-leap, month-plain}

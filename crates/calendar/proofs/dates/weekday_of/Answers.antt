@@ -1,6 +1,5 @@
 -- `calendar::dates::weekday_of` meets its contract.
 -- Assumes nothing.
-use borrow.Author.Rules.{rules}
 use borrow.Author.Tests.{le-leb, lt-leb}
 use Rattle.calendar.specs.Dates.{weekday}
 use Rattle.calendar.specs.Answers.{weekday_of}

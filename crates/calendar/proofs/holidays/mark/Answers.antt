@@ -1,17 +1,16 @@
 -- `calendar::holidays::mark` meets its contract: what is lent is the list; the sums so far, carried on over the days that are left, are the mark, and
 -- both stay small. The measure is how many days are left. Assumes nothing.
-use mathlib.Core.Path.{◌≡◌, refl, sym, ◌∙◌}
+use mathlib.Core.Path.{refl, sym, ◌∙◌}
 use mathlib.Core.List.{flat_map}
-use Prim.Native.Nat.{◌+◌, ◌*◌, ◌-◌, ◌≤◌, ◌<◌}
+use Prim.Native.Nat.{◌≤◌, ◌<◌}
 use native.Mathlib.Omega.{arith}
-use lib.ListN.{length, drop}
+use lib.ListN.{length}
 use Rattle.laws.specs.Sums.{sum_to}
 use Rattle.laws.specs.Lists.{table}
 use Rattle.laws.specs.Order.{put}
 use Rattle.calendar.specs.Dates.{leap, month_days, year_start, month_start, day_number}
-use Rattle.calendar.specs.Holidays.{easter, nine_of, holidays_of, years, holidays, sums_from, mark_of}
+use Rattle.calendar.specs.Holidays.{easter, nine_of, holidays_of, years, holidays}
 use Rattle.calendar.proofs.HolidayLaws.{holidays-length, sums-turn, sums-end}
-use borrow.Author.Rules.{rules}
 use Rattle.calendar.proofs.holidays.mark.Goals as goal
 
 pub loop-i-init : goal.loop-i-init

@@ -1,7 +1,6 @@
 -- `calendar::working_days::kind_of` meets its contract: each return rewrites with the tests that led there.
 -- Assumes nothing.
 use mathlib.Core.Path.{sym, ◌∙◌}
-use borrow.Author.Rules.{rules}
 use borrow.Author.Tests.{le-leb, lt-leb}
 use Rattle.calendar.specs.Answers.{day_kind}
 use Rattle.calendar.proofs.working_days.kind_of.Goals as goal

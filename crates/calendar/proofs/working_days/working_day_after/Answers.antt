@@ -1,10 +1,8 @@
 -- `calendar::working_days::working_day_after` meets its contract. The loop's invariant: it counts from the day on (`Counting`).
 -- The measure is what is left of the calendar. Assumes nothing.
 use mathlib.Core.Path.{sym, ◌∙◌}
-use Prim.Native.Nat.{◌-◌}
 use native.Mathlib.Omega.{arith}
-use Rattle.calendar.specs.Dates.{last_day}
-use Rattle.calendar.proofs.WorkingLaws.{Counting, counting-starts, counting-on, counting-past, counting-there, counting-ends, after-outside}
+use Rattle.calendar.proofs.WorkingLaws.{counting-starts, counting-on, counting-past, counting-there, counting-ends, after-outside}
 use Rattle.calendar.proofs.working_days.working_day_after.Goals as goal
 
 pub returns-then-d-gt-LAST_DAY : goal.returns-then-d-gt-LAST_DAY

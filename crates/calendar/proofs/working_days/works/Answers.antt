@@ -1,7 +1,6 @@
 -- `calendar::working_days::works` meets its contract: each return rewrites with the tests that led there.
 -- Assumes nothing.
 use mathlib.Core.Path.{sym, ◌∙◌}
-use borrow.Author.Rules.{rules}
 use borrow.Author.Tests.{lt-ltb, le-ltb}
 use Rattle.calendar.specs.Dates.{weekday}
 use Rattle.calendar.specs.Holidays.{working}

@@ -1,7 +1,6 @@
 -- `reworking::rework::rework` meets its contract. Assumes nothing.
 use mathlib.Core.Path.{sym, ◌∙◌}
 use native.Mathlib.Omega.{arith}
-use borrow.Author.Tests.{not-true, not-false}
 use Rattle.store.specs.journals.Files.{file_count}
 use Rattle.store.specs.Reads.{lent}
 use Rattle.store.proofs.Checks.{long, few-lines}
@@ -19,25 +18,25 @@ returns-then-list-lt-NUMBERS c =
 pub returns-then-not-readable : goal.returns-then-not-readable
 returns-then-not-readable c =
     let a = c.args in
-    rework-unread (lent a.table.now a.files.now a.regular.now a.corrections.now a.entries.now) a.n a.list.now (omega (arith, c.if-list-lt-NUMBERS.false)) (sym c.readable.ensures ∙ not-true _ c.if-not-readable.true-raw)
+    rework-unread (lent a.table.now a.files.now a.regular.now a.corrections.now a.entries.now) a.n a.list.now (omega (arith, c.if-list-lt-NUMBERS.false)) (sym c.readable.ensures ∙ c.if-not-readable.true)
 
 pub files_among-k-requires : goal.files_among-k-requires
 files_among-k-requires c =
     let a = c.args in
     let b = lent a.table.now a.files.now a.regular.now a.corrections.now a.entries.now in
-    omega (arith, (long b (whole_long b (sym c.readable.ensures ∙ not-false _ c.if-not-readable.false-raw))).long-files)
+    omega (arith, (long b (whole_long b (sym c.readable.ensures ∙ c.if-not-readable.false))).long-files)
 
 pub line_count-m-requires : goal.line_count-m-requires
 line_count-m-requires c =
     let a = c.args in
     let b = lent a.table.now a.files.now a.regular.now a.corrections.now a.entries.now in
-    omega (arith, (long b (whole_long b (sym c.readable.ensures ∙ not-false _ c.if-not-readable.false-raw))).long-table)
+    omega (arith, (long b (whole_long b (sym c.readable.ensures ∙ c.if-not-readable.false))).long-table)
 
 pub rework_all-count-requires : goal.rework_all-count-requires
 rework_all-count-requires c =
     let a = c.args in
     let b = lent a.table.now a.files.now a.regular.now a.corrections.now a.entries.now in
-    let whole = sym c.readable.ensures ∙ not-false _ c.if-not-readable.false-raw in
+    let whole = sym c.readable.ensures ∙ c.if-not-readable.false in
     let room = long b (whole_long b whole) in
     let few = few-lines a.table.now (whole-table b whole) in
     let m = c.line_count-m.ensures.0 in
@@ -50,4 +49,4 @@ rework_all-count-requires c =
 pub returns : goal.returns
 returns c =
     let a = c.args in
-    rework-done (lent a.table.now a.files.now a.regular.now a.corrections.now a.entries.now) a.n a.list.now (omega (arith, c.if-list-lt-NUMBERS.false)) (sym c.readable.ensures ∙ not-false _ c.if-not-readable.false-raw) c.files_among-k.result c.line_count-m.result c.rework_all-count.result _ _ c.files_among-k.ensures c.line_count-m.ensures.0 c.rework_all-count.ensures
+    rework-done (lent a.table.now a.files.now a.regular.now a.corrections.now a.entries.now) a.n a.list.now (omega (arith, c.if-list-lt-NUMBERS.false)) (sym c.readable.ensures ∙ c.if-not-readable.false) c.files_among-k.result c.line_count-m.result c.rework_all-count.result _ _ c.files_among-k.ensures c.line_count-m.ensures.0 c.rework_all-count.ensures

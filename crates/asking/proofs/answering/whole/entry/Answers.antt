@@ -1,21 +1,20 @@
 -- `asking::answering::whole::entry` meets its contract. Assumes nothing.
 use mathlib.Core.Path.{sym, ◌∙◌}
-use borrow.Author.Tests.{not-true, not-false}
 use Rattle.asking.proofs.answering.Readables.{entry-unread, entry-asked, entry-fault}
 use Rattle.asking.proofs.answering.whole.entry.Goals as goal
 
 pub returns-then-not-readable : goal.returns-then-not-readable
 returns-then-not-readable c =
     let a = c.args in
-    c.not_held.ensures ∙ entry-unread a.table.now a.files.now a.regular.now a.corrections.now a.entries.now (sym c.readable.ensures ∙ not-true _ c.if-not-readable.true-raw) a.number
+    c.not_held.ensures ∙ entry-unread a.table.now a.files.now a.regular.now a.corrections.now a.entries.now (sym c.readable.ensures ∙ c.if-not-readable.true) a.number
 
 pub returns-in-Number : goal.returns-in-Number
 returns-in-Number c =
     let a = c.args in
     let x = c.in-Number in
-    rw x.is (entry-asked a.table.now a.files.now a.regular.now a.corrections.now a.entries.now (sym c.readable.ensures ∙ not-false _ c.if-not-readable.false-raw) x.x c.look.result c.entry_answer.result c.look.ensures c.entry_answer.ensures)
+    rw x.is (entry-asked a.table.now a.files.now a.regular.now a.corrections.now a.entries.now (sym c.readable.ensures ∙ c.if-not-readable.false) x.x c.look.result c.entry_answer.result c.look.ensures c.entry_answer.ensures)
 
 pub returns-in-Fault : goal.returns-in-Fault
 returns-in-Fault c =
     let a = c.args in
-    rw c.in-Fault.is (c.not_held-in-Fault.ensures ∙ entry-fault a.table.now a.files.now a.regular.now a.corrections.now a.entries.now (sym c.readable.ensures ∙ not-false _ c.if-not-readable.false-raw))
+    rw c.in-Fault.is (c.not_held-in-Fault.ensures ∙ entry-fault a.table.now a.files.now a.regular.now a.corrections.now a.entries.now (sym c.readable.ensures ∙ c.if-not-readable.false))

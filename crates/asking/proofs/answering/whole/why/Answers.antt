@@ -1,21 +1,20 @@
 -- `asking::answering::whole::why` meets its contract. Assumes nothing.
 use mathlib.Core.Path.{sym, ◌∙◌}
-use borrow.Author.Tests.{not-true, not-false}
 use Rattle.asking.proofs.answering.Readables.{why-unread, why-asked, why-fault}
 use Rattle.asking.proofs.answering.whole.why.Goals as goal
 
 pub returns-then-not-readable : goal.returns-then-not-readable
 returns-then-not-readable c =
     let a = c.args in
-    why-unread a.table.now a.files.now a.regular.now a.corrections.now a.entries.now (sym c.readable.ensures ∙ not-true _ c.if-not-readable.true-raw) a.number
+    why-unread a.table.now a.files.now a.regular.now a.corrections.now a.entries.now (sym c.readable.ensures ∙ c.if-not-readable.true) a.number
 
 pub returns-in-Number : goal.returns-in-Number
 returns-in-Number c =
     let a = c.args in
     let x = c.in-Number in
-    rw x.is (why-asked a.table.now a.files.now a.regular.now a.corrections.now a.entries.now (sym c.readable.ensures ∙ not-false _ c.if-not-readable.false-raw) x.x c.look.result c.why_answer.result c.look.ensures c.why_answer.ensures)
+    rw x.is (why-asked a.table.now a.files.now a.regular.now a.corrections.now a.entries.now (sym c.readable.ensures ∙ c.if-not-readable.false) x.x c.look.result c.why_answer.result c.look.ensures c.why_answer.ensures)
 
 pub returns-in-Fault : goal.returns-in-Fault
 returns-in-Fault c =
     let a = c.args in
-    rw c.in-Fault.is (why-fault a.table.now a.files.now a.regular.now a.corrections.now a.entries.now (sym c.readable.ensures ∙ not-false _ c.if-not-readable.false-raw))
+    rw c.in-Fault.is (why-fault a.table.now a.files.now a.regular.now a.corrections.now a.entries.now (sym c.readable.ensures ∙ c.if-not-readable.false))
