@@ -1,2 +1,1 @@
 pub mod Slashes
-pub mod Statuses
