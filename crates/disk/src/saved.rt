@@ -107,10 +107,10 @@ pub fn save(
     }
 }
 
-// Whether there is a store in the folder.
+// Whether there is a store in the folder. One whose name std can't take has none, and whoever makes it is told why.
 pub fn is_there(rt: &impl Host, folder: &[u8]) -> bool {
     match place::open_read(rt, folder, b"store") {
         Ok(_) => true,
-        Err(e) => e.kind() != ErrorKind::NotFound,
+        Err(e) => e.kind() != ErrorKind::NotFound && e.raw_os_error() != Some(EILSEQ),
     }
 }
