@@ -6,6 +6,7 @@ ghost use Rattle.disk.specs.Saved.{Loads};
 
 use crate::parts::Found;
 use crate::{CORRECTIONS, ENTRIES, FILES, REGULAR, TABLE, parts};
+use desk::place::EILSEQ;
 use desk::{Host, place};
 use std::io::{Error, ErrorKind};
 use words::{complain, failed};
