@@ -6,6 +6,7 @@ ghost use Rattle.disk.specs.Saved.{Loads};
 
 use crate::parts::Found;
 use crate::{CORRECTIONS, ENTRIES, FILES, REGULAR, TABLE, parts};
+use desk::place::EILSEQ;
 use desk::{Host, place};
 use std::io::{Error, ErrorKind};
 use words::{complain, failed};
@@ -107,10 +108,10 @@ pub fn save(
     }
 }
 
-// Whether there is a store in the folder.
+// Whether there is a store in the folder. One whose name std can't take has none, and whoever makes it is told why.
 pub fn is_there(rt: &impl Host, folder: &[u8]) -> bool {
     match place::open_read(rt, folder, b"store") {
         Ok(_) => true,
-        Err(e) => e.kind() != ErrorKind::NotFound,
+        Err(e) => e.kind() != ErrorKind::NotFound && e.raw_os_error() != Some(EILSEQ),
     }
 }
