@@ -204,6 +204,10 @@ change $edit 's/^wrong: byte_at_the_front/wrong: nine_is_no_digit/'
 fails 'text: nine_is_no_digit is there twice' tests/wrong.sh text
 add $edit '' 'wrong: once_more put_byte' 'file: src/lib.rt'
 fails 'put_byte is wrong twice at once' tests/wrong.sh text
+add $edit 'file: proofs/spell/Answers.antt'
+fails 'the answers that it changes are not those of put_digits: proofs/spell/Answers.antt' tests/wrong.sh text
+change crates/order/wrong/front_too_low.edit 's/^file: .*/file: src\/lib.rt/'
+fails 'is of definitions, and changes src/lib.rt' tests/wrong.sh order
 changed="$edit crates/text/must-fail/another.edit"
 mv $edit crates/text/must-fail/another.edit
 fails 'must-fail/another.edit has no wrong program of its name' tests/wrong.sh text

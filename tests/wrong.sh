@@ -3,7 +3,9 @@
 # be made, and each public function of a library has two at least, of which one is tried at each gate, unless no user meets the crate's functions (`inner` in
 # tests/outer). Above each change stands what is refused (tests/refused has the three forms): of code `wrong: NAME FUNCTION` or `FUNCTION.NEED`, and an edit may make several functions wrong at once; of a
 # definition `wrong: NAME FILE.THEOREM`, the theorem that does not hold with it, or the function that does not follow it. A crate has one edit of code in
-# must-fail, since each costs a check of the whole crate; its file is named by its strongest wrong program. With the name of a crate: of that crate alone.
+# must-fail, since each costs a check of the whole crate; its file is named by its strongest wrong program. A wrong program whose tests or calls have other names
+# may bring these along in the answers of its proof (`file: proofs/FUNCTION/Answers.antt`). An edit with a line `of: definitions` changes definitions alone.
+# With the name of a crate: of that crate alone.
 set -eu
 cd "$(dirname "$0")/.."
 # the program's crates: what they print and keep has no contract, and is tested
@@ -64,7 +66,7 @@ for folder in crates/${1:-*}/; do
         FNR == 1 {
             finish()
             split("", texts); split("", here); of = ""; label = FILENAME; sub(/.*\//, "", label); sub(/\.edit$/, "", label)
-            called = 0; split(FILENAME, path, "/"); folder = path[3]; joined = 0; told = 0
+            called = 0; split(FILENAME, path, "/"); folder = path[3]; joined = 0; told = 0; defines = 0
         }
         /^wrong: / {
             if (NF != 3) fail("not a name and what is refused: " $0)
@@ -82,6 +84,9 @@ for folder in crates/${1:-*}/; do
             count[of]++; fresh = 0
             if (folder == "must-fail") { always[of]++; if (!joined++ && edits++) fail("two edits of functions are tried at each gate: " FILENAME " is one too many") }
         }
+        /^of: definitions$/ { defines = 1 }
+        /^file: / && defines && !/^file: specs\// { fail(FILENAME " is of definitions, and changes " $2) }
+        /^file: proofs\// && $2 !~ ("/[+]?" last "/Answers[.]antt$") { fail(FILENAME ": the answers that it changes are not those of " last ": " $2) }
         /^file: / { file = "crates/" crate "/" substr($0, 7); if (!(file in texts)) texts[file] = read(file); text = texts[file] }
         /^old: / {
             if (!told) fail(FILENAME ": above a change nothing says what is refused")
