@@ -1,4 +1,5 @@
 -- The line that is found in the buffer is the model's line of the number, and the entry beside it the model's. Assumes nothing.
+use Rattle.std.specs.Prelude.{Option, Some, None}
 use mathlib.Core.Path.{◌≡◌, refl, sym, ap, ◌∙◌}
 use mathlib.Core.Bool.{Bool, true, false, cond}
 use mathlib.Core.List.{List, [], ◌∷◌, map}
@@ -20,7 +21,6 @@ use Rattle.rules.specs.Rules.{rules}
 use Rattle.store.specs.numbers.Lines.{line_at, line_count, lines_of}
 use Rattle.store.specs.numbers.Find.{is_of, found_line}
 use Rattle.store.specs.declared.numbers.lines.Line.{Line}
-use Rattle.store.specs.declared.numbers.find.FoundLine.TheVariants.{At, Unknown}
 use Rattle.store.specs.Reads.{table_line}
 use Rattle.asking.specs.Items.{item_at}
 use Rattle.asking.specs.Standing.{lines_in}
@@ -66,32 +66,32 @@ module _ (t : List ℕ) (x : Number) (room : 2 + line_count t * 14 ≤ length t)
   abbrev place : ℕ
   place = first_at (is_of x) (lines_of t)
 
-  at_place : (i : ℕ) → At i ≡ found_line t x → (i < line_count t) × (place ≡ i)
+  at_place : (i : ℕ) → Some i ≡ found_line t x → (i < line_count t) × (place ≡ i)
   unfolding found_line
-  at_place i e = go (ltb place (line_count t)) refl (e ∙ ap (λ (b : Bool). cond b (cond (ltb place (line_count t)) (At place) Unknown) Unknown) (le-leb (2 + line_count t * 14) (length t) room))
+  at_place i e = go (ltb place (line_count t)) refl (e ∙ ap (λ (b : Bool). cond b (cond (ltb place (line_count t)) (Some place) None) None) (le-leb (2 + line_count t * 14) (length t) room))
     where
-      go : (b : Bool) → ltb place (line_count t) ≡ b → At i ≡ cond b (At place) Unknown → (i < line_count t) × (place ≡ i)
+      go : (b : Bool) → ltb place (line_count t) ≡ b → Some i ≡ cond b (Some place) None → (i < line_count t) × (place ≡ i)
       go true q h = let s : place ≡ i = cc in (rw s at (ltb-true place (line_count t) q), s)
       go false q h = let z : ◌≡◌ {A = ℕ} 0 1 = cc in absurd (omega arith)
 
-  at-end : Unknown ≡ found_line t x → line_count t ≤ place
+  at-end : None ≡ found_line t x → line_count t ≤ place
   unfolding found_line
-  at-end e = go (ltb place (line_count t)) refl (e ∙ ap (λ (b : Bool). cond b (cond (ltb place (line_count t)) (At place) Unknown) Unknown) (le-leb (2 + line_count t * 14) (length t) room))
+  at-end e = go (ltb place (line_count t)) refl (e ∙ ap (λ (b : Bool). cond b (cond (ltb place (line_count t)) (Some place) None) None) (le-leb (2 + line_count t * 14) (length t) room))
     where
-      go : (b : Bool) → ltb place (line_count t) ≡ b → Unknown ≡ cond b (At place) Unknown → line_count t ≤ place
+      go : (b : Bool) → ltb place (line_count t) ≡ b → None ≡ cond b (Some place) None → line_count t ≤ place
       go true q h = let z : ◌≡◌ {A = ℕ} 0 1 = cc in absurd (omega arith)
       go false q h = ltb-false place (line_count t) q
 
-  pub found_below : (i : ℕ) → At i ≡ found_line t x → i < line_count t
+  pub found_below : (i : ℕ) → Some i ≡ found_line t x → i < line_count t
   found_below i e = (at_place i e).0
 
-  pub found-line : (i : ℕ) → At i ≡ found_line t x → line_of rules (lines_in t) x ≡ some (table_line (line_at t i))
+  pub found-line : (i : ℕ) → Some i ≡ found_line t x → line_of rules (lines_in t) x ≡ some (table_line (line_at t i))
   unfolding lines_of
   found-line i e =
       line-item x (lines_of t) ∙ ap (λ (k : ℕ). Option.map table_line (item_at (lines_of t) k)) (at_place i e).1
       ∙ ap (Option.map table_line) (item-table (line_count t) i (line_at t) (at_place i e).0)
 
-  pub no_line : Unknown ≡ found_line t x → line_of rules (lines_in t) x ≡ none
+  pub no_line : None ≡ found_line t x → line_of rules (lines_in t) x ≡ none
   unfolding lines_of
   no_line e = line-item x (lines_of t) ∙ ap (Option.map table_line) (item-beyond (line_count t) place (line_at t) (at-end e))
 
@@ -100,10 +100,10 @@ module _ (t : List ℕ) (x : Number) (room : 2 + line_count t * 14 ≤ length t)
     unfolding lines_of
     as_many = length-table (line_count t) g ∙ sym (length-table (line_count t) (line_at t))
 
-    pub found-entry : (i : ℕ) → At i ≡ found_line t x → entry_of rules (lines_in t) (table (line_count t) g) x ≡ some (g i)
+    pub found-entry : (i : ℕ) → Some i ≡ found_line t x → entry_of rules (lines_in t) (table (line_count t) g) x ≡ some (g i)
     found-entry i e =
         entry-item x (lines_of t) (table (line_count t) g) as_many ∙ ap (item_at (table (line_count t) g)) (at_place i e).1
         ∙ item-table (line_count t) i g (at_place i e).0
 
-    pub no-entry : Unknown ≡ found_line t x → entry_of rules (lines_in t) (table (line_count t) g) x ≡ none
+    pub no-entry : None ≡ found_line t x → entry_of rules (lines_in t) (table (line_count t) g) x ≡ none
     no-entry e = entry-item x (lines_of t) (table (line_count t) g) as_many ∙ item-beyond (line_count t) place g (at-end e)

@@ -1,4 +1,5 @@
 -- The record at a place of a journal is the one of its file. Assumes nothing.
+use Rattle.std.specs.Prelude.{Option, Some, None}
 use mathlib.Core.Path.{◌≡◌, refl, sym, ap, ◌∙◌}
 use mathlib.Core.Bool.{Bool, true, false, cond}
 use mathlib.Core.List.{List, [], ◌∷◌, ◌++◌, head?, flat_map}
@@ -26,7 +27,6 @@ use Rattle.store.proofs.journals.FirstFiles.{filed-end}
 use Rattle.rules.specs.Rules.{rules, record_of}
 use Rattle.store.specs.numbers.Lines.{line_count, line_at}
 use Rattle.store.specs.numbers.Find.{found_line}
-use Rattle.store.specs.declared.numbers.find.FoundLine.TheVariants.{At, Unknown}
 use Rattle.store.specs.Reads.{table_line}
 use Rattle.working.specs.Working.{record_in}
 use Rattle.working.proofs.SlipLaws.{records-more, own-records, records-grow}
@@ -173,10 +173,10 @@ module _ (t f r c : List ℕ) (files : List Filed) (k at : ℕ) (room : 2 + line
       ap (λ (m : Option (TableLine Number)). shown_with (said_by (record_in f r c k at)) (point_verdict files (record_in f r c k at) (record_of (record_in f r c k at)) m))
       (sym e ∙ ap (λ (u : Said). line_of rules (lines_in t) u.number) said)
 
-  pub asked-unknown : Unknown ≡ found_line t s.number → shown_with s Verdict.UnknownNumber ≡ asked_as (lines_in t) files (record_in f r c k at)
+  pub asked-unknown : None ≡ found_line t s.number → shown_with s Verdict.UnknownNumber ≡ asked_as (lines_in t) files (record_in f r c k at)
   asked-unknown q = ap (λ (u : Said). shown_with u Verdict.UnknownNumber) said ∙ as-asked none (no_line t s.number room q)
 
-  pub asked_here : (i : ℕ) → At i ≡ found_line t s.number → (v : Verdict) → v ≡ point_verdict files (record_in f r c k at) s.rec (some (table_line (line_at t i)))
+  pub asked_here : (i : ℕ) → Some i ≡ found_line t s.number → (v : Verdict) → v ≡ point_verdict files (record_in f r c k at) s.rec (some (table_line (line_at t i)))
       → shown_with s v ≡ asked_as (lines_in t) files (record_in f r c k at)
   asked_here i q v ev =
       ap (shown_with s) ev ∙ ap (λ (u : Said). shown_with u (point_verdict files (record_in f r c k at) u.rec (some (table_line (line_at t i))))) said

@@ -1,4 +1,5 @@
 -- The answers on where a line stands and on a number's entry, put together from what the code found. Assumes nothing.
+use Rattle.std.specs.Prelude.{Option, Some, None}
 use mathlib.Core.Path.{◌≡◌, refl, sym, ap, ◌∙◌}
 use mathlib.Core.Bool.{Bool, true, false, cond, ◌&&◌}
 use mathlib.Core.List.{List, [], ◌∷◌, ◌++◌}
@@ -24,7 +25,6 @@ use Rattle.rules.specs.Rules.{rules, standings}
 use Rattle.rules.proofs.Promises.{standing-entry}
 use Rattle.store.specs.numbers.Lines.{line_at, line_count, lines_of}
 use Rattle.store.specs.numbers.Find.{found_line}
-use Rattle.store.specs.declared.numbers.find.FoundLine.TheVariants.{At, Unknown}
 use Rattle.store.specs.Reads.{table_line}
 use Rattle.asking.specs.declared.answer.Answer.TheVariants.{Shown, UnknownNumber}
 use Rattle.asking.specs.declared.looks.Look.{Look}
@@ -117,21 +117,21 @@ module _ (t e : List ℕ) where
 
 module _ (t : List ℕ) (x : Number) (room : 2 + line_count t * 14 ≤ length t) where
   module _ (g : ℕ → Entry) where
-    pub held-unknown : Unknown ≡ found_line t x → not_held UnknownNumber ≡ entry_in (lines_in t) (table (line_count t) g) x
+    pub held-unknown : None ≡ found_line t x → not_held UnknownNumber ≡ entry_in (lines_in t) (table (line_count t) g) x
     unfolding entry_in
     held-unknown q = sym (ap held_as (no-entry t x room g q))
 
-    pub held-here : (i : ℕ) (y : Entry) → At i ≡ found_line t x → y ≡ g i → ◌≡◌ {A = EntryAnswer} (record { answer = Shown; entry = y }) (entry_in (lines_in t) (table (line_count t) g) x)
+    pub held-here : (i : ℕ) (y : Entry) → Some i ≡ found_line t x → y ≡ g i → ◌≡◌ {A = EntryAnswer} (record { answer = Shown; entry = y }) (entry_in (lines_in t) (table (line_count t) g) x)
     unfolding entry_in
     held-here i y q p = (λ k. record { answer = Shown; entry = p k }) ∙ sym (ap held_as (found-entry t x room g i q))
 
   -- ---- the entry before a file arrived
   module _ (files : List Filed) (n : ℕ) where
-    pub before-unknown : Unknown ≡ found_line t x → not_held UnknownNumber ≡ entry_before (lines_in t) files n x
+    pub before-unknown : None ≡ found_line t x → not_held UnknownNumber ≡ entry_before (lines_in t) files n x
     unfolding entry_before
     before-unknown q = sym (ap (λ l. held_as (Option.map (entry_over rules (take n files)) l)) (no_line t x room q))
 
-    pub before_here : (i : ℕ) (y : Entry) (s : Standing) → At i ≡ found_line t x → s ≡ entry_over standings (take n files) (table_line (line_at t i)) → y ≡ s.entry
+    pub before_here : (i : ℕ) (y : Entry) (s : Standing) → Some i ≡ found_line t x → s ≡ entry_over standings (take n files) (table_line (line_at t i)) → y ≡ s.entry
         → ◌≡◌ {A = EntryAnswer} (record { answer = Shown; entry = y }) (entry_before (lines_in t) files n x)
     unfolding entry_before
     before_here i y s q e p =

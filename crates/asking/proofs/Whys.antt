@@ -1,4 +1,5 @@
 -- The look at why, put together from what the code found. Assumes nothing.
+use Rattle.std.specs.Prelude.{Some, None}
 use mathlib.Core.Path.{◌≡◌, sym, ap, ◌∙◌}
 use mathlib.Core.Bool.{Bool, true, false, cond}
 use mathlib.Core.List.{List}
@@ -15,7 +16,6 @@ use Rattle.store.specs.journals.Reads.{read_files}
 use Rattle.rules.specs.Rules.{rules, standings}
 use Rattle.store.specs.numbers.Lines.{line_at, line_count}
 use Rattle.store.specs.numbers.Find.{found_line}
-use Rattle.store.specs.declared.numbers.find.FoundLine.TheVariants.{At, Unknown}
 use Rattle.store.specs.Reads.{table_line}
 use Rattle.asking.specs.declared.looks.LookedWhy.{LookedWhy}
 use Rattle.asking.specs.declared.looks.LookedWhy.TheVariants.{UnknownNumber, Unshowable}
@@ -38,11 +38,11 @@ module _ (t f r c : List ℕ) (x : Number) where
     room : 2 + line_count t * 14 ≤ length t
     room = let s = showable t f r c yes in omega (arith, s.long-table, s.few-lines)
 
-    pub why-unknown : Unknown ≡ found_line t x → UnknownNumber ≡ why_looked t f r c x
+    pub why-unknown : None ≡ found_line t x → UnknownNumber ≡ why_looked t f r c x
     unfolding why_looked why_in
     why-unknown q = rw (yes, no_line t x room q)
 
-    pub why-pair : (i n : ℕ) (s : Standing) (a : LookedWhy) → At i ≡ found_line t x → n ≡ file_count f → s ≡ entry_over standings (take n (read_files f r c)) (table_line (line_at t i))
+    pub why-pair : (i n : ℕ) (s : Standing) (a : LookedWhy) → Some i ≡ found_line t x → n ≡ file_count f → s ≡ entry_over standings (take n (read_files f r c)) (table_line (line_at t i))
         → a ≡ why_look (listed_pair (table n (file_at f)) s.why) → a ≡ why_looked t f r c x
     unfolding why_looked why_in
     why-pair i n s a q en es ea =

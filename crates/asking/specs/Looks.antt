@@ -1,10 +1,10 @@
 -- A look: it shows from any bytes that can be shown from what a store answers, without judging whether all of it reads. It is no answer of paper 01, and
 -- has no number there. Assumes nothing: these are definitions.
+use Rattle.std.specs.Prelude.{Option, None}
 use Rattle.std.specs.Prelude.{cond, List, ℕ, take}
 use Rattle.std.proofs.Math.Option.{Option, none, some}
 use Rattle.laws.specs.Lists.{table}
 use Rattle.fields.specs.declared.number.Number.{Number}
-use Rattle.entries.specs.declared.entry.Listed.TheVariants.{Missing}
 use Rattle.entries.specs.Entry.{line_in}
 use Rattle.verdict.specs.Step.{first_standing}
 use Rattle.model.specs.Rules.{TableLine}
@@ -81,7 +81,7 @@ before_looked t f r c n number = cond (is_showable t f r c) (entry_look (entry_b
 
 -- ---- where a line stands, worked out over the first n files: its entry, and the pair that confirmed last
 abbrev pub not_stood : Look → LookedStanding
-not_stood l = record { look = l; standing = first_standing (line_in Missing) }
+not_stood l = record { look = l; standing = first_standing (line_in None) }
 
 abbrev pub stood_on : List Filed → Option (TableLine Number) → LookedStanding
 stood_on files none = not_stood Look.UnknownNumber

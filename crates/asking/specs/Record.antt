@@ -1,9 +1,9 @@
 -- A filed record by journal and place (paper 01, "Verdicts on reports", the last paragraph). Assumes nothing: these are definitions.
+use Rattle.std.specs.Prelude.{Option, Some}
 use Rattle.std.specs.Prelude.{◌≡◌, List, ℕ, ◌+◌, ◌≤◌, ◌<◌}
 use Rattle.std.proofs.Math.Option.{Option, none, some}
 use Rattle.laws.specs.Lists.{table}
 use Rattle.fields.specs.declared.number.Number.{Number}
-use Rattle.entries.specs.declared.entry.Listed.TheVariants.{With}
 use Rattle.verdict.specs.declared.verdicts.Verdict.{Verdict}
 use Rattle.verdict.specs.declared.verdicts.Verdict.TheVariants.{UnknownNumber}
 use Rattle.verdict.specs.declared.step.Record.{Record}
@@ -35,7 +35,7 @@ said_by e = record { number = number_of rules e; rec = record_of e }
 -- it is 12
 abbrev pub point_verdict : List Filed → Event → Record → Option (TableLine Number) → Verdict
 point_verdict files e rec none = UnknownNumber
-point_verdict files e rec (some line) = verdict_on (With (line_by line)) (worked rules line (before rules e (history rules files line.number))) rec
+point_verdict files e rec (some line) = verdict_on (Some (line_by line)) (worked rules line (before rules e (history rules files line.number))) rec
 
 -- ---- the record
 abbrev pub asked_as : List (TableLine Number) → List Filed → Event → AskedRecord

@@ -1,10 +1,10 @@
 -- A number's entry, as the store holds it and as it stood before a file arrived. Assumes nothing: these are definitions.
+use Rattle.std.specs.Prelude.{Option, None}
 use Rattle.std.specs.Prelude.{Bool, ◌&&◌, List, map, ℕ, leb, length, take}
 use Rattle.std.proofs.Math.Option
 use Rattle.std.proofs.Math.Option.{Option, none, some}
 use Rattle.fields.specs.declared.number.Number.{Number}
 use Rattle.entries.specs.declared.entry.Entry.{Entry}
-use Rattle.entries.specs.declared.entry.Listed.TheVariants.{Missing}
 use Rattle.entries.specs.Entry.{first_entry, line_in}
 use Rattle.model.specs.Rules.{TableLine}
 use Rattle.model.specs.Model.{Filed, entry_over, line_of, entry_of}
@@ -22,7 +22,7 @@ lines_in t = map table_line (lines_of t)
 -- ---- the entry of a number
 -- the one beside an answer that shows none: that of no line
 abbrev pub no_entry : Entry
-no_entry = first_entry (line_in Missing)
+no_entry = first_entry (line_in None)
 
 abbrev pub not_held : Answer → EntryAnswer
 not_held a = record { answer = a; entry = no_entry }

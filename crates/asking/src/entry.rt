@@ -7,9 +7,8 @@ use crate::answer::Answer;
 use crate::looks::{Look, LookedEntry};
 use crate::{showable, stand};
 use entries::entry;
-use entries::entry::{Entry, Listed};
+use entries::entry::Entry;
 use fields::number::Number;
-use store::numbers::find::FoundLine;
 use store::numbers::{find, lines};
 use store::readable::ENTRIES_LENGTH;
 
@@ -24,7 +23,7 @@ pub struct EntryAnswer {
 fn no_entry() -> Entry
     ensures { result ≡ no_entry }
 {
-    let none = entry::line_in(Listed::Missing);
+    let none = entry::line_in(None);
     entry::first(none)
 }
 
@@ -72,14 +71,14 @@ pub fn look(table: &[u8], entries: &[u8], number: Number) -> LookedEntry
     }
     let found = find::find_line(table, number);
     match found {
-        FoundLine::At(i) => {
+        Some(i) => {
             let e = store::entry_slots::entry::entry_at(entries, i);
             LookedEntry {
                 look: Look::Shown,
                 entry: e,
             }
         }
-        FoundLine::Unknown => not_seen(Look::UnknownNumber),
+        None => not_seen(Look::UnknownNumber),
     }
 }
 
@@ -99,7 +98,7 @@ pub fn look_before<'a>(
     }
     let found = find::find_line(table, number);
     match found {
-        FoundLine::At(i) => {
+        Some(i) => {
             let m = stand::files_among(files, n);
             let s = stand::standing_at(table, files, m, regular, corrections, i);
             let e = s.entry;
@@ -108,6 +107,6 @@ pub fn look_before<'a>(
                 entry: e,
             }
         }
-        FoundLine::Unknown => not_seen(Look::UnknownNumber),
+        None => not_seen(Look::UnknownNumber),
     }
 }

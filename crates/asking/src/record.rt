@@ -1,7 +1,6 @@
 // A filed record by journal and place: its file, its verdict at its own point of the history, and its bytes as a part of its journal.
 ghost use Rattle.std.specs.Prelude.{◌≡◌, ◌+◌, ◌*◌, ◌≤◌, ◌<◌, length, take};
 ghost use Rattle.std.proofs.Math.Option.{some};
-ghost use Rattle.entries.specs.declared.entry.Listed.TheVariants.{With};
 ghost use Rattle.store.specs.journals.Files.{file_at};
 ghost use Rattle.store.specs.journals.Reads.{read_files};
 ghost use Rattle.store.specs.numbers.Lines.{line_count, line_at};
@@ -14,12 +13,11 @@ ghost use Rattle.asking.specs.Looks.{record_looked};
 use crate::looks::LookedRecord;
 use crate::showable;
 use calendar::dates::CalendarDays;
-use entries::entry::{Line, Listed};
+use entries::entry::Line;
 use fields::code::Code;
 use fields::number::Number;
 use store::journals::records::{Journal, REPORTS};
 use store::journals::{files, records, sums};
-use store::numbers::find::FoundLine;
 use store::numbers::{find, lines};
 use verdict::step;
 use verdict::step::Record;
@@ -145,7 +143,7 @@ fn verdict_at<'a>(
         setup: setup,
     };
     let e = before::entry_before(files, n, regular, corrections, number, line, k, at);
-    step::verdict(Listed::With(line), e, rec)
+    step::verdict(Some(line), e, rec)
 }
 
 // A record with its verdict.
@@ -182,11 +180,11 @@ fn asked_at<'a>(
     let rec = s.rec;
     let found = find::find_line(table, number);
     match found {
-        FoundLine::At(i) => {
+        Some(i) => {
             let v = verdict_at(table, files, n, regular, corrections, k, at, i, rec);
             with_verdict(rec, at, v)
         }
-        FoundLine::Unknown => with_verdict(rec, at, Verdict::UnknownNumber),
+        None => with_verdict(rec, at, Verdict::UnknownNumber),
     }
 }
 

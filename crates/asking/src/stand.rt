@@ -12,7 +12,7 @@ ghost use Rattle.asking.specs.Looks.{not_stood, standing_looked};
 use crate::looks::{Look, LookedStanding};
 use crate::showable;
 use entries::entry;
-use entries::entry::{Line, Listed};
+use entries::entry::Line;
 use store::journals::files;
 use store::numbers::lines;
 use verdict::step;
@@ -23,7 +23,7 @@ use working::work;
 fn not_stood(look: Look) -> LookedStanding
     ensures { result ≡ not_stood look }
 {
-    let none = entry::line_in(Listed::Missing);
+    let none = entry::line_in(None);
     let s = step::first(none);
     LookedStanding {
         look: look,

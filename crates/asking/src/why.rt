@@ -10,7 +10,6 @@ use fields::number::Number;
 use store::journals::records::{Journal, REPORTS};
 use store::journals::{files, records};
 use store::numbers::find;
-use store::numbers::find::FoundLine;
 
 // Why a number stands where it does: a look.
 pub fn look<'a>(
@@ -27,13 +26,13 @@ pub fn look<'a>(
     }
     let found = find::find_line(table, number);
     match found {
-        FoundLine::At(i) => {
+        Some(i) => {
             let n = files::file_count(files);
             let s = stand::standing_at(table, files, n, regular, corrections, i);
             let w = s.why;
             crate::pairs::pair_in(files, n, w)
         }
-        FoundLine::Unknown => LookedWhy::UnknownNumber,
+        None => LookedWhy::UnknownNumber,
     }
 }
 

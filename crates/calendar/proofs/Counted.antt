@@ -1,5 +1,8 @@
 -- The closed rules and the count year by year agree on the whole calendar: both begin with 1998 at 0, and from each year to the next both grow by the days that it has.
+use Rattle.std.specs.Prelude.{Option}
+use Rattle.calendar.specs.declared.dates.CalendarDays.{CalendarDays}
 -- Assumes nothing.
+use Rattle.std.specs.Prelude.{Some, None}
 use mathlib.Core.Path.{◌≡◌, refl, ap}
 use mathlib.Core.Bool.{Bool, true, false, cond}
 use Prim.Native.Nat.{ℕ, zero, suc, ◌+◌, ◌-◌, ◌≤◌, ◌<◌}
@@ -12,8 +15,6 @@ use Rattle.calendar.specs.Dates.{last_day, year_days, year_start, month_start, d
 use Rattle.calendar.specs.Answers.{day_of, date_in, date_of}
 use Rattle.calendar.specs.Counted.{counted_start, counted_number, counted_day, counted_year, counted_date, ClosedIsCounted}
 use Rattle.calendar.specs.declared.dates.Date.{Date}
-use Rattle.calendar.specs.declared.dates.Dated.TheVariants.{At, Beyond}
-use Rattle.calendar.specs.declared.dates.Found.TheVariants.{Day, Fault}
 use Rattle.calendar.proofs.DateLaws.{year_start-next, last_from-is, year-at}
 use Rattle.calendar.proofs.Dating.{valid-parts}
 
@@ -51,10 +52,10 @@ unfolding day_of counted_day
 day-counted x = go (valid x.year x.month x.day) refl
   where
     go : (t : Bool) → valid x.year x.month x.day ≡ t
-        → cond t (Day (record { 0 = day_number x.year x.month x.day })) Fault ≡ cond t (Day (record { 0 = counted_number x.year x.month x.day })) Fault
+        → cond {A = Option CalendarDays} t (Some (record { 0 = day_number x.year x.month x.day })) None ≡ cond {A = Option CalendarDays} t (Some (record { 0 = counted_number x.year x.month x.day })) None
     go true e =
         let v = valid-parts x.year x.month x.day e in
-        ap (λ (n : ℕ). Day (record { 0 = n })) (number-counted x.year x.month x.day v.from (omega arith))
+        ap (λ (n : ℕ). Some (record { 0 = n })) (number-counted x.year x.month x.day v.from (omega arith))
     go false e = refl
 
 -- ---- from day to date
@@ -77,7 +78,7 @@ date-counted : (n : ℕ) → date_of n ≡ counted_date n
 unfolding date_of counted_date
 date-counted n = go (leb n last_day) refl
   where
-    go : (t : Bool) → leb n last_day ≡ t → cond t (At (date_in (year_of n) (n - year_start (year_of n)))) Beyond ≡ cond t (At (date_in (counted_year n) (n - counted_start (counted_year n)))) Beyond
+    go : (t : Bool) → leb n last_day ≡ t → cond t (Some (date_in (year_of n) (n - year_start (year_of n)))) None ≡ cond t (Some (date_in (counted_year n) (n - counted_start (counted_year n)))) None
     go true e =
         let h : n ≤ last_day = leb-true n last_day e in
         let at = year-at n h in

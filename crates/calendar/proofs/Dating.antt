@@ -1,5 +1,6 @@
 -- The date of a day is the one whose day it is: each day of the calendar has that one date, and no other day has any.
 -- Assumes nothing.
+use Rattle.std.specs.Prelude.{Option, Some, None}
 use mathlib.Core.Path.{◌≡◌, refl, sym, ◌∙◌, ap, subst}
 use mathlib.Core.Bool.{Bool, true, false, cond}
 use Prim.Native.Nat.{ℕ, ◌+◌, ◌-◌, ◌≤◌, ◌<◌}
@@ -13,9 +14,6 @@ use Rattle.calendar.specs.Answers.{day_of, date_in, date_of}
 use Rattle.calendar.specs.Meaning.{IsDated}
 use Rattle.calendar.specs.declared.dates.CalendarDays.{CalendarDays}
 use Rattle.calendar.specs.declared.dates.Date.{Date}
-use Rattle.calendar.specs.declared.dates.Dated.{Dated}
-use Rattle.calendar.specs.declared.dates.Dated.TheVariants.{At, Beyond}
-use Rattle.calendar.specs.declared.dates.Found.TheVariants.{Day, Fault}
 use Rattle.calendar.proofs.DateLaws.{month-real, year_start-next, year_start-mono, year_start-end, month_start-next, month_start-mono, month_start-end, year-at, month-at}
 
 -- ---- what makes a date
@@ -38,13 +36,13 @@ valid-parts y m d e =
     record { from = leb-true _ _ (and_left (leb 1998 y) _ e); to = leb-true _ _ (and_left (leb y 2049) _ a); one = leb-true _ _ (and_left (leb 1 d) _ b); most = leb-true _ _ c }
 
 -- what a day that was found says
-found-parts : (v : Bool) (k n : ℕ) → cond v (Day (record { 0 = k })) Fault ≡ Day (record { 0 = n }) → (v ≡ true) × (k ≡ n)
+found-parts : (v : Bool) (k n : ℕ) → cond {A = Option CalendarDays} v (Some (record { 0 = k })) None ≡ Some (record { 0 = n }) → (v ≡ true) × (k ≡ n)
 found-parts true k n e =
     let f : ◌≡◌ {A = CalendarDays} (record { 0 = k }) (record { 0 = n }) = cc in
     (refl, ap (λ (r : CalendarDays). r.0) f)
 found-parts false k n e = let z : ◌≡◌ {A = ℕ} 0 1 = cc in absurd (omega arith)
 
-dated-parts : (x : Date) (n : ℕ) → day_of x ≡ Day (record { 0 = n }) → Valid x.year x.month x.day × (day_number x.year x.month x.day ≡ n)
+dated-parts : (x : Date) (n : ℕ) → day_of x ≡ Some (record { 0 = n }) → Valid x.year x.month x.day × (day_number x.year x.month x.day ≡ n)
 unfolding day_of
 dated-parts x n e =
     let p = found-parts (valid x.year x.month x.day) (day_number x.year x.month x.day) n e in
@@ -84,50 +82,50 @@ one-date y m d z n e v w h =
     (f, g, omega (arith, ap year_start f, ap (month_start y) g, ap (λ (k : ℕ). month_start k n) f))
 
 -- a day has one date, or none
-pub dated-one : (n : ℕ) (a b : Dated) → IsDated n a → IsDated n b → a ≡ b
-dated-one n (At x) (At y) p q =
+pub dated-one : (n : ℕ) (a b : Option Date) → IsDated n a → IsDated n b → a ≡ b
+dated-one n (Some x) (Some y) p q =
     let v = dated-parts x n p in
     let w = dated-parts y n q in
     let e = one-date x.year x.month x.day y.year y.month y.day v.0 w.0 (v.1 ∙ sym w.1) in
-    λ i. At (record { year = e.0 i; month = e.1 i; day = e.2 i })
-dated-one n (At x) Beyond p q =
+    λ i. Some (record { year = e.0 i; month = e.1 i; day = e.2 i })
+dated-one n (Some x) None p q =
     let v = dated-parts x n p in
     absurd (omega (arith, day_number-inside x.year x.month x.day v.0))
-dated-one n Beyond (At y) p q =
+dated-one n None (Some y) p q =
     let v = dated-parts y n q in
     absurd (omega (arith, day_number-inside y.year y.month y.day v.0))
-dated-one n Beyond Beyond p q = refl
+dated-one n None None p q = refl
 
 -- ---- the definition has this meaning
-in-month : (y n : ℕ) → 1998 ≤ y → y ≤ 2049 → n < year_days y → day_of (date_in y n) ≡ Day (record { 0 = year_start y + n })
+in-month : (y n : ℕ) → 1998 ≤ y → y ≤ 2049 → n < year_days y → day_of (date_in y n) ≡ Some (record { 0 = year_start y + n })
 unfolding day_of date_in day_number
 in-month y n a b h =
     let at = month-at y n h in
     let d : ℕ = n - month_start y (month_of y n) + 1 in
     let v : Valid y (month_of y n) d = record { from = a; to = b; one = omega arith; most = omega arith } in
     let e : year_start y + month_start y (month_of y n) + (d - 1) ≡ year_start y + n = omega arith in
-    rw (valid-there y (month_of y n) d v) (ap (λ (z : ℕ). Day (record { 0 = z })) e)
+    rw (valid-there y (month_of y n) d v) (ap (λ (z : ℕ). Some (record { 0 = z })) e)
 
 pub dated : (n : ℕ) → IsDated n (date_of n)
 unfolding date_of
 dated n = go (leb n last_day) refl
   where
-    go : (t : Bool) → leb n last_day ≡ t → IsDated n (cond t (At (date_in (year_of n) (n - year_start (year_of n)))) Beyond)
+    go : (t : Bool) → leb n last_day ≡ t → IsDated n (cond t (Some (date_in (year_of n) (n - year_start (year_of n)))) None)
     go true e =
         let at = year-at n (leb-true n last_day e) in
         let s : year_start (year_of n) + (n - year_start (year_of n)) ≡ n = omega arith in
-        in-month (year_of n) (n - year_start (year_of n)) at.first at.last (omega arith) ∙ ap (λ (z : ℕ). Day (record { 0 = z })) s
+        in-month (year_of n) (n - year_start (year_of n)) at.first at.last (omega arith) ∙ ap (λ (z : ℕ). Some (record { 0 = z })) s
     go false e = leb-false n last_day e
 
 -- from a date to its day and back; from a day to its date and back
-pub date-back : (x : Date) (n : ℕ) → day_of x ≡ Day (record { 0 = n }) → date_of n ≡ At x
-date-back x n e = dated-one n (date_of n) (At x) (dated n) e
+pub date-back : (x : Date) (n : ℕ) → day_of x ≡ Some (record { 0 = n }) → date_of n ≡ Some x
+date-back x n e = dated-one n (date_of n) (Some x) (dated n) e
 
-pub day-back : (n : ℕ) (x : Date) → date_of n ≡ At x → day_of x ≡ Day (record { 0 = n })
+pub day-back : (n : ℕ) (x : Date) → date_of n ≡ Some x → day_of x ≡ Some (record { 0 = n })
 day-back n x e = subst (IsDated n) e (dated n)
 
 -- a day that was found lies in the calendar
-pub found_inside : (x : Date) (n : ℕ) → day_of x ≡ Day (record { 0 = n }) → n ≤ last_day
+pub found_inside : (x : Date) (n : ℕ) → day_of x ≡ Some (record { 0 = n }) → n ≤ last_day
 found_inside x n e =
     let v = dated-parts x n e in
     omega (arith, day_number-inside x.year x.month x.day v.0)

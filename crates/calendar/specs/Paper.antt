@@ -1,20 +1,20 @@
 -- What the paper says of single days: on each line what the definitions say, and what the paper says.
 -- Assumes nothing: these are definitions.
+use Rattle.calendar.specs.declared.dates.CalendarDays.{CalendarDays}
+use Rattle.std.specs.Prelude.{Option, Some}
 use Rattle.std.specs.Prelude.{◌≡◌, List, [], ◌∷◌, true, cond, ℕ, eqb, length}
 use Rattle.laws.specs.Order.{never_falls}
 use Rattle.calendar.specs.Dates.{last_day, day_number}
 use Rattle.calendar.specs.Holidays.{holidays}
 use Rattle.calendar.specs.Answers.{day_of, weekday_of}
 use Rattle.calendar.specs.declared.dates.Date.{Date}
-use Rattle.calendar.specs.declared.dates.Found.{Found}
-use Rattle.calendar.specs.declared.dates.Found.TheVariants.{Day}
 use Rattle.calendar.specs.declared.dates.Weekday.TheVariants.{Thursday}
 
 abbrev pub date : ℕ → ℕ → ℕ → Date
 date y m d = record { year = y; month = m; day = d }
 
-abbrev pub day : ℕ → Found
-day n = Day (record { 0 = n })
+abbrev pub day : ℕ → Option CalendarDays
+day n = Some (record { 0 = n })
 
 -- day 0 is 1998-01-01, a Thursday; the last day is 2049-12-31
 abbrev pub FirstAndLast : Type 0

@@ -15,27 +15,6 @@ pub struct Date {
     pub day: u8,
 }
 
-// What a date is: a day of the calendar, or a fault.
-#[derive(Drop)]
-pub enum Found {
-    Day(CalendarDays),
-    Fault,
-}
-
-// What a day's number is: the day of a date, or past the calendar's end.
-#[derive(Drop)]
-pub enum Dated {
-    At(Date),
-    Beyond,
-}
-
-// What a year of two digits is.
-#[derive(Drop)]
-pub enum FullYear {
-    Year(u16),
-    Fault,
-}
-
 // The day of the week on which a day falls.
 #[derive(Clone, Copy)]
 pub enum Weekday {
@@ -116,26 +95,26 @@ fn month_start(year: u16, month: u8) -> u16
 }
 
 // The day of a date.
-pub fn day_of(date: Date) -> Found
+pub fn day_of(date: Date) -> Option<CalendarDays>
     ensures { result ≡ day_of date }
 {
     let year = date.year;
     let month = date.month;
     let day = date.day as u16;
     if year < 1998 {
-        return Found::Fault;
+        return None;
     }
     if 2049 < year {
-        return Found::Fault;
+        return None;
     }
     if day < 1 {
-        return Found::Fault;
+        return None;
     }
     if month_days(year, month) < day {
-        return Found::Fault;
+        return None;
     }
     let before = year_start(year) + month_start(year, month);
-    Found::Day(CalendarDays(before + (day - 1)))
+    Some(CalendarDays(before + (day - 1)))
 }
 
 // The year of a day: four years have 1461 days.
@@ -162,18 +141,18 @@ fn month_of(year: u16, n: u16) -> u8
 }
 
 // The date of a day.
-pub fn date_of(day: CalendarDays) -> Dated
+pub fn date_of(day: CalendarDays) -> Option<Date>
     ensures { result ≡ date_of day.0 }
 {
     let n = day.0;
     if LAST_DAY < n {
-        return Dated::Beyond;
+        return None;
     }
     let year = year_of(n);
     let m = n - year_start(year);
     let month = month_of(year, m);
     let d = m - month_start(year, month);
-    Dated::At(Date {
+    Some(Date {
         year: year,
         month: month,
         day: (d + 1) as u8,
@@ -181,20 +160,20 @@ pub fn date_of(day: CalendarDays) -> Dated
 }
 
 // The year that two digits stand for.
-pub fn full_year(two: u8) -> FullYear
+pub fn full_year(two: u8) -> Option<u16>
     ensures { result ≡ full_year two }
 {
     let y = two as u16;
     if two < 50 {
-        return FullYear::Year(2000 + y);
+        return Some(2000 + y);
     }
     if two < 98 {
-        return FullYear::Fault;
+        return None;
     }
     if 99 < two {
-        return FullYear::Fault;
+        return None;
     }
-    FullYear::Year(1900 + y)
+    Some(1900 + y)
 }
 
 // Whether a day lies in the calendar.

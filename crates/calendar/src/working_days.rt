@@ -19,13 +19,6 @@ pub enum DayKind {
     Outside,
 }
 
-// Where a count of working days leads: on a day, or past the calendar's end.
-#[derive(Drop)]
-pub enum Later {
-    On(CalendarDays),
-    Ends,
-}
-
 // Whether a day of the calendar is a working day.
 fn works(day: u16) -> bool
     requires { day ≤ 18992 }
@@ -55,17 +48,17 @@ pub fn kind_of(day: CalendarDays) -> DayKind
 }
 
 // The day that is `count` working days after `day`.
-pub fn working_day_after(day: CalendarDays, count: WorkingDays) -> Later
+pub fn working_day_after(day: CalendarDays, count: WorkingDays) -> Option<CalendarDays>
     ensures { result ≡ working_day_after day.0 count.0 }
 {
     let mut d = day.0;
     let mut left = count.0;
     if LAST_DAY < d {
-        return Later::Ends;
+        return None;
     }
     while 0 < left {
         if d == LAST_DAY {
-            return Later::Ends;
+            return None;
         }
         let next = d + 1;
         if works(next) {
@@ -73,5 +66,5 @@ pub fn working_day_after(day: CalendarDays, count: WorkingDays) -> Later
         }
         d = next;
     }
-    Later::On(CalendarDays(d))
+    Some(CalendarDays(d))
 }

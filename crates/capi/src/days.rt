@@ -5,21 +5,21 @@ ghost use Rattle.calendar.specs.Holidays.{holidays, mark_of};
 ghost use Rattle.calendar.specs.WorkingDays.{working_day_after};
 ghost use Rattle.capi.specs.Days.{day_word, spelt, date_word, kind_word, later_word};
 
-use calendar::dates::{CalendarDays, Date, Dated, Found};
+use calendar::dates::{CalendarDays, Date};
 use calendar::table::COUNT;
-use calendar::working_days::{DayKind, Later, WorkingDays};
+use calendar::working_days::{DayKind, WorkingDays};
 use calendar::{dates, holidays, working_days};
 
 // What stands for no day: it is past the calendar's end.
 pub const NO_DAY: u16 = 65535;
 
 // ---- what is found, as a number
-fn day_word(found: Found) -> u16
+fn day_word(found: Option<CalendarDays>) -> u16
     ensures { result ≡ day_word found }
 {
     match found {
-        Found::Day(d) => d.0,
-        Found::Fault => NO_DAY,
+        Some(d) => d.0,
+        None => NO_DAY,
     }
 }
 
@@ -29,12 +29,12 @@ fn spelt(x: Date) -> u32
     x.day as u32 * 1000000 + x.month as u32 * 10000 + x.year as u32
 }
 
-fn date_word(dated: Dated) -> u32
+fn date_word(dated: Option<Date>) -> u32
     ensures { result ≡ date_word dated }
 {
     match dated {
-        Dated::At(x) => spelt(x),
-        Dated::Beyond => 0,
+        Some(x) => spelt(x),
+        None => 0,
     }
 }
 
@@ -48,12 +48,12 @@ fn kind_word(kind: DayKind) -> u8
     }
 }
 
-fn later_word(later: Later) -> u16
+fn later_word(later: Option<CalendarDays>) -> u16
     ensures { result ≡ later_word later }
 {
     match later {
-        Later::On(d) => d.0,
-        Later::Ends => NO_DAY,
+        Some(d) => d.0,
+        None => NO_DAY,
     }
 }
 

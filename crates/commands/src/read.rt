@@ -9,7 +9,6 @@ use faults::cause::{Cause, FaultPlace};
 use files::judge::Judged;
 use page::{Page, ROOM};
 use records::names::kind::FileKind;
-use records::names::name::NameRead;
 
 // `record` PLACE RECORD
 fn record(rt: &impl Host, first: Page, room: &mut [u8; ROOM], i: usize, bytes: &[u8]) -> Page {
@@ -96,7 +95,7 @@ fn no_kind(rt: &impl Host, path: &[u8]) -> u8 {
 }
 
 fn read_path(rt: &impl Host, path: &[u8]) -> u8 {
-    let NameRead::Name(name) = given::name_of(path) else {
+    let Some(name) = given::name_of(path) else {
         return no_kind(rt, path);
     };
     let kind = name.kind;

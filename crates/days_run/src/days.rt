@@ -2,8 +2,8 @@
 //     2014-05-22 + 002 AT + 1 T = 2014-05-27 di  SECTION       so many working days, then calendar days, after a date
 //     2011-10-15 is no AT                    sa  SECTION       a day that is no working day
 use crate::input;
-use calendar::dates::{CalendarDays, Date, Dated, Found, Weekday};
-use calendar::working_days::{DayKind, Later, WorkingDays};
+use calendar::dates::{CalendarDays, Date, Weekday};
+use calendar::working_days::{DayKind, WorkingDays};
 use calendar::{dates, working_days};
 
 // For a fault, and where the calendar ends.
@@ -11,7 +11,7 @@ const NONE: u16 = 65535;
 
 // The day of a date.
 pub fn found(date: Date) -> u16 {
-    let Found::Day(n) = dates::day_of(date) else {
+    let Some(n) = dates::day_of(date) else {
         return NONE;
     };
     n.0
@@ -19,7 +19,7 @@ pub fn found(date: Date) -> u16 {
 
 // The k-th working day after a day.
 pub fn after(n: u16, k: u8) -> u16 {
-    let Later::On(day) = working_days::working_day_after(CalendarDays(n), WorkingDays(k)) else {
+    let Some(day) = working_days::working_day_after(CalendarDays(n), WorkingDays(k)) else {
         return NONE;
     };
     day.0
@@ -55,7 +55,7 @@ fn eight(x: Date) -> u64 {
 
 // The eight digits of a day's date, and 0 where it has none, or one of another day.
 pub fn dated(n: u16) -> u64 {
-    let Dated::At(x) = dates::date_of(CalendarDays(n)) else {
+    let Some(x) = dates::date_of(CalendarDays(n)) else {
         return 0;
     };
     if found(x) == n {

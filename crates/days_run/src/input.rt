@@ -1,6 +1,5 @@
 // The cases, line by line; the head of the file stdin says how one is written.
 use crate::{days, folds, keys};
-use text::Spelt;
 
 // What can't be written is left out.
 pub fn say(rt: &impl Print, s: &[u8]) {
@@ -12,7 +11,7 @@ pub fn say_number(rt: &impl Print, n: u64) {
 }
 
 fn spelt(s: &[u8]) -> u64 {
-    let Spelt::Value(n) = text::read_digits(s, false) else {
+    let Some(n) = text::read_digits(s, false) else {
         return 0;
     };
     n

@@ -3,7 +3,7 @@ ghost use Rattle.std.specs.Prelude.{◌≡◌};
 ghost use Rattle.laws.specs.Lists.{same_lists};
 ghost use Rattle.entries.specs.comparing.Same.{same_place, same_last, same_entry};
 
-use crate::entry::{Entry, Last, PLACES, Place};
+use crate::entry::{Entry, PLACES, Place};
 use crate::report;
 
 pub fn same_place(p: Place, q: Place) -> bool
@@ -33,17 +33,17 @@ pub fn same_places(ps: [Place; PLACES], qs: [Place; PLACES]) -> bool
     true
 }
 
-pub fn same_last(l: Last, m: Last) -> bool
+pub fn same_last(l: Option<CalendarDays>, m: Option<CalendarDays>) -> bool
     ensures { result ≡ same_last l m }
 {
     match l {
-        Last::Never => match m {
-            Last::Never => true,
-            Last::On(_) => false,
+        None => match m {
+            None => true,
+            Some(_) => false,
         },
-        Last::On(d) => match m {
-            Last::Never => false,
-            Last::On(t) => d.0 == t.0,
+        Some(d) => match m {
+            None => false,
+            Some(t) => d.0 == t.0,
         },
     }
 }

@@ -20,17 +20,10 @@ pub struct Place {
     pub at: u32,
 }
 
-// The last confirmed porting date, or none.
-#[derive(Clone, Copy)]
-pub enum Last {
-    Never,
-    On(CalendarDays),
-}
-
 #[derive(Clone, Copy)]
 pub struct Entry {
     pub holder: Code,
-    pub last: Last,
+    pub last: Option<CalendarDays>,
     pub places: [Place; PLACES],
 }
 
@@ -39,13 +32,6 @@ pub struct Entry {
 pub struct Line {
     pub owner: Code,
     pub setup: CalendarDays,
-}
-
-// What the number table has for a number.
-#[derive(Clone, Copy)]
-pub enum Listed {
-    With(Line),
-    Missing,
 }
 
 // A place that holds nothing.
@@ -77,28 +63,28 @@ pub fn first(line: Line) -> Entry
     let free = [p; PLACES];
     Entry {
         holder: owner,
-        last: Last::Never,
+        last: None,
         places: free,
     }
 }
 
 // The number is not in the table.
-pub fn is_missing(n: Listed) -> bool
+pub fn is_missing(n: Option<Line>) -> bool
     ensures { result ≡ is_missing n }
 {
     match n {
-        Listed::With(_) => false,
-        Listed::Missing => true,
+        Some(_) => false,
+        None => true,
     }
 }
 
 // The number's line; where it has none, one that no rule comes to ask for.
-pub fn line_in(n: Listed) -> Line
+pub fn line_in(n: Option<Line>) -> Line
     ensures { result ≡ line_in n }
 {
     match n {
-        Listed::With(line) => line,
-        Listed::Missing => {
+        Some(line) => line,
+        None => {
             let owner = Code(0);
             let setup = CalendarDays(0);
             Line {

@@ -1,5 +1,7 @@
 -- A line is a correction exactly if no fault is found in it as one (`correction-exact`): a line that is read as one, and one without a fault, are
 -- both spelt as corrections are (`read-line`, `faultless-line`), and for lines so spelt the two tests agree (`line-agree`). Assumes nothing.
+use Rattle.layout.specs.declared.correction.Correction.{Correction}
+use Rattle.std.specs.Prelude.{Option, Some, None}
 use Prim.Native.Nat.{ℕ}
 use native.Mathlib.Omega.{arith}
 use mathlib.Core.Path.{◌≡◌, refl, sym, ap, ◌∙◌}
@@ -16,7 +18,6 @@ use Rattle.laws.proofs.Same.{numbers-equal}
 use Rattle.laws.proofs.Split.{joined-split, rest-piece}
 use Rattle.laws.proofs.Digits.{length_digits}
 use Rattle.fields.specs.declared.correction_code.CorrectionCode.{CorrectionCode}
-use Rattle.fields.specs.declared.correction_code.CorrectionCodeRead.{CorrectionCodeRead}
 use Rattle.fields.specs.Bytes.{field_byte}
 use Rattle.fields.specs.Code.{maybe_code_text}
 use Rattle.fields.specs.CorrectionCode.{correction_code_of, correction_code_text, is_objection}
@@ -25,8 +26,6 @@ use Rattle.fields.specs.Kind.{maybe_kind_text}
 use Rattle.fields.specs.Number.{digits_size, digits_text, is_empty}
 use Rattle.fields.proofs.ByteLaws.{bytes-digits, bytes-maybe-code, bytes-maybe-date, bytes-maybe-kind}
 use Rattle.layout.specs.declared.part.Part.{Part}
-use Rattle.layout.specs.declared.part.PartRead.{PartRead}
-use Rattle.layout.specs.declared.correction.CorrectionRead.{CorrectionRead}
 use Rattle.layout.specs.Part.{part_text}
 use Rattle.layout.specs.Correction.{on_head, on_part, is_sound, sound_of, correction_of, correction_text}
 use Rattle.layout.proofs.CorrectionTrip.{correction-back}
@@ -64,8 +63,8 @@ read-line : (s : List ℕ) → is_correction (correction_of s) ≡ true → Line
 unfolding correction_text part_text
 read-line s h = go (correction_of s) refl h
   where
-    go : (r : CorrectionRead) → correction_of s ≡ r → is_correction r ≡ true → Line s
-    go (CorrectionRead.Correction c) q e =
+    go : (r : Option Correction) → correction_of s ≡ r → is_correction r ≡ true → Line s
+    go (Some c) q e =
         record {
           code = correction_code_text c.code;
           u = texts_of c.u;
@@ -76,7 +75,7 @@ read-line s h = go (correction_of s) refl h
           u-bytes = texts-bytes c.u;
           k-bytes = texts-bytes c.k;
         }
-    go CorrectionRead.Fault q e = never e
+    go None q e = never e
 
 -- ---- what no fault asks
 correction-tests : (code mark first s : List ℕ) → is_faultless (correction_from code mark first s)
@@ -148,7 +147,7 @@ faultless-line s h =
 abbrev numbered : Six → Bool
 numbered x = not (eqb (length x.first) 0)
 
-part-empty : (x : Six) (p : Part) → part_in x ≡ PartRead.Part p → is_empty p.number.first ≡ eqb (length x.first) 0
+part-empty : (x : Six) (p : Part) → part_in x ≡ Some p → is_empty p.number.first ≡ eqb (length x.first) 0
 part-empty x p e = first-empty x.first x.last x.date x.gaining x.losing x.status p e
 
 whole-right : (code : List ℕ) → is_right (whole_for code) ≡ not (objects code)
@@ -173,12 +172,12 @@ sound-exact c u k = go (part_in u) (part_in k) refl refl
     rule true a b f = sym (and-true (a && f))
     rule false a b f = sym (and-true (a || b))
 
-    go : (x y : PartRead) → part_in u ≡ x → part_in k ≡ y → is_correction (on_part x (λ p. on_part y (λ q. sound_of c p q)))
+    go : (x y : Option Part) → part_in u ≡ x → part_in k ≡ y → is_correction (on_part x (λ p. on_part y (λ q. sound_of c p q)))
         ≡ (((not (is_objection c) || numbered u) && filled_or (not (is_objection c)) x) && (((is_objection c || numbered u) || numbered k) && filled_or true y))
-    go PartRead.Fault y e₁ e₂ = simp and-false
-    go (PartRead.Part p) PartRead.Fault e₁ e₂ = simp and-false
-    go (PartRead.Part p) (PartRead.Part q) e₁ e₂ =
-        chosen is_correction (CorrectionRead.Correction (record { code = c; u = p; k = q })) CorrectionRead.Fault refl refl (is_sound c p q)
+    go None y e₁ e₂ = simp and-false
+    go (Some p) None e₁ e₂ = simp and-false
+    go (Some p) (Some q) e₁ e₂ =
+        chosen is_correction (Some (record { code = c; u = p; k = q })) None refl refl (is_sound c p q)
         ∙ rw (whole-exact p, part-empty u p e₁, part-empty k q e₂) (rule (is_objection c) (numbered u) (numbered k) (is_filled p))
 
 module _ {s : List ℕ} (l : Line s) where
@@ -202,10 +201,10 @@ module _ {s : List ℕ} (l : Line s) where
   unfolding objects
   line-agree = ap is_correction (line_read l) ∙ go (correction_code_of l.code) ∙ sym fault-tests
     where
-      go : (r : CorrectionCodeRead) → is_correction (on_head r (λ c. on_part (part_in l.u) (λ p. on_part (part_in l.k) (λ q. sound_of c p q))))
+      go : (r : Option CorrectionCode) → is_correction (on_head r (λ c. on_part (part_in l.u) (λ p. on_part (part_in l.k) (λ q. sound_of c p q))))
           ≡ (is_correction_code r && (((not (objects_by r) || numbered l.u) && filled_or (not (objects_by r)) (part_in l.u)) && (((objects_by r || numbered l.u) || numbered l.k) && filled_or true (part_in l.k))))
-      go (CorrectionCodeRead.CorrectionCode c) = sound-exact c l.u l.k
-      go CorrectionCodeRead.Fault = refl
+      go (Some c) = sound-exact c l.u l.k
+      go None = refl
 
 pub correction-exact : (s : List ℕ) → is_correction (correction_of s) ≡ is_faultless (correction_fault s)
 correction-exact s = agree-where (is_correction (correction_of s)) (is_faultless (correction_fault s)) (read-line s) (faultless-line s) line-agree

@@ -1,6 +1,8 @@
 -- Lines that are spelt as corrections are: four bytes for the code, "U:", six fields, ",K:", six fields, each of the bytes of fields. Assumes nothing.
 --     line-joined, comma-pieces     such a line as fields with commas between them, and cut at its commas
 --     line_read, line-fault         what it is read as, and in which code, mark and first number a fault is looked for
+use Rattle.layout.specs.declared.part.Part.{Part}
+use Rattle.std.specs.Prelude.{Option}
 use Prim.Native.Nat.{ℕ, ◌+◌, ◌-◌}
 use native.Mathlib.Omega.{arith}
 use mathlib.Core.Path.{◌≡◌, refl, sym, ap, ◌∙◌}
@@ -17,7 +19,6 @@ use Rattle.laws.proofs.Tables.{all_append, all_weaker}
 use Rattle.laws.proofs.Split.{split-joined, lacks-by, all-joined, first_past}
 use Rattle.fields.specs.Bytes.{field_byte}
 use Rattle.fields.specs.CorrectionCode.{correction_code_of}
-use Rattle.layout.specs.declared.part.PartRead.{PartRead}
 use Rattle.layout.specs.Part.{six_of, part_of}
 use Rattle.layout.specs.Correction.{on_head, on_part, head_of, reported_of, sound_of, three_of, correction_of}
 use Rattle.layout.proofs.CorrectionLaws.{head-code, reported-part}
@@ -39,7 +40,7 @@ others x = x.last ∷ x.date ∷ x.gaining ∷ x.losing ∷ x.status ∷ []
 abbrev pub fields_in : Six → List (List ℕ)
 fields_in x = x.first ∷ others x
 
-abbrev pub part_in : Six → PartRead
+abbrev pub part_in : Six → Option Part
 part_in x = six_of x.first x.last x.date x.gaining x.losing x.status
 
 -- ---- the line

@@ -5,6 +5,12 @@
 --     digits-right, date-right, code-right, kind-right, correction-code-right, mark-right, nothing_right     each form
 --     digits-bytes, date-bytes, code-bytes, kind-bytes                                                       its bytes
 --     correction-code-made                                                                                   a correction's code: its length and bytes
+use Rattle.fields.specs.declared.number.Digits.{Digits}
+use Rattle.fields.specs.declared.kind.Kind.{Kind}
+use Rattle.calendar.specs.declared.dates.CalendarDays.{CalendarDays}
+use Rattle.fields.specs.declared.correction_code.CorrectionCode.{CorrectionCode}
+use Rattle.fields.specs.declared.code.Code.{Code}
+use Rattle.std.specs.Prelude.{Option, Some, None}
 use Prim.Native.Nat.{ℕ}
 use native.Mathlib.Omega.{arith}
 use mathlib.Core.Path.{◌≡◌, refl, sym, ap, ◌∙◌}
@@ -19,13 +25,6 @@ use Rattle.laws.proofs.Tests.{and_left, and_right, and-true, never, either, chos
 use Rattle.laws.proofs.Tables.{all_weaker}
 use Rattle.laws.proofs.Digits.{length_digits}
 use Rattle.laws.proofs.Same.{numbers-equal}
-use Rattle.fields.specs.declared.code.CodeRead.{CodeRead}
-use Rattle.fields.specs.declared.correction_code.CorrectionCodeRead.{CorrectionCodeRead}
-use Rattle.fields.specs.declared.date.DateRead.{DateRead}
-use Rattle.fields.specs.declared.date.MaybeDate.{MaybeDate}
-use Rattle.fields.specs.declared.kind.KindRead.{KindRead}
-use Rattle.fields.specs.declared.kind.MaybeKind.{MaybeKind}
-use Rattle.fields.specs.declared.number.DigitsRead.{DigitsRead}
 use Rattle.fields.specs.Bytes.{field_byte}
 use Rattle.fields.specs.Code.{code_of}
 use Rattle.fields.specs.CorrectionCode.{correction_code_of}
@@ -106,47 +105,47 @@ module _ (f : List ℕ) where
   digits-made : is_digits (digits_field_of f) ≡ true → (leb (length f) 11 ≡ true) × (all field_byte f ≡ true)
   digits-made h = go (digits_field_of f) refl h
     where
-      go : (r : DigitsRead) → digits_field_of f ≡ r → is_digits r ≡ true → (leb (length f) 11 ≡ true) × (all field_byte f ≡ true)
-      go (DigitsRead.Digits d) q e =
+      go : (r : Option Digits) → digits_field_of f ≡ r → is_digits r ≡ true → (leb (length f) 11 ≡ true) × (all field_byte f ≡ true)
+      go (Some d) q e =
           let b = digits-back f d q in
           (le-leb (length f) 11 (omega (arith, digits-counted f d q, fits-size d b.1)), rw b.0 at (bytes-digits (digits_size d) d.0))
-      go DigitsRead.Fault q e = never e
+      go None q e = never e
 
   date-made : is_date (date_field_of f) ≡ true → (eqb (length f) 8 ≡ true) × (all field_byte f ≡ true)
   date-made h = go (date_field_of f) refl h
     where
-      go : (r : DateRead) → date_field_of f ≡ r → is_date r ≡ true → (eqb (length f) 8 ≡ true) × (all field_byte f ≡ true)
-      go (DateRead.Date d) q e =
+      go : (r : Option CalendarDays) → date_field_of f ≡ r → is_date r ≡ true → (eqb (length f) 8 ≡ true) × (all field_byte f ≡ true)
+      go (Some d) q e =
           let b = date-field-back f d q in
-          (eq-eqb (length f) 8 (rw b.0 at (length-date d)), rw b.0 at (bytes-maybe-date (MaybeDate.Date d)))
-      go DateRead.Fault q e = never e
+          (eq-eqb (length f) 8 (rw b.0 at (length-date d)), rw b.0 at (bytes-maybe-date (Some d)))
+      go None q e = never e
 
   code-made : is_code (code_of f) ≡ true → (eqb (length f) 4 ≡ true) × (all field_byte f ≡ true)
   code-made h = go (code_of f) refl h
     where
-      go : (r : CodeRead) → code_of f ≡ r → is_code r ≡ true → (eqb (length f) 4 ≡ true) × (all field_byte f ≡ true)
-      go (CodeRead.Code c) q e =
+      go : (r : Option Code) → code_of f ≡ r → is_code r ≡ true → (eqb (length f) 4 ≡ true) × (all field_byte f ≡ true)
+      go (Some c) q e =
           let b = code-back f c q in
           (eq-eqb (length f) 4 (ap length (sym b.0) ∙ length-code c), ap (all field_byte) (sym b.0) ∙ bytes-code c)
-      go CodeRead.Fault q e = never e
+      go None q e = never e
 
   kind-made : is_kind (kind_of f) ≡ true → (eqb (length f) 1 ≡ true) × (all field_byte f ≡ true)
   kind-made h = go (kind_of f) refl h
     where
-      go : (r : KindRead) → kind_of f ≡ r → is_kind r ≡ true → (eqb (length f) 1 ≡ true) × (all field_byte f ≡ true)
-      go (KindRead.Kind k) q e =
+      go : (r : Option Kind) → kind_of f ≡ r → is_kind r ≡ true → (eqb (length f) 1 ≡ true) × (all field_byte f ≡ true)
+      go (Some k) q e =
           let b = kind-back f k q in
-          (eq-eqb (length f) 1 (ap length (sym b) ∙ length-kind k), ap (all field_byte) (sym b) ∙ bytes-maybe-kind (MaybeKind.Kind k))
-      go KindRead.Fault q e = never e
+          (eq-eqb (length f) 1 (ap length (sym b) ∙ length-kind k), ap (all field_byte) (sym b) ∙ bytes-maybe-kind (Some k))
+      go None q e = never e
 
   pub correction-code-made : is_correction_code (correction_code_of f) ≡ true → (eqb (length f) 4 ≡ true) × (all field_byte f ≡ true)
   correction-code-made h = go (correction_code_of f) refl h
     where
-      go : (r : CorrectionCodeRead) → correction_code_of f ≡ r → is_correction_code r ≡ true → (eqb (length f) 4 ≡ true) × (all field_byte f ≡ true)
-      go (CorrectionCodeRead.CorrectionCode c) q e =
+      go : (r : Option CorrectionCode) → correction_code_of f ≡ r → is_correction_code r ≡ true → (eqb (length f) 4 ≡ true) × (all field_byte f ≡ true)
+      go (Some c) q e =
           let b = correction-code-back f c q in
           (eq-eqb (length f) 4 (ap length (sym b.0) ∙ length_digits 4 c.0), ap (all field_byte) (sym b.0) ∙ bytes-digits 4 c.0)
-      go CorrectionCodeRead.Fault q e = never e
+      go None q e = never e
 
   -- ---- each form: right exactly if it is read, or is empty where it may be
   module _ (empty : FieldCheck) where

@@ -1,4 +1,5 @@
 -- A line is a report exactly if no fault is found in it as one (`report-exact`). Assumes nothing.
+use Rattle.std.specs.Prelude.{None}
 use Prim.Native.Nat.{ℕ, ◌<◌, ◌≤◌}
 use native.Mathlib.Omega.{arith}
 use mathlib.Core.Path.{◌≡◌, refl, sym, ap, ◌∙◌}
@@ -14,7 +15,6 @@ use Rattle.laws.proofs.Split.{rest-none, rest-piece}
 use Rattle.laws.proofs.Tests.{le-or-lt, never, agree-where}
 use Rattle.laws.proofs.Tables.{all-at}
 use Rattle.fields.specs.Bytes.{field_byte}
-use Rattle.layout.specs.declared.part.PartRead.{PartRead}
 use Rattle.layout.specs.Part.{six_of, part_of}
 use Rattle.layout.specs.Report.{report_from, report_of}
 use Rattle.layout.specs.Correction.{is_report}
@@ -46,7 +46,7 @@ module _ (s : List ℕ) where
   unfolding report_of report_from part_of
   six-read h = go (eqb (length (split 44 s)) 6) refl h
     where
-      go : (t : Bool) → eqb (length (split 44 s)) 6 ≡ t → is_report (report_from (cond t (six_of (field_at s 0) (field_at s 1) (field_at s 2) (field_at s 3) (field_at s 4) (field_at s 5)) PartRead.Fault)) ≡ true → length (split 44 s) ≡ 6
+      go : (t : Bool) → eqb (length (split 44 s)) 6 ≡ t → is_report (report_from (cond t (six_of (field_at s 0) (field_at s 1) (field_at s 2) (field_at s 3) (field_at s 4) (field_at s 5)) None)) ≡ true → length (split 44 s) ≡ 6
       go true q e = eqb-true (length (split 44 s)) 6 q
       go false q e = never e
 

@@ -1,4 +1,7 @@
 -- A line is a request exactly if no fault is found in it as one (`request-exact`). Assumes nothing.
+use Rattle.calendar.specs.declared.dates.CalendarDays.{CalendarDays}
+use Rattle.fields.specs.declared.code.Code.{Code}
+use Rattle.std.specs.Prelude.{Option, Some, None}
 use Prim.Native.Nat.{ℕ}
 use native.Mathlib.Omega.{arith}
 use mathlib.Core.Path.{◌≡◌, refl, sym, ◌∙◌}
@@ -11,12 +14,9 @@ use Rattle.laws.specs.Lists.{all}
 use Rattle.laws.specs.Split.{split}
 use Rattle.laws.proofs.Split.{rest-piece}
 use Rattle.laws.proofs.Tests.{and_left, and_right, never, chosen, agree-where}
-use Rattle.fields.specs.declared.code.CodeRead.{CodeRead}
-use Rattle.fields.specs.declared.date.MaybeDateRead.{MaybeDateRead}
 use Rattle.fields.specs.Bytes.{field_byte}
 use Rattle.fields.specs.Code.{code_of}
 use Rattle.fields.specs.Date.{maybe_date_of}
-use Rattle.layout.specs.declared.request.RequestRead.{RequestRead}
 use Rattle.layout.specs.Part.{on_date}
 use Rattle.layout.specs.Request.{on_sender, three_of, request_of}
 use Rattle.records.specs.Record.{is_request}
@@ -34,11 +34,11 @@ three-exact : (a b c : List ℕ) → is_request (three_of a b c) ≡ (is_code (c
 unfolding three_of
 three-exact a b c = go (code_of a) (maybe_date_of b) (eqb (length c) 0)
   where
-    go : (x : CodeRead) (y : MaybeDateRead) (t : Bool)
-        → is_request (on_sender x λ code. on_date y RequestRead.Fault λ from. cond t (RequestRead.Request (record { code = code; from = from })) RequestRead.Fault) ≡ (is_code x && (date_right true y && t))
-    go (CodeRead.Code code) (MaybeDateRead.MaybeDate from) t = chosen is_request (RequestRead.Request (record { code = code; from = from })) RequestRead.Fault refl refl t
-    go (CodeRead.Code code) MaybeDateRead.Fault t = refl
-    go CodeRead.Fault y t = refl
+    go : (x : Option Code) (y : Option (Option CalendarDays)) (t : Bool)
+        → is_request (on_sender x λ code. on_date y None λ from. cond t (Some (record { code = code; from = from })) None) ≡ (is_code x && (date_right true y && t))
+    go (Some code) (Some from) t = chosen is_request (Some (record { code = code; from = from })) None refl refl t
+    go (Some code) None t = refl
+    go None y t = refl
 
 -- a code must stand there
 code-needed : (f : List ℕ) → is_right (code_alone (FieldCheck.Wrong Length) f) ≡ is_code (code_of f)
@@ -68,7 +68,7 @@ module _ (s : List ℕ) where
   unfolding request_of
   three-read h = go (eqb (length (split 44 s)) 3) refl h
     where
-      go : (t : Bool) → eqb (length (split 44 s)) 3 ≡ t → is_request (cond t (three_of (field_at s 0) (field_at s 1) (field_at s 2)) RequestRead.Fault) ≡ true → length (split 44 s) ≡ 3
+      go : (t : Bool) → eqb (length (split 44 s)) 3 ≡ t → is_request (cond t (three_of (field_at s 0) (field_at s 1) (field_at s 2)) None) ≡ true → length (split 44 s) ≡ 3
       go true q e = eqb-true (length (split 44 s)) 3 q
       go false q e = never e
 

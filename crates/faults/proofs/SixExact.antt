@@ -5,6 +5,10 @@
 --     six-bytes, six-status       six fields without a fault are made of the bytes of fields; where none may be missing, the last is not empty
 --     first-empty                 the first number of a part is empty exactly if its field is
 --     whole-exact, report-six     a part is a report exactly if it has a number and is filled
+use Rattle.fields.specs.declared.number.Number.{Number}
+use Rattle.calendar.specs.declared.dates.CalendarDays.{CalendarDays}
+use Rattle.fields.specs.declared.code.Code.{Code}
+use Rattle.std.specs.Prelude.{Option, Some, None}
 use Prim.Native.Nat.{ℕ, ◌+◌, ◌*◌}
 use native.Mathlib.Omega.{arith}
 use mathlib.Core.Path.{◌≡◌, refl, sym, ap, ap₂, ◌∙◌}
@@ -17,20 +21,9 @@ use Rattle.laws.specs.Lists.{all}
 use Rattle.laws.proofs.Tests.{and_left, and_right, never, chosen}
 use Rattle.laws.proofs.Digits.{size_none}
 use Rattle.text.specs.Spelt.{spells, digits_of}
-use Rattle.fields.specs.declared.code.CodeRead.{CodeRead}
-use Rattle.fields.specs.declared.code.MaybeCode.{MaybeCode}
-use Rattle.fields.specs.declared.code.MaybeCodeRead.{MaybeCodeRead}
-use Rattle.fields.specs.declared.date.DateRead.{DateRead}
-use Rattle.fields.specs.declared.date.MaybeDate.{MaybeDate}
-use Rattle.fields.specs.declared.date.MaybeDateRead.{MaybeDateRead}
 use Rattle.fields.specs.declared.kind.Kind.{Kind}
 use Rattle.fields.specs.declared.kind.Kind.TheVariants.{P, L, Z}
-use Rattle.fields.specs.declared.kind.KindRead.{KindRead}
-use Rattle.fields.specs.declared.kind.MaybeKind.{MaybeKind}
-use Rattle.fields.specs.declared.kind.MaybeKindRead.{MaybeKindRead}
 use Rattle.fields.specs.declared.number.Digits.{Digits}
-use Rattle.fields.specs.declared.number.DigitsRead.{DigitsRead}
-use Rattle.fields.specs.declared.number.NumberRead.{NumberRead}
 use Rattle.fields.specs.Bytes.{field_byte}
 use Rattle.fields.specs.Code.{code_of, maybe_code_of, maybe_code_from}
 use Rattle.fields.specs.Date.{date_field_of, maybe_date_of, maybe_date_from}
@@ -39,8 +32,6 @@ use Rattle.fields.specs.Kind.{kind_of, maybe_kind_of, maybe_kind_from}
 use Rattle.fields.specs.Number.{digits_field_of, digits_from, digits_size, is_empty, number_of, number_from}
 use Rattle.fields.proofs.NumberLaws.{digits-back, digits-counted, number-back, size-some}
 use Rattle.layout.specs.declared.part.Part.{Part}
-use Rattle.layout.specs.declared.part.PartRead.{PartRead}
-use Rattle.layout.specs.declared.report.ReportRead.{ReportRead}
 use Rattle.layout.specs.Part.{on_digits, on_number, on_date, on_code, on_kind, six_of}
 use Rattle.layout.specs.Report.{on_some_date, on_some_code, on_some_kind, whole_of, report_from, is_named as part_named}
 use Rattle.layout.specs.Correction.{is_report}
@@ -74,41 +65,41 @@ allowed-right : (c : FieldCheck) (rule : Bool) → is_right (allowed c rule) ≡
 allowed-right c rule h = and_left (is_right c) rule (sym (allowed_then c rule) ∙ h)
 
 -- ---- what each field asks, by what it is read as. Where one may be missing, `may` is true
-abbrev has_date : MaybeDate → Bool
-has_date (MaybeDate.Date d) = true
-has_date MaybeDate.Empty = false
+abbrev has_date : Option CalendarDays → Bool
+has_date (Some d) = true
+has_date None = false
 
-abbrev has_code : MaybeCode → Bool
-has_code (MaybeCode.Code c) = true
-has_code MaybeCode.Empty = false
+abbrev has_code : Option Code → Bool
+has_code (Some c) = true
+has_code None = false
 
-abbrev has_kind : MaybeKind → Bool
-has_kind (MaybeKind.Kind k) = true
-has_kind MaybeKind.Empty = false
+abbrev has_kind : Option Kind → Bool
+has_kind (Some k) = true
+has_kind None = false
 
-abbrev returns : MaybeKind → Bool
-returns (MaybeKind.Kind k) = is_return k
-returns MaybeKind.Empty = false
+abbrev returns : Option Kind → Bool
+returns (Some k) = is_return k
+returns None = false
 
-abbrev pub date_right : Bool → MaybeDateRead → Bool
-date_right may (MaybeDateRead.MaybeDate d) = may || has_date d
-date_right may MaybeDateRead.Fault = false
+abbrev pub date_right : Bool → Option (Option CalendarDays) → Bool
+date_right may (Some d) = may || has_date d
+date_right may None = false
 
-abbrev code_right : Bool → MaybeCodeRead → Bool
-code_right may (MaybeCodeRead.MaybeCode c) = may || has_code c
-code_right may MaybeCodeRead.Fault = false
+abbrev code_right : Bool → Option (Option Code) → Bool
+code_right may (Some c) = may || has_code c
+code_right may None = false
 
-abbrev kind_right : Bool → MaybeKindRead → Bool
-kind_right may (MaybeKindRead.MaybeKind k) = may || has_kind k
-kind_right may MaybeKindRead.Fault = false
+abbrev kind_right : Bool → Option (Option Kind) → Bool
+kind_right may (Some k) = may || has_kind k
+kind_right may None = false
 
-abbrev code_there : MaybeCodeRead → Bool
-code_there (MaybeCodeRead.MaybeCode c) = has_code c
-code_there MaybeCodeRead.Fault = true
+abbrev code_there : Option (Option Code) → Bool
+code_there (Some c) = has_code c
+code_there None = true
 
-abbrev return_there : MaybeKindRead → Bool
-return_there (MaybeKindRead.MaybeKind k) = returns k
-return_there MaybeKindRead.Fault = false
+abbrev return_there : Option (Option Kind) → Bool
+return_there (Some k) = returns k
+return_there None = false
 
 module _ (may : Bool) where
   pub date-reads : (f : List ℕ) → cond (eqb (length f) 0) may (is_date (date_field_of f)) ≡ date_right may (maybe_date_of f)
@@ -116,45 +107,45 @@ module _ (may : Bool) where
   date-reads [] = sym (or-false may)
   date-reads (b ∷ f) = rw (ne_eqb (length (b ∷ f)) 0 (λ z. omega arith)) (go (date_field_of (b ∷ f)))
     where
-      go : (r : DateRead) → is_date r ≡ date_right may (maybe_date_from r)
-      go (DateRead.Date d) = sym (or-true may)
-      go DateRead.Fault = refl
+      go : (r : Option CalendarDays) → is_date r ≡ date_right may (maybe_date_from r)
+      go (Some d) = sym (or-true may)
+      go None = refl
 
   code_reads : (f : List ℕ) → cond (eqb (length f) 0) may (is_code (code_of f)) ≡ code_right may (maybe_code_of f)
   unfolding maybe_code_of maybe_code_from
   code_reads [] = sym (or-false may)
   code_reads (b ∷ f) = rw (ne_eqb (length (b ∷ f)) 0 (λ z. omega arith)) (go (code_of (b ∷ f)))
     where
-      go : (r : CodeRead) → is_code r ≡ code_right may (maybe_code_from r)
-      go (CodeRead.Code c) = sym (or-true may)
-      go CodeRead.Fault = refl
+      go : (r : Option Code) → is_code r ≡ code_right may (maybe_code_from r)
+      go (Some c) = sym (or-true may)
+      go None = refl
 
   kind-reads : (f : List ℕ) → cond (eqb (length f) 0) may (is_kind (kind_of f)) ≡ kind_right may (maybe_kind_of f)
   unfolding maybe_kind_of maybe_kind_from
   kind-reads [] = sym (or-false may)
   kind-reads (b ∷ f) = rw (ne_eqb (length (b ∷ f)) 0 (λ z. omega arith)) (go (kind_of (b ∷ f)))
     where
-      go : (r : KindRead) → is_kind r ≡ kind_right may (maybe_kind_from r)
-      go (KindRead.Kind k) = sym (or-true may)
-      go KindRead.Fault = refl
+      go : (r : Option Kind) → is_kind r ≡ kind_right may (maybe_kind_from r)
+      go (Some k) = sym (or-true may)
+      go None = refl
 
 code-stands : (f : List ℕ) → not (eqb (length f) 0) ≡ code_there (maybe_code_of f)
 unfolding maybe_code_of maybe_code_from
 code-stands [] = refl
 code-stands (b ∷ f) = rw (ne_eqb (length (b ∷ f)) 0 (λ z. omega arith)) (go (code_of (b ∷ f)))
   where
-    go : (r : CodeRead) → true ≡ code_there (maybe_code_from r)
-    go (CodeRead.Code c) = refl
-    go CodeRead.Fault = refl
+    go : (r : Option Code) → true ≡ code_there (maybe_code_from r)
+    go (Some c) = refl
+    go None = refl
 
 kind-returns : (f : List ℕ) → return_read (kind_of f) ≡ return_there (maybe_kind_of f)
 unfolding maybe_kind_of maybe_kind_from
 kind-returns [] = unfold kind_of in refl
 kind-returns (b ∷ f) = rw (ne_eqb (length (b ∷ f)) 0 (λ z. omega arith)) (go (kind_of (b ∷ f)))
   where
-    go : (r : KindRead) → return_read r ≡ return_there (maybe_kind_from r)
-    go (KindRead.Kind k) = refl
-    go KindRead.Fault = refl
+    go : (r : Option Kind) → return_read r ≡ return_there (maybe_kind_from r)
+    go (Some k) = refl
+    go None = refl
 
 -- ---- the two numbers
 digits-reads : (may : Bool) (f : List ℕ) → cond (eqb (length f) 0) may (is_digits (digits_field_of f)) ≡ ((may || not (eqb (length f) 0)) && is_digits (digits_field_of f))
@@ -163,52 +154,52 @@ digits-reads false [] = refl
 digits-reads may (b ∷ f) = rw (ne_eqb (length (b ∷ f)) 0 (λ z. omega arith), or-true may)
 
 -- where the second goes with the first, it is right by itself
-range-reads : (r : DigitsRead) (f : List ℕ) → (cond (eqb (length f) 0) true (is_digits (digits_field_of f)) && range_from r f) ≡ range_from r f
+range-reads : (r : Option Digits) (f : List ℕ) → (cond (eqb (length f) 0) true (is_digits (digits_field_of f)) && range_from r f) ≡ range_from r f
 unfolding number_of number_from
 range-reads r [] = refl
-range-reads (DigitsRead.Digits first) (b ∷ f) = rw (ne_eqb (length (b ∷ f)) 0 (λ z. omega arith)) (go (digits_field_of (b ∷ f)))
+range-reads (Some first) (b ∷ f) = rw (ne_eqb (length (b ∷ f)) 0 (λ z. omega arith)) (go (digits_field_of (b ∷ f)))
   where
-    go : (r : DigitsRead) → (is_digits r && is_number (number_from first r)) ≡ is_number (number_from first r)
-    go (DigitsRead.Digits last) = refl
-    go DigitsRead.Fault = refl
-range-reads DigitsRead.Fault (b ∷ f) = simp and-false
+    go : (r : Option Digits) → (is_digits r && is_number (number_from first r)) ≡ is_number (number_from first r)
+    go (Some last) = refl
+    go None = refl
+range-reads None (b ∷ f) = simp and-false
 
 -- ---- six fields
 abbrev pub is_filled : Part → Bool
 is_filled p = has_date p.date && (has_code p.losing && (has_kind p.kind && (has_code p.gaining || returns p.kind)))
 
 -- a part, and a filled one where nothing may be missing
-abbrev pub filled_or : Bool → PartRead → Bool
-filled_or may (PartRead.Part p) = may || is_filled p
-filled_or may PartRead.Fault = false
+abbrev pub filled_or : Bool → Option Part → Bool
+filled_or may (Some p) = may || is_filled p
+filled_or may None = false
 
 -- what `six_of` makes of all but the first field
-abbrev rest_of : NumberRead → MaybeDateRead → MaybeCodeRead → MaybeCodeRead → MaybeKindRead → PartRead
+abbrev rest_of : Option Number → Option (Option CalendarDays) → Option (Option Code) → Option (Option Code) → Option (Option Kind) → Option Part
 rest_of number date gaining losing kind =
-    on_number number PartRead.Fault
-    λ n. on_date date PartRead.Fault
-    λ x. on_code gaining PartRead.Fault
-    λ g. on_code losing PartRead.Fault
-    λ l. on_kind kind PartRead.Fault
-    λ k. PartRead.Part (record { number = n; date = x; gaining = g; losing = l; kind = k })
+    on_number number None
+    λ n. on_date date None
+    λ x. on_code gaining None
+    λ g. on_code losing None
+    λ l. on_kind kind None
+    λ k. Some (record { number = n; date = x; gaining = g; losing = l; kind = k })
 
 -- by what the fields are read as
-read-rest : (may : Bool) (number : NumberRead) (date : MaybeDateRead) (gaining losing : MaybeCodeRead) (kind : MaybeKindRead)
+read-rest : (may : Bool) (number : Option Number) (date : Option (Option CalendarDays)) (gaining losing : Option (Option Code)) (kind : Option (Option Kind))
     → (is_number number && (date_right may date && (code_right true gaining && (code_right may losing && (kind_right may kind && (may || (code_there gaining || return_there kind)))))))
     ≡ filled_or may (rest_of number date gaining losing kind)
-read-rest may NumberRead.Fault date gaining losing kind = refl
-read-rest may (NumberRead.Number n) MaybeDateRead.Fault gaining losing kind = refl
-read-rest may (NumberRead.Number n) (MaybeDateRead.MaybeDate x) MaybeCodeRead.Fault losing kind = simp and-false
-read-rest may (NumberRead.Number n) (MaybeDateRead.MaybeDate x) (MaybeCodeRead.MaybeCode g) MaybeCodeRead.Fault kind = simp and-false
-read-rest may (NumberRead.Number n) (MaybeDateRead.MaybeDate x) (MaybeCodeRead.MaybeCode g) (MaybeCodeRead.MaybeCode l) MaybeKindRead.Fault = simp and-false
-read-rest true (NumberRead.Number n) (MaybeDateRead.MaybeDate x) (MaybeCodeRead.MaybeCode g) (MaybeCodeRead.MaybeCode l) (MaybeKindRead.MaybeKind k) = refl
-read-rest false (NumberRead.Number n) (MaybeDateRead.MaybeDate x) (MaybeCodeRead.MaybeCode g) (MaybeCodeRead.MaybeCode l) (MaybeKindRead.MaybeKind k) = refl
+read-rest may None date gaining losing kind = refl
+read-rest may (Some n) None gaining losing kind = refl
+read-rest may (Some n) (Some x) None losing kind = simp and-false
+read-rest may (Some n) (Some x) (Some g) None kind = simp and-false
+read-rest may (Some n) (Some x) (Some g) (Some l) None = simp and-false
+read-rest true (Some n) (Some x) (Some g) (Some l) (Some k) = refl
+read-rest false (Some n) (Some x) (Some g) (Some l) (Some k) = refl
 
-read-six : (some may : Bool) (first : DigitsRead) (b : List ℕ) (date : MaybeDateRead) (gaining losing : MaybeCodeRead) (kind : MaybeKindRead)
+read-six : (some may : Bool) (first : Option Digits) (b : List ℕ) (date : Option (Option CalendarDays)) (gaining losing : Option (Option Code)) (kind : Option (Option Kind))
     → ((some && is_digits first) && (range_from first b && (date_right may date && (code_right true gaining && (code_right may losing && (kind_right may kind && (may || (code_there gaining || return_there kind))))))))
-    ≡ (some && filled_or may (on_digits first PartRead.Fault (λ d. rest_of (number_of d b) date gaining losing kind)))
-read-six some may (DigitsRead.Digits d) b date gaining losing kind = ap₂ ◌&&◌ (and-true some) (read-rest may (number_of d b) date gaining losing kind)
-read-six some may DigitsRead.Fault b date gaining losing kind = simp and-false
+    ≡ (some && filled_or may (on_digits first None (λ d. rest_of (number_of d b) date gaining losing kind)))
+read-six some may (Some d) b date gaining losing kind = ap₂ ◌&&◌ (and-true some) (read-rest may (number_of d b) date gaining losing kind)
+read-six some may None b date gaining losing kind = simp and-false
 
 module _ (pos : ℕ) (none missing : FieldCheck) (a b c d e f : List ℕ) where
   six-tests : is_faultless (six_fault pos none missing a b c d e f)
@@ -273,20 +264,20 @@ module _ (pos : ℕ) (none missing : FieldCheck) (a b c d e f : List ℕ) where
       )
 
 -- ---- the first number of a part
-no_part : (p : Part) → PartRead.Fault ≡ PartRead.Part p → ⊥
+no_part : (p : Part) → None ≡ Some p → ⊥
 no_part p h = let z : ◌≡◌ {A = ℕ} 0 1 = cc in omega arith
 
-part-number : (number : NumberRead) (date : MaybeDateRead) (gaining losing : MaybeCodeRead) (kind : MaybeKindRead) (p : Part) → rest_of number date gaining losing kind ≡ PartRead.Part p → number ≡ NumberRead.Number p.number
-part-number NumberRead.Fault date gaining losing kind p h = absurd (no_part p h)
-part-number (NumberRead.Number n) MaybeDateRead.Fault gaining losing kind p h = absurd (no_part p h)
-part-number (NumberRead.Number n) (MaybeDateRead.MaybeDate x) MaybeCodeRead.Fault losing kind p h = absurd (no_part p h)
-part-number (NumberRead.Number n) (MaybeDateRead.MaybeDate x) (MaybeCodeRead.MaybeCode g) MaybeCodeRead.Fault kind p h = absurd (no_part p h)
-part-number (NumberRead.Number n) (MaybeDateRead.MaybeDate x) (MaybeCodeRead.MaybeCode g) (MaybeCodeRead.MaybeCode l) MaybeKindRead.Fault p h = absurd (no_part p h)
-part-number (NumberRead.Number n) (MaybeDateRead.MaybeDate x) (MaybeCodeRead.MaybeCode g) (MaybeCodeRead.MaybeCode l) (MaybeKindRead.MaybeKind k) p h =
+part-number : (number : Option Number) (date : Option (Option CalendarDays)) (gaining losing : Option (Option Code)) (kind : Option (Option Kind)) (p : Part) → rest_of number date gaining losing kind ≡ Some p → number ≡ Some p.number
+part-number None date gaining losing kind p h = absurd (no_part p h)
+part-number (Some n) None gaining losing kind p h = absurd (no_part p h)
+part-number (Some n) (Some x) None losing kind p h = absurd (no_part p h)
+part-number (Some n) (Some x) (Some g) None kind p h = absurd (no_part p h)
+part-number (Some n) (Some x) (Some g) (Some l) None p h = absurd (no_part p h)
+part-number (Some n) (Some x) (Some g) (Some l) (Some k) p h =
     let same : ◌≡◌ {A = Part} (record { number = n; date = x; gaining = g; losing = l; kind = k }) p = cc in
-    ap (λ (q : Part). NumberRead.Number q.number) same
+    ap (λ (q : Part). Some q.number) same
 
-digits-empty : (f : List ℕ) (d : Digits) → digits_field_of f ≡ DigitsRead.Digits d → is_empty d ≡ eqb (length f) 0
+digits-empty : (f : List ℕ) (d : Digits) → digits_field_of f ≡ Some d → is_empty d ≡ eqb (length f) 0
 digits-empty f d h = go (is_empty d) refl
   where
     size : digits_size d ≡ length f
@@ -296,40 +287,40 @@ digits-empty f d h = go (is_empty d) refl
     go true e = sym (eq-eqb (length f) 0 (omega (arith, size, size_none 12 d.0 (omega (arith, eqb-true d.0 1 e)))))
     go false e = sym (ne_eqb (length f) 0 (λ z. size-some d (digits-back f d h).1 e (size ∙ z)))
 
-pub first-empty : (a b c d e f : List ℕ) (p : Part) → six_of a b c d e f ≡ PartRead.Part p → is_empty p.number.first ≡ eqb (length a) 0
+pub first-empty : (a b c d e f : List ℕ) (p : Part) → six_of a b c d e f ≡ Some p → is_empty p.number.first ≡ eqb (length a) 0
 unfolding six_of
 first-empty a b c d e f p h = go (digits_field_of a) refl h
   where
-    go : (r : DigitsRead) → digits_field_of a ≡ r → on_digits r PartRead.Fault (λ x. rest_of (number_of x b) (maybe_date_of c) (maybe_code_of d) (maybe_code_of e) (maybe_kind_of f)) ≡ PartRead.Part p → is_empty p.number.first ≡ eqb (length a) 0
-    go (DigitsRead.Digits x) q k =
+    go : (r : Option Digits) → digits_field_of a ≡ r → on_digits r None (λ x. rest_of (number_of x b) (maybe_date_of c) (maybe_code_of d) (maybe_code_of e) (maybe_kind_of f)) ≡ Some p → is_empty p.number.first ≡ eqb (length a) 0
+    go (Some x) q k =
         let n = part-number (number_of x b) (maybe_date_of c) (maybe_code_of d) (maybe_code_of e) (maybe_kind_of f) p k in
         ap is_empty (number-back x b p.number (digits-back a x q).1 n).0 ∙ digits-empty a x q
-    go DigitsRead.Fault q k = absurd (no_part p k)
+    go None q k = absurd (no_part p k)
 
 -- ---- a report
-named-exact : (g : MaybeCode) (k : Kind) → part_named g k ≡ (has_code g || is_return k)
-named-exact (MaybeCode.Code c) k = refl
-named-exact MaybeCode.Empty P = refl
-named-exact MaybeCode.Empty L = refl
-named-exact MaybeCode.Empty Z = refl
+named-exact : (g : Option Code) (k : Kind) → part_named g k ≡ (has_code g || is_return k)
+named-exact (Some c) k = refl
+named-exact None P = refl
+named-exact None L = refl
+named-exact None Z = refl
 
 pub whole-exact : (p : Part) → is_report (whole_of p) ≡ (not (is_empty p.number.first) && is_filled p)
 unfolding whole_of
 whole-exact p = go (is_empty p.number.first) p.date p.losing p.kind
   where
-    go : (t : Bool) (date : MaybeDate) (losing : MaybeCode) (kind : MaybeKind)
-        → is_report (cond t ReportRead.Fault (on_some_date date λ d. on_some_code losing λ l. on_some_kind kind λ k. cond (part_named p.gaining k) (ReportRead.Report (record { number = p.number; date = d; gaining = gaining_of p.gaining; losing = l; kind = k })) ReportRead.Fault))
+    go : (t : Bool) (date : Option CalendarDays) (losing : Option Code) (kind : Option Kind)
+        → is_report (cond t None (on_some_date date λ d. on_some_code losing λ l. on_some_kind kind λ k. cond (part_named p.gaining k) (Some (record { number = p.number; date = d; gaining = gaining_of p.gaining; losing = l; kind = k })) None))
         ≡ (not t && (has_date date && (has_code losing && (has_kind kind && (has_code p.gaining || returns kind)))))
     go true date losing kind = refl
-    go false MaybeDate.Empty losing kind = refl
-    go false (MaybeDate.Date d) MaybeCode.Empty kind = refl
-    go false (MaybeDate.Date d) (MaybeCode.Code l) MaybeKind.Empty = refl
-    go false (MaybeDate.Date d) (MaybeCode.Code l) (MaybeKind.Kind k) = chosen is_report (ReportRead.Report _) ReportRead.Fault refl refl (part_named p.gaining k) ∙ named-exact p.gaining k
+    go false None losing kind = refl
+    go false (Some d) None kind = refl
+    go false (Some d) (Some l) None = refl
+    go false (Some d) (Some l) (Some k) = chosen is_report (Some _) None refl refl (part_named p.gaining k) ∙ named-exact p.gaining k
 
 pub report-six : (a b c d e f : List ℕ) → is_report (report_from (six_of a b c d e f)) ≡ (not (eqb (length a) 0) && filled_or false (six_of a b c d e f))
 unfolding report_from
 report-six a b c d e f = go (six_of a b c d e f) refl
   where
-    go : (r : PartRead) → six_of a b c d e f ≡ r → is_report (report_from r) ≡ (not (eqb (length a) 0) && filled_or false r)
-    go (PartRead.Part p) q = whole-exact p ∙ ap (λ (t : Bool). not t && is_filled p) (first-empty a b c d e f p q)
-    go PartRead.Fault q = sym (and-false (not (eqb (length a) 0)))
+    go : (r : Option Part) → six_of a b c d e f ≡ r → is_report (report_from r) ≡ (not (eqb (length a) 0) && filled_or false r)
+    go (Some p) q = whole-exact p ∙ ap (λ (t : Bool). not t && is_filled p) (first-empty a b c d e f p q)
+    go None q = sym (and-false (not (eqb (length a) 0)))

@@ -1,15 +1,15 @@
 -- One field by itself: right, or why it is wrong. The causes are tried in their order: the characters, the length, the value. Assumes nothing:
 -- these are definitions.
+use Rattle.fields.specs.declared.number.Number.{Number}
+use Rattle.fields.specs.declared.number.Digits.{Digits}
+use Rattle.calendar.specs.declared.dates.CalendarDays.{CalendarDays}
+use Rattle.fields.specs.declared.correction_code.CorrectionCode.{CorrectionCode}
+use Rattle.fields.specs.declared.code.Code.{Code}
+use Rattle.std.specs.Prelude.{Option, Some, None}
 use Rattle.std.specs.Prelude.{ℕ, Bool, true, false, cond, not, ◌&&◌, ◌||◌, List, [], ◌∷◌, eqb, leb, length}
 use Rattle.laws.specs.Lists.{all, same_lists}
-use Rattle.fields.specs.declared.code.CodeRead.{CodeRead}
-use Rattle.fields.specs.declared.correction_code.CorrectionCodeRead.{CorrectionCodeRead}
-use Rattle.fields.specs.declared.date.DateRead.{DateRead}
 use Rattle.fields.specs.declared.kind.Kind.{Kind}
 use Rattle.fields.specs.declared.kind.Kind.TheVariants.{P, L, Z}
-use Rattle.fields.specs.declared.kind.KindRead.{KindRead}
-use Rattle.fields.specs.declared.number.DigitsRead.{DigitsRead}
-use Rattle.fields.specs.declared.number.NumberRead.{NumberRead}
 use Rattle.fields.specs.Code.{code_of}
 use Rattle.fields.specs.CorrectionCode.{correction_code_of, is_objection}
 use Rattle.fields.specs.Date.{date_field_of}
@@ -25,25 +25,25 @@ unfoldable pub is_character : ℕ → Bool
 is_character b = eqb b 9 || (eqb b 10 || (eqb b 13 || ((leb 32 b && leb b 126) || (leb 192 b && leb b 255))))
 
 -- ---- whether a field is read as a value
-abbrev pub is_digits : DigitsRead → Bool
-is_digits (DigitsRead.Digits d) = true
-is_digits DigitsRead.Fault = false
+abbrev pub is_digits : Option Digits → Bool
+is_digits (Some d) = true
+is_digits None = false
 
-abbrev pub is_date : DateRead → Bool
-is_date (DateRead.Date d) = true
-is_date DateRead.Fault = false
+abbrev pub is_date : Option CalendarDays → Bool
+is_date (Some d) = true
+is_date None = false
 
-abbrev pub is_code : CodeRead → Bool
-is_code (CodeRead.Code c) = true
-is_code CodeRead.Fault = false
+abbrev pub is_code : Option Code → Bool
+is_code (Some c) = true
+is_code None = false
 
-abbrev pub is_kind : KindRead → Bool
-is_kind (KindRead.Kind k) = true
-is_kind KindRead.Fault = false
+abbrev pub is_kind : Option Kind → Bool
+is_kind (Some k) = true
+is_kind None = false
 
-abbrev pub is_correction_code : CorrectionCodeRead → Bool
-is_correction_code (CorrectionCodeRead.CorrectionCode c) = true
-is_correction_code CorrectionCodeRead.Fault = false
+abbrev pub is_correction_code : Option CorrectionCode → Bool
+is_correction_code (Some c) = true
+is_correction_code None = false
 
 -- ---- one field: its characters; `empty` where nothing stands in it; its length; its value, and the cause where that is wrong
 unfoldable pub alone : FieldCheck → Bool → Bool → Cause → List ℕ → FieldCheck
@@ -84,13 +84,13 @@ allowed Right rule = cond rule Right (Wrong Value)
 allowed (Wrong cause) rule = Wrong cause
 
 -- the second number field is empty, or the last number of a block that the first begins (rules 5 and 8 of 4.4.2)
-abbrev pub is_number : NumberRead → Bool
-is_number (NumberRead.Number n) = true
-is_number NumberRead.Fault = false
+abbrev pub is_number : Option Number → Bool
+is_number (Some n) = true
+is_number None = false
 
-abbrev pub range_from : DigitsRead → List ℕ → Bool
-range_from (DigitsRead.Digits first) f = is_number (number_of first f)
-range_from DigitsRead.Fault f = false
+abbrev pub range_from : Option Digits → List ℕ → Bool
+range_from (Some first) f = is_number (number_of first f)
+range_from None f = false
 
 unfoldable pub is_range : List ℕ → List ℕ → Bool
 is_range a b = range_from (digits_field_of a) b
@@ -101,17 +101,17 @@ is_return P = false
 is_return L = false
 is_return Z = true
 
-abbrev pub return_read : KindRead → Bool
-return_read (KindRead.Kind k) = is_return k
-return_read KindRead.Fault = false
+abbrev pub return_read : Option Kind → Bool
+return_read (Some k) = is_return k
+return_read None = false
 
 unfoldable pub is_named : List ℕ → List ℕ → Bool
 is_named gaining status = not (eqb (length gaining) 0) || return_read (kind_of status)
 
 -- the code of an objection, 25XX
-abbrev pub objects_by : CorrectionCodeRead → Bool
-objects_by (CorrectionCodeRead.CorrectionCode c) = is_objection c
-objects_by CorrectionCodeRead.Fault = false
+abbrev pub objects_by : Option CorrectionCode → Bool
+objects_by (Some c) = is_objection c
+objects_by None = false
 
 unfoldable pub objects : List ℕ → Bool
 objects code = objects_by (correction_code_of code)

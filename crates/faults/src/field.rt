@@ -9,11 +9,10 @@ ghost use Rattle.fields.specs.Number.{digits_field_of};
 ghost use Rattle.faults.specs.Field.{is_character, is_digits, is_date, is_code, is_kind, is_correction_code, alone, digits_alone, date_alone, code_alone, kind_alone, correction_code_alone, mark_alone, nothing_alone, allowed, is_range, is_return, is_named, objects};
 
 use crate::cause::{Cause, FieldCheck};
-use fields::code::{Code, CodeRead};
-use fields::correction_code::{CorrectionCode, CorrectionCodeRead};
-use fields::date::DateRead;
-use fields::kind::{Kind, KindRead};
-use fields::number::{Digits, DigitsRead, Number, NumberRead};
+use fields::code::Code;
+use fields::correction_code::CorrectionCode;
+use fields::kind::Kind;
+use fields::number::{Digits, Number};
 
 // A character of 4.4.1.
 fn is_character(b: u8) -> bool
@@ -39,8 +38,8 @@ fn is_digits(f: &[u8]) -> bool
     ensures { result ≡ is_digits (digits_field_of f.now) }
 {
     match Digits::read(f) {
-        DigitsRead::Digits(_) => true,
-        DigitsRead::Fault => false,
+        Some(_) => true,
+        None => false,
     }
 }
 
@@ -48,8 +47,8 @@ fn is_date(f: &[u8]) -> bool
     ensures { result ≡ is_date (date_field_of f.now) }
 {
     match fields::date::read(f) {
-        DateRead::Date(_) => true,
-        DateRead::Fault => false,
+        Some(_) => true,
+        None => false,
     }
 }
 
@@ -57,8 +56,8 @@ fn is_code(f: &[u8]) -> bool
     ensures { result ≡ is_code (code_of f.now) }
 {
     match Code::read(f) {
-        CodeRead::Code(_) => true,
-        CodeRead::Fault => false,
+        Some(_) => true,
+        None => false,
     }
 }
 
@@ -66,8 +65,8 @@ fn is_kind(f: &[u8]) -> bool
     ensures { result ≡ is_kind (kind_of f.now) }
 {
     match Kind::read(f) {
-        KindRead::Kind(_) => true,
-        KindRead::Fault => false,
+        Some(_) => true,
+        None => false,
     }
 }
 
@@ -75,8 +74,8 @@ fn is_correction_code(f: &[u8]) -> bool
     ensures { result ≡ is_correction_code (correction_code_of f.now) }
 {
     match CorrectionCode::read(f) {
-        CorrectionCodeRead::CorrectionCode(_) => true,
-        CorrectionCodeRead::Fault => false,
+        Some(_) => true,
+        None => false,
     }
 }
 
@@ -188,12 +187,12 @@ pub(crate) fn allowed(itself: FieldCheck, rule: bool) -> FieldCheck
 pub(crate) fn is_range(a: &[u8], b: &[u8]) -> bool
     ensures { result ≡ is_range a.now b.now }
 {
-    let DigitsRead::Digits(first) = Digits::read(a) else {
+    let Some(first) = Digits::read(a) else {
         return false;
     };
     match Number::read(first, b) {
-        NumberRead::Number(_) => true,
-        NumberRead::Fault => false,
+        Some(_) => true,
+        None => false,
     }
 }
 
@@ -214,7 +213,7 @@ pub(crate) fn is_named(gaining: &[u8], status: &[u8]) -> bool
     if gaining.len() != 0 {
         return true;
     }
-    let KindRead::Kind(k) = Kind::read(status) else {
+    let Some(k) = Kind::read(status) else {
         return false;
     };
     is_return(k)
@@ -224,7 +223,7 @@ pub(crate) fn is_named(gaining: &[u8], status: &[u8]) -> bool
 pub(crate) fn objects(code: &[u8]) -> bool
     ensures { result ≡ objects code.now }
 {
-    let CorrectionCodeRead::CorrectionCode(c) = CorrectionCode::read(code) else {
+    let Some(c) = CorrectionCode::read(code) else {
         return false;
     };
     c.is_objection()

@@ -1,4 +1,5 @@
 -- The kind: reading and writing undo each other. Assumes nothing.
+use Rattle.std.specs.Prelude.{Option, Some, None}
 use Prim.Native.Nat.{ℕ}
 use native.Mathlib.Omega.{arith}
 use mathlib.Core.Path.{◌≡◌, refl, sym, ap, ◌∙◌}
@@ -9,9 +10,6 @@ use lib.ListN.{length}
 use borrow.Author.Tests.{eqb-true, ne_eqb}
 use Rattle.fields.specs.declared.kind.Kind.{Kind}
 use Rattle.fields.specs.declared.kind.Kind.TheVariants.{P, L, Z}
-use Rattle.fields.specs.declared.kind.KindRead.{KindRead}
-use Rattle.fields.specs.declared.kind.MaybeKind.{MaybeKind}
-use Rattle.fields.specs.declared.kind.MaybeKindRead.{MaybeKindRead}
 use Rattle.fields.specs.Kind.{kind_by, kind_of, kind_text, maybe_kind_from, maybe_kind_of, maybe_kind_text}
 
 pub length-kind : (k : Kind) → length (kind_text k) ≡ 1
@@ -20,17 +18,17 @@ length-kind L = refl
 length-kind Z = refl
 
 -- what was written is read back
-pub kind-trip : (k : Kind) → kind_of (kind_text k) ≡ KindRead.Kind k
+pub kind-trip : (k : Kind) → kind_of (kind_text k) ≡ Some k
 unfolding kind_of kind_by
 kind-trip P = refl
 kind-trip L = refl
 kind-trip Z = refl
 
-kind-same : (j k : Kind) → KindRead.Kind j ≡ KindRead.Kind k → j ≡ k
+kind-same : (j k : Kind) → Some j ≡ Some k → j ≡ k
 kind-same j k e = cc
 
 -- what was read is written again
-pub kind-back : (f : List ℕ) (k : Kind) → kind_of f ≡ KindRead.Kind k → kind_text k ≡ f
+pub kind-back : (f : List ℕ) (k : Kind) → kind_of f ≡ Some k → kind_text k ≡ f
 unfolding kind_of kind_by
 kind-back [] k e = absurd (let z : ◌≡◌ {A = ℕ} 0 1 = cc in omega arith)
 kind-back (b ∷ []) k e = go (eqb b 80) (eqb b 76) (eqb b 90) refl refl refl e
@@ -38,7 +36,7 @@ kind-back (b ∷ []) k e = go (eqb b 80) (eqb b 76) (eqb b 90) refl refl refl e
     letter : (m : ℕ) (j : Kind) → kind_text j ≡ m ∷ [] → b ≡ m → j ≡ k → kind_text k ≡ b ∷ []
     letter m j t p q = ap kind_text (sym q) ∙ t ∙ ap (λ (x : ℕ). x ∷ []) (sym p)
 
-    go : (p l z : Bool) → eqb b 80 ≡ p → eqb b 76 ≡ l → eqb b 90 ≡ z → cond p (KindRead.Kind P) (cond l (KindRead.Kind L) (cond z (KindRead.Kind Z) KindRead.Fault)) ≡ KindRead.Kind k → kind_text k ≡ b ∷ []
+    go : (p l z : Bool) → eqb b 80 ≡ p → eqb b 76 ≡ l → eqb b 90 ≡ z → cond p (Some P) (cond l (Some L) (cond z (Some Z) None)) ≡ Some k → kind_text k ≡ b ∷ []
     go true l z p q r e =
         let w : P ≡ k = kind-same P k e in
         letter 80 P refl (eqb-true b 80 p) w
@@ -50,24 +48,24 @@ kind-back (b ∷ []) k e = go (eqb b 80) (eqb b 76) (eqb b 90) refl refl refl e
         letter 90 Z refl (eqb-true b 90 r) w
     go false false false p q r e = absurd (let z : ◌≡◌ {A = ℕ} 0 1 = cc in omega arith)
 kind-back (b ∷ b' ∷ f) k e =
-    let w : KindRead.Fault ≡ KindRead.Kind k = rw (ne_eqb (length (b ∷ b' ∷ f)) 1 (λ h. omega arith)) at e in
+    let w : None ≡ Some k = rw (ne_eqb (length (b ∷ b' ∷ f)) 1 (λ h. omega arith)) at e in
     absurd (let z : ◌≡◌ {A = ℕ} 0 1 = cc in omega arith)
 
 -- ---- a field that may be empty
-pub maybe-kind-trip : (k : MaybeKind) → maybe_kind_of (maybe_kind_text k) ≡ MaybeKindRead.MaybeKind k
+pub maybe-kind-trip : (k : Option Kind) → maybe_kind_of (maybe_kind_text k) ≡ Some k
 unfolding maybe_kind_of maybe_kind_from
-maybe-kind-trip (MaybeKind.Kind k) = rw (length-kind k) (ap maybe_kind_from (kind-trip k))
-maybe-kind-trip MaybeKind.Empty = refl
+maybe-kind-trip (Some k) = rw (length-kind k) (ap maybe_kind_from (kind-trip k))
+maybe-kind-trip None = refl
 
-pub maybe-kind-back : (f : List ℕ) (k : MaybeKind) → maybe_kind_of f ≡ MaybeKindRead.MaybeKind k → maybe_kind_text k ≡ f
+pub maybe-kind-back : (f : List ℕ) (k : Option Kind) → maybe_kind_of f ≡ Some k → maybe_kind_text k ≡ f
 unfolding maybe_kind_of maybe_kind_from
 maybe-kind-back [] k h =
-    let e : MaybeKind.Empty ≡ k = cc in
+    let e : None ≡ k = cc in
     rw (← e)
 maybe-kind-back (b ∷ f) k h = go (kind_of (b ∷ f)) refl (rw (ne_eqb (length (b ∷ f)) 0 (λ z. omega arith)) at h)
   where
-    go : (r : KindRead) → kind_of (b ∷ f) ≡ r → maybe_kind_from r ≡ MaybeKindRead.MaybeKind k → maybe_kind_text k ≡ b ∷ f
-    go (KindRead.Kind x) q e =
-        let w : MaybeKind.Kind x ≡ k = cc in
+    go : (r : Option Kind) → kind_of (b ∷ f) ≡ r → maybe_kind_from r ≡ Some k → maybe_kind_text k ≡ b ∷ f
+    go (Some x) q e =
+        let w : Some x ≡ k = cc in
         rw (← w) (kind-back (b ∷ f) x q)
-    go KindRead.Fault q e = absurd (let z : ◌≡◌ {A = ℕ} 0 1 = cc in omega arith)
+    go None q e = absurd (let z : ◌≡◌ {A = ℕ} 0 1 = cc in omega arith)

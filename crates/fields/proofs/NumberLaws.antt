@@ -1,4 +1,5 @@
 -- The number: which way its tests go, and that reading and writing undo each other. Assumes nothing.
+use Rattle.std.specs.Prelude.{Option, Some, None}
 use Prim.Native.Nat.{ℕ, ◌+◌, ◌-◌, ◌≤◌}
 use native.Mathlib.Nat.{zero-add}
 use native.Mathlib.Omega.{arith}
@@ -11,14 +12,10 @@ use borrow.Author.Tests.{leb-true, le-leb, eqb-true, eqb-false, ne_eqb, eq-eqb}
 use Rattle.laws.specs.Digits.{digits, down, spelt, size_of, all_digits}
 use Rattle.laws.proofs.Tests.{and_left, and_right, and-true, eqb_refl}
 use Rattle.laws.proofs.Digits.{length_digits, all_digits_lem, spelt-digits, digits-spelt, size_none, size-spelt, down-spelt}
-use Rattle.text.specs.declared.Spelt.{Spelt}
-use Rattle.text.specs.declared.Spelt.TheVariants.{Value}
 use Rattle.text.specs.Spelt.{digits_of}
 use Rattle.text.proofs.Spelling.{value_of, value-inv}
 use Rattle.fields.specs.declared.number.Digits.{Digits}
-use Rattle.fields.specs.declared.number.DigitsRead.{DigitsRead}
 use Rattle.fields.specs.declared.number.Number.{Number}
-use Rattle.fields.specs.declared.number.NumberRead.{NumberRead}
 use Rattle.fields.specs.Block.{some_decade, block}
 use Rattle.fields.specs.Number.{digits_from, digits_field_of, digits_size, digits_fits, digits_text, is_empty, block_fits, number_from, number_of, number_fits, same_number}
 
@@ -36,12 +33,12 @@ module _ (d : Digits) (p : digits_fits d ≡ true) where
   fits-leads = eqb-true (down (digits_size d) d.0) 1 (and_right (leb (digits_size d) 11) (eqb (down (digits_size d) d.0) 1) p)
 
   -- what was written is read back
-  pub digits-trip : digits_field_of (digits_text d) ≡ DigitsRead.Digits d
+  pub digits-trip : digits_field_of (digits_text d) ≡ Some d
   unfolding digits_field_of digits_from
   digits-trip =
       let short : length (digits_text d) ≤ 18 = rw (length-field d) (omega (arith, fits-size)) in
-      let value : digits_of true (digits_text d) ≡ Value d.0 =
-      value_of true (digits_text d) short (all_digits_lem (digits_size d) d.0) ∙ ap Value (rw fits-leads at (spelt-digits (digits_size d) d.0)) in
+      let value : digits_of true (digits_text d) ≡ Some d.0 =
+      value_of true (digits_text d) short (all_digits_lem (digits_size d) d.0) ∙ ap Some (rw fits-leads at (spelt-digits (digits_size d) d.0)) in
       rw (length-field d, le-leb (digits_size d) 11 fits-size, value)
 
 -- ---- which way `block_fits` goes
@@ -76,23 +73,23 @@ read_whole f x l p e =
     let leads : down (size_of 12 x) x ≡ 1 = rw (size, ← e) (down-spelt f 1 p) in
     (text, and-true _ _ (le-leb (size_of 12 x) 11 (omega arith)) (eq-eqb (down (size_of 12 x) x) 1 leads))
 
-pub digits-back : (f : List ℕ) (d : Digits) → digits_field_of f ≡ DigitsRead.Digits d → (digits_text d ≡ f) × (digits_fits d ≡ true)
+pub digits-back : (f : List ℕ) (d : Digits) → digits_field_of f ≡ Some d → (digits_text d ≡ f) × (digits_fits d ≡ true)
 unfolding digits_field_of digits_from
 digits-back f d h = go (leb (length f) 11) refl (digits_of true f) refl h
   where
-    whole : (x : ℕ) → length f ≤ 11 → digits_of true f ≡ Value x → (digits_text (record { 0 = x }) ≡ f) × (digits_fits (record { 0 = x }) ≡ true)
+    whole : (x : ℕ) → length f ≤ 11 → digits_of true f ≡ Some x → (digits_text (record { 0 = x }) ≡ f) × (digits_fits (record { 0 = x }) ≡ true)
     whole x l q =
         let w = value-inv true f x q in
         read_whole f x l w.0 w.1
 
-    go : (t : Bool) → leb (length f) 11 ≡ t → (v : Spelt) → digits_of true f ≡ v → cond t (digits_from v) DigitsRead.Fault ≡ DigitsRead.Digits d → (digits_text d ≡ f) × (digits_fits d ≡ true)
-    go true p (Value x) q e =
+    go : (t : Bool) → leb (length f) 11 ≡ t → (v : Option ℕ) → digits_of true f ≡ v → cond t (digits_from v) None ≡ Some d → (digits_text d ≡ f) × (digits_fits d ≡ true)
+    go true p (Some x) q e =
         let same : ◌≡◌ {A = Digits} (record { 0 = x }) d = cc in
         rw (← same) (whole x (leb-true (length f) 11 p) q)
-    go true p Spelt.Fault q e = absurd (let z : ◌≡◌ {A = ℕ} 0 1 = cc in omega arith)
+    go true p None q e = absurd (let z : ◌≡◌ {A = ℕ} 0 1 = cc in omega arith)
     go false p v q e = absurd (let z : ◌≡◌ {A = ℕ} 0 1 = cc in omega arith)
 
-pub digits-counted : (f : List ℕ) (d : Digits) → digits_field_of f ≡ DigitsRead.Digits d → digits_size d ≡ length f
+pub digits-counted : (f : List ℕ) (d : Digits) → digits_field_of f ≡ Some d → digits_size d ≡ length f
 digits-counted f d h = sym (length-field d) ∙ ap length (digits-back f d h).0
 
 -- a 1 before k digits
@@ -161,22 +158,22 @@ module _ (n : Number) (p : number_fits n ≡ true) where
       go false e = fits-size n.last (block-ends e)
 
   -- what was written is read back
-  pub number-trip : number_of n.first (digits_text n.last) ≡ NumberRead.Number n
+  pub number-trip : number_of n.first (digits_text n.last) ≡ Some n
   unfolding number_of number_from
   number-trip = go (is_empty n.last) refl
     where
-      go : (t : Bool) → is_empty n.last ≡ t → number_of n.first (digits_text n.last) ≡ NumberRead.Number n
+      go : (t : Bool) → is_empty n.last ≡ t → number_of n.first (digits_text n.last) ≡ Some n
       go true e =
           let one : n.last.0 ≡ 1 = eqb-true n.last.0 1 e in
           ap (λ (k : ℕ). number_of n.first (digits_text (record { 0 = k }))) one
           ∙ ap (number_of n.first) empty-text
-          ∙ ap (λ (k : ℕ). NumberRead.Number (record { first = n.first; last = record { 0 = k } })) (sym one)
+          ∙ ap (λ (k : ℕ). Some (record { first = n.first; last = record { 0 = k } })) (sym one)
       go false e =
           rw (length-field n.last, ne_eqb (digits_size n.last) 0 (size-some n.last (block-ends e) e))
           (ap (number_from n.first) (digits-trip n.last (block-ends e)) ∙ rw (block-whole e))
 
 -- what was read is written again
-pub number-back : (first : Digits) (f : List ℕ) (n : Number) → digits_fits first ≡ true → number_of first f ≡ NumberRead.Number n → (n.first ≡ first) × (digits_text n.last ≡ f) × (number_fits n ≡ true)
+pub number-back : (first : Digits) (f : List ℕ) (n : Number) → digits_fits first ≡ true → number_of first f ≡ Some n → (n.first ≡ first) × (digits_text n.last ≡ f) × (number_fits n ≡ true)
 unfolding number_of number_from number_fits
 number-back first [] n h e =
     let w : ◌≡◌ {A = Number} (record { first = first; last = record { 0 = 1 } }) n = cc in
@@ -187,15 +184,15 @@ number-back first (b ∷ f) n h e = go (digits_field_of (b ∷ f)) refl (rw (ne_
     fits last true p q = rw p h
     fits last false p q = rw p q
 
-    block_read : (last : Digits) (t : Bool) → block_fits first last ≡ t → digits_field_of (b ∷ f) ≡ DigitsRead.Digits last → cond t (NumberRead.Number (record { first = first; last = last })) NumberRead.Fault ≡ NumberRead.Number n → (n.first ≡ first) × (digits_text n.last ≡ b ∷ f) × (number_fits n ≡ true)
+    block_read : (last : Digits) (t : Bool) → block_fits first last ≡ t → digits_field_of (b ∷ f) ≡ Some last → cond t (Some (record { first = first; last = last })) None ≡ Some n → (n.first ≡ first) × (digits_text n.last ≡ b ∷ f) × (number_fits n ≡ true)
     block_read last true p q e =
         let w : ◌≡◌ {A = Number} (record { first = first; last = last }) n = cc in
         (ap (λ (m : Number). m.first) (sym w), ap (λ (m : Number). digits_text m.last) (sym w) ∙ (digits-back (b ∷ f) last q).0, ap number_fits (sym w) ∙ fits last (is_empty last) refl p)
     block_read last false p q e = absurd (let z : ◌≡◌ {A = ℕ} 0 1 = cc in omega arith)
 
-    go : (r : DigitsRead) → digits_field_of (b ∷ f) ≡ r → number_from first r ≡ NumberRead.Number n → (n.first ≡ first) × (digits_text n.last ≡ b ∷ f) × (number_fits n ≡ true)
-    go (DigitsRead.Digits last) q e = block_read last (block_fits first last) refl q e
-    go DigitsRead.Fault q e = absurd (let z : ◌≡◌ {A = ℕ} 0 1 = cc in omega arith)
+    go : (r : Option Digits) → digits_field_of (b ∷ f) ≡ r → number_from first r ≡ Some n → (n.first ≡ first) × (digits_text n.last ≡ b ∷ f) × (number_fits n ≡ true)
+    go (Some last) q e = block_read last (block_fits first last) refl q e
+    go None q e = absurd (let z : ◌≡◌ {A = ℕ} 0 1 = cc in omega arith)
 
 -- ---- two numbers are the same exactly if their fields have the same digits, leading zeros counted
 pub same_number_lem : (a b : Number) → same_number a b ≡ true → a ≡ b
@@ -211,8 +208,8 @@ same-itself a = and-true _ _ (eqb_refl a.first.0) (eqb_refl a.last.0)
 
 -- the digits of the two fields that were read as a, and of those that were read as b
 pub same-exactly : (f g f' g' : List ℕ) (a b : Number)
-    → digits_field_of f ≡ DigitsRead.Digits a.first → number_of a.first g ≡ NumberRead.Number a
-    → digits_field_of f' ≡ DigitsRead.Digits b.first → number_of b.first g' ≡ NumberRead.Number b
+    → digits_field_of f ≡ Some a.first → number_of a.first g ≡ Some a
+    → digits_field_of f' ≡ Some b.first → number_of b.first g' ≡ Some b
     → (same_number a b ≡ true → (f ≡ f') × (g ≡ g')) × ((f ≡ f') × (g ≡ g') → same_number a b ≡ true)
 same-exactly f g f' g' a b p q p' q' = (
   λ s.
@@ -223,9 +220,9 @@ same-exactly f g f' g' a b p q p' q' = (
         sym (number-back a.first g a x.1 q).1 ∙ ap (λ (n : Number). digits_text n.last) e ∙ (number-back b.first g' b x'.1 q').1,
       ),
   λ both.
-      let d : DigitsRead.Digits a.first ≡ DigitsRead.Digits b.first = sym p ∙ ap digits_field_of both.0 ∙ p' in
+      let d : Some a.first ≡ Some b.first = sym p ∙ ap digits_field_of both.0 ∙ p' in
       let first : a.first ≡ b.first = cc in
-      let m : NumberRead.Number a ≡ NumberRead.Number b = sym q ∙ ap₂ number_of first both.1 ∙ q' in
+      let m : Some a ≡ Some b = sym q ∙ ap₂ number_of first both.1 ∙ q' in
       let e : a ≡ b = cc in
       ap (λ (n : Number). same_number a n) (sym e) ∙ same-itself a,
 )

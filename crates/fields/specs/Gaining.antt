@@ -1,14 +1,14 @@
 -- What the field of the gaining network stands for. Assumes nothing: these are definitions.
-use Rattle.fields.specs.declared.code.MaybeCode.{MaybeCode}
-use Rattle.fields.specs.declared.code.MaybeCode.TheVariants.{Empty}
+use Rattle.fields.specs.declared.code.Code.{Code}
+use Rattle.std.specs.Prelude.{Option, Some, None}
 use Rattle.fields.specs.declared.gaining.Gaining.{Gaining}
 use Rattle.fields.specs.declared.gaining.Gaining.TheVariants.{Owner}
 
 -- an empty field stands for the owner
-abbrev pub gaining_of : MaybeCode → Gaining
-gaining_of (MaybeCode.Code c) = Gaining.Code c
-gaining_of Empty = Owner
+abbrev pub gaining_of : Option Code → Gaining
+gaining_of (Some c) = Gaining.Code c
+gaining_of None = Owner
 
-abbrev pub gaining_field : Gaining → MaybeCode
-gaining_field (Gaining.Code c) = MaybeCode.Code c
-gaining_field Owner = Empty
+abbrev pub gaining_field : Gaining → Option Code
+gaining_field (Gaining.Code c) = Some c
+gaining_field Owner = None

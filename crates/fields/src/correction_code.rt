@@ -3,37 +3,30 @@ ghost use Rattle.std.specs.Prelude.{◌≡◌, true, ◌+◌, ◌≤◌, length}
 ghost use Rattle.laws.specs.Overlay.{Laid};
 ghost use Rattle.fields.specs.CorrectionCode.{correction_code_of, correction_code_of_word, is_objection, correction_code_fits, correction_code_text};
 
-use text::Spelt;
 
 #[derive(Clone, Copy)]
 pub struct CorrectionCode(pub u16);
 
-#[derive(Drop)]
-pub enum CorrectionCodeRead {
-    CorrectionCode(CorrectionCode),
-    Fault,
-}
-
 impl CorrectionCode {
-    pub fn read(f: &[u8]) -> CorrectionCodeRead
+    pub fn read(f: &[u8]) -> Option<CorrectionCode>
         ensures { result ≡ correction_code_of f.now }
     {
         if f.len() != 4 {
-            return CorrectionCodeRead::Fault;
+            return None;
         }
-        let Spelt::Value(n) = text::read_digits(f, false) else {
-            return CorrectionCodeRead::Fault;
+        let Some(n) = text::read_digits(f, false) else {
+            return None;
         };
-        CorrectionCodeRead::CorrectionCode(CorrectionCode(n as u16))
+        Some(CorrectionCode(n as u16))
     }
 
-    pub fn of_word(w: u64) -> CorrectionCodeRead
+    pub fn of_word(w: u64) -> Option<CorrectionCode>
         ensures { result ≡ correction_code_of_word w }
     {
         if 9999 < w {
-            return CorrectionCodeRead::Fault;
+            return None;
         }
-        CorrectionCodeRead::CorrectionCode(CorrectionCode(w as u16))
+        Some(CorrectionCode(w as u16))
     }
 
     // 25XX

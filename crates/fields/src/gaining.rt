@@ -2,7 +2,7 @@
 ghost use Rattle.std.specs.Prelude.{◌≡◌};
 ghost use Rattle.fields.specs.Gaining.{gaining_of, gaining_field};
 
-use crate::code::{Code, MaybeCode};
+use crate::code::Code;
 
 #[derive(Clone, Copy)]
 pub enum Gaining {
@@ -12,22 +12,22 @@ pub enum Gaining {
 
 impl Gaining {
     // What its field says.
-    pub fn of(field: MaybeCode) -> Gaining
+    pub fn of(field: Option<Code>) -> Gaining
         ensures { result ≡ gaining_of field }
     {
         match field {
-            MaybeCode::Code(c) => Gaining::Code(c),
-            MaybeCode::Empty => Gaining::Owner,
+            Some(c) => Gaining::Code(c),
+            None => Gaining::Owner,
         }
     }
 
     // What stands in its field.
-    pub fn field(self) -> MaybeCode
+    pub fn field(self) -> Option<Code>
         ensures { result ≡ gaining_field self }
     {
         match self {
-            Gaining::Code(c) => MaybeCode::Code(c),
-            Gaining::Owner => MaybeCode::Empty,
+            Gaining::Code(c) => Some(c),
+            Gaining::Owner => None,
         }
     }
 }

@@ -10,36 +10,30 @@ pub enum Kind {
     Z,
 }
 
-#[derive(Drop)]
-pub enum KindRead {
-    Kind(Kind),
-    Fault,
-}
-
 impl Kind {
-    pub fn read(f: &[u8]) -> KindRead
+    pub fn read(f: &[u8]) -> Option<Kind>
         ensures { result ≡ kind_of f.now }
     {
         if f.len() != 1 {
-            return KindRead::Fault;
+            return None;
         }
         match f[0] {
-            80 => KindRead::Kind(Kind::P),
-            76 => KindRead::Kind(Kind::L),
-            90 => KindRead::Kind(Kind::Z),
-            _ => KindRead::Fault,
+            80 => Some(Kind::P),
+            76 => Some(Kind::L),
+            90 => Some(Kind::Z),
+            _ => None,
         }
     }
 
     // From a plain word: P is 0, L is 1, Z is 2.
-    pub fn of_word(w: u64) -> KindRead
+    pub fn of_word(w: u64) -> Option<Kind>
         ensures { result ≡ kind_of_word w }
     {
         match w {
-            0 => KindRead::Kind(Kind::P),
-            1 => KindRead::Kind(Kind::L),
-            2 => KindRead::Kind(Kind::Z),
-            _ => KindRead::Fault,
+            0 => Some(Kind::P),
+            1 => Some(Kind::L),
+            2 => Some(Kind::Z),
+            _ => None,
         }
     }
 
@@ -55,51 +49,36 @@ impl Kind {
     }
 }
 
-// A kind, or an empty field.
-#[derive(Clone, Copy)]
-pub enum MaybeKind {
-    Kind(Kind),
-    Empty,
+// The word for an empty field.
+pub const NONE: u64 = 3;
+
+pub fn maybe_of_word(w: u64) -> Option<Option<Kind>>
+    ensures { result ≡ maybe_kind_of_word w }
+{
+    if w == NONE {
+        return Some(None);
+    }
+    let Some(k) = Kind::of_word(w) else {
+        return None;
+    };
+    Some(Some(k))
 }
 
-#[derive(Drop)]
-pub enum MaybeKindRead {
-    MaybeKind(MaybeKind),
-    Fault,
+pub fn maybe_len(field: Option<Kind>) -> usize
+    ensures { result ≡ length (maybe_kind_text field) }
+{
+    match field {
+        Some(_) => 1,
+        None => 0,
+    }
 }
 
-impl MaybeKind {
-    // The word for an empty field.
-    pub const NONE: u64 = 3;
-
-    pub fn of_word(w: u64) -> MaybeKindRead
-        ensures { result ≡ maybe_kind_of_word w }
-    {
-        if w == MaybeKind::NONE {
-            return MaybeKindRead::MaybeKind(MaybeKind::Empty);
-        }
-        let KindRead::Kind(k) = Kind::of_word(w) else {
-            return MaybeKindRead::Fault;
-        };
-        MaybeKindRead::MaybeKind(MaybeKind::Kind(k))
-    }
-
-    pub fn len(self) -> usize
-        ensures { result ≡ length (maybe_kind_text self) }
-    {
-        match self {
-            MaybeKind::Kind(_) => 1,
-            MaybeKind::Empty => 0,
-        }
-    }
-
-    pub fn write(self, out: &mut [u8], at: usize) -> usize
-        requires { at + length (maybe_kind_text self) ≤ length out.old }
-        ensures { Laid out.old at (maybe_kind_text self) out.new result }
-    {
-        match self {
-            MaybeKind::Kind(k) => k.write(out, at),
-            MaybeKind::Empty => at,
-        }
+pub fn maybe_write(field: Option<Kind>, out: &mut [u8], at: usize) -> usize
+    requires { at + length (maybe_kind_text field) ≤ length out.old }
+    ensures { Laid out.old at (maybe_kind_text field) out.new result }
+{
+    match field {
+        Some(k) => k.write(out, at),
+        None => at,
     }
 }

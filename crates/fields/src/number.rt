@@ -5,33 +5,26 @@ ghost use Rattle.laws.specs.Digits.{digits, down};
 ghost use Rattle.fields.specs.Block.{some_decade};
 ghost use Rattle.fields.specs.Number.{digits_field_of, digits_fits, digits_size, digits_text, is_empty, block_fits, number_of, number_fits, same_number};
 
-use text::Spelt;
 
 // The digits of one field behind a leading 1, so that equal codes are equal digits: "" is 1, "0" is 10, "012" is 1012.
 #[derive(Clone, Copy)]
 pub struct Digits(pub u64);
-
-#[derive(Drop)]
-pub enum DigitsRead {
-    Digits(Digits),
-    Fault,
-}
 
 impl Digits {
     // An empty field; as a word too.
     pub const EMPTY: Digits = Digits(1);
 
     // At most 11 digits.
-    pub fn read(f: &[u8]) -> DigitsRead
+    pub fn read(f: &[u8]) -> Option<Digits>
         ensures { result ≡ digits_field_of f.now }
     {
         if 11 < f.len() {
-            return DigitsRead::Fault;
+            return None;
         }
-        let Spelt::Value(n) = text::read_digits(f, true) else {
-            return DigitsRead::Fault;
+        let Some(n) = text::read_digits(f, true) else {
+            return None;
         };
-        DigitsRead::Digits(Digits(n))
+        Some(Digits(n))
     }
 
     // Whether it is the code of at most 11 digits.
@@ -129,30 +122,24 @@ pub struct Number {
     pub last: Digits,
 }
 
-#[derive(Drop)]
-pub enum NumberRead {
-    Number(Number),
-    Fault,
-}
-
 impl Number {
     // The second field beside the first one.
-    pub fn read(first: Digits, f: &[u8]) -> NumberRead
+    pub fn read(first: Digits, f: &[u8]) -> Option<Number>
         ensures { result ≡ number_of first f.now }
     {
         if f.len() == 0 {
-            return NumberRead::Number(Number {
+            return Some(Number {
                 first,
                 last: Digits::EMPTY,
             });
         }
-        let DigitsRead::Digits(last) = Digits::read(f) else {
-            return NumberRead::Fault;
+        let Some(last) = Digits::read(f) else {
+            return None;
         };
         if !begins_block(first, last, f.len()) {
-            return NumberRead::Fault;
+            return None;
         }
-        NumberRead::Number(Number { first, last })
+        Some(Number { first, last })
     }
 
     // Whether its two fields can hold it.

@@ -2,6 +2,7 @@
 --     report-there, correction-there, request-there         where there is a record, its value is read, and it is spelt as the record is
 --     report-kept, correction-kept, request-kept            reading a file that was written from words gives the values of these words
 --     response-as-default                                   a response file is read as a default file is
+use Rattle.std.specs.Prelude.{Option, Some, None}
 use Prim.Native.Nat.{ℕ, zero, suc, ◌+◌, ◌<◌}
 use native.Mathlib.Omega.{arith}
 use mathlib.Core.Path.{◌≡◌, refl, sym, ap, ◌∙◌}
@@ -14,11 +15,8 @@ use Rattle.laws.specs.Split.{split, piece_of}
 use Rattle.laws.proofs.Tables.{all-at}
 use Rattle.laws.proofs.Tests.{never}
 use Rattle.layout.specs.declared.report.Report.{Report}
-use Rattle.layout.specs.declared.report.ReportRead.{ReportRead}
 use Rattle.layout.specs.declared.correction.Correction.{Correction}
-use Rattle.layout.specs.declared.correction.CorrectionRead.{CorrectionRead}
 use Rattle.layout.specs.declared.request.Request.{Request}
-use Rattle.layout.specs.declared.request.RequestRead.{RequestRead}
 use Rattle.layout.specs.Report.{report_of, report_of_words, report_text}
 use Rattle.layout.specs.Correction.{correction_of, correction_of_words, correction_text, is_report}
 use Rattle.layout.specs.Request.{request_of, request_of_words, request_text}
@@ -99,9 +97,9 @@ pub report-there : (file : List ℕ) (k : ℕ) → found_at FileKind.Default fil
 unfolding report_at is_record
 report-there file k e = go (report_of (piece_of 13 file k)) refl (found-line FileKind.Default file k e).1
   where
-    go : (r : ReportRead) → report_of (piece_of 13 file k) ≡ r → is_report r ≡ true → (x : Report) × (report_at file k ≡ ReportAt.Report x) × (report_text x ≡ record_at FileKind.Default file k)
-    go (ReportRead.Report x) q t = (x, rw (e, q), (report-back (piece_of 13 file k) x q).0 ∙ sym (found-line FileKind.Default file k e).0)
-    go ReportRead.Fault q t = never t
+    go : (r : Option Report) → report_of (piece_of 13 file k) ≡ r → is_report r ≡ true → (x : Report) × (report_at file k ≡ ReportAt.Report x) × (report_text x ≡ record_at FileKind.Default file k)
+    go (Some x) q t = (x, rw (e, q), (report-back (piece_of 13 file k) x q).0 ∙ sym (found-line FileKind.Default file k e).0)
+    go None q t = never t
 
 pub report-kept : (words : List ℕ) (n k : ℕ) → held FileKind.Default (values_in FileKind.Default words) ≡ Holding.Records n → k < n
     → report_at (file_of FileKind.Default words) k ≡ report_found Found.Record (report_of_words (get_or (values_in FileKind.Default words) k []))
@@ -115,9 +113,9 @@ pub correction-there : (file : List ℕ) (k : ℕ) → found_at FileKind.Correct
 unfolding correction_at is_record
 correction-there file k e = go (correction_of (piece_of 13 file k)) refl (found-line FileKind.Correction file k e).1
   where
-    go : (r : CorrectionRead) → correction_of (piece_of 13 file k) ≡ r → is_correction r ≡ true → (x : Correction) × (correction_at file k ≡ CorrectionAt.Correction x) × (correction_text x ≡ record_at FileKind.Correction file k)
-    go (CorrectionRead.Correction x) q t = (x, rw (e, q), (correction-back (piece_of 13 file k) x q).0 ∙ sym (found-line FileKind.Correction file k e).0)
-    go CorrectionRead.Fault q t = never t
+    go : (r : Option Correction) → correction_of (piece_of 13 file k) ≡ r → is_correction r ≡ true → (x : Correction) × (correction_at file k ≡ CorrectionAt.Correction x) × (correction_text x ≡ record_at FileKind.Correction file k)
+    go (Some x) q t = (x, rw (e, q), (correction-back (piece_of 13 file k) x q).0 ∙ sym (found-line FileKind.Correction file k e).0)
+    go None q t = never t
 
 pub correction-kept : (words : List ℕ) (n k : ℕ) → held FileKind.Correction (values_in FileKind.Correction words) ≡ Holding.Records n → k < n
     → correction_at (file_of FileKind.Correction words) k ≡ correction_found Found.Record (correction_of_words (get_or (values_in FileKind.Correction words) k []))
@@ -131,9 +129,9 @@ pub request-there : (file : List ℕ) (k : ℕ) → found_at FileKind.Request fi
 unfolding request_at is_record
 request-there file k e = go (request_of (piece_of 13 file k)) refl (found-line FileKind.Request file k e).1
   where
-    go : (r : RequestRead) → request_of (piece_of 13 file k) ≡ r → is_request r ≡ true → (x : Request) × (request_at file k ≡ RequestAt.Request x) × (request_text x ≡ record_at FileKind.Request file k)
-    go (RequestRead.Request x) q t = (x, rw (e, q), (request-back (piece_of 13 file k) x q).0 ∙ sym (found-line FileKind.Request file k e).0)
-    go RequestRead.Fault q t = never t
+    go : (r : Option Request) → request_of (piece_of 13 file k) ≡ r → is_request r ≡ true → (x : Request) × (request_at file k ≡ RequestAt.Request x) × (request_text x ≡ record_at FileKind.Request file k)
+    go (Some x) q t = (x, rw (e, q), (request-back (piece_of 13 file k) x q).0 ∙ sym (found-line FileKind.Request file k e).0)
+    go None q t = never t
 
 pub request-kept : (words : List ℕ) (n k : ℕ) → held FileKind.Request (values_in FileKind.Request words) ≡ Holding.Records n → k < n
     → request_at (file_of FileKind.Request words) k ≡ request_found Found.Record (request_of_words (get_or (values_in FileKind.Request words) k []))

@@ -1,11 +1,12 @@
 -- The value of the record at a place of a file, and what each answer tells. Assumes nothing: these are definitions.
+use Rattle.layout.specs.declared.request.Request.{Request}
+use Rattle.layout.specs.declared.report.Report.{Report}
+use Rattle.layout.specs.declared.correction.Correction.{Correction}
+use Rattle.std.specs.Prelude.{Option, Some, None}
 use Rattle.std.specs.Prelude.{ℕ, List, []}
 use Rattle.laws.specs.Split.{piece_of}
 use Rattle.laws.specs.Told.{Told, told}
 use Rattle.faults.specs.Cause.{fault_told}
-use Rattle.layout.specs.declared.report.ReportRead.{ReportRead}
-use Rattle.layout.specs.declared.correction.CorrectionRead.{CorrectionRead}
-use Rattle.layout.specs.declared.request.RequestRead.{RequestRead}
 use Rattle.layout.specs.Report.{report_of}
 use Rattle.layout.specs.Correction.{correction_of}
 use Rattle.layout.specs.Request.{request_of}
@@ -19,31 +20,31 @@ use Rattle.files.specs.Reading.{found_at}
 
 -- ---- where a record is found, it is read (`proofs/ValueTrip`), so the last line of each is never asked
 -- reports of default and response files
-abbrev pub report_found : Found → ReportRead → ReportAt
+abbrev pub report_found : Found → Option Report → ReportAt
 report_found (Found.Fault place cause) r = ReportAt.Fault place cause
 report_found Found.Beyond r = ReportAt.Beyond
-report_found Found.Record (ReportRead.Report x) = ReportAt.Report x
-report_found Found.Record ReportRead.Fault = ReportAt.Beyond
+report_found Found.Record (Some x) = ReportAt.Report x
+report_found Found.Record None = ReportAt.Beyond
 
 unfoldable pub report_at : List ℕ → ℕ → ReportAt
 report_at file k = report_found (found_at FileKind.Default file k) (report_of (piece_of 13 file k))
 
 -- corrections
-abbrev pub correction_found : Found → CorrectionRead → CorrectionAt
+abbrev pub correction_found : Found → Option Correction → CorrectionAt
 correction_found (Found.Fault place cause) r = CorrectionAt.Fault place cause
 correction_found Found.Beyond r = CorrectionAt.Beyond
-correction_found Found.Record (CorrectionRead.Correction x) = CorrectionAt.Correction x
-correction_found Found.Record CorrectionRead.Fault = CorrectionAt.Beyond
+correction_found Found.Record (Some x) = CorrectionAt.Correction x
+correction_found Found.Record None = CorrectionAt.Beyond
 
 unfoldable pub correction_at : List ℕ → ℕ → CorrectionAt
 correction_at file k = correction_found (found_at FileKind.Correction file k) (correction_of (piece_of 13 file k))
 
 -- the request of a request file
-abbrev pub request_found : Found → RequestRead → RequestAt
+abbrev pub request_found : Found → Option Request → RequestAt
 request_found (Found.Fault place cause) r = RequestAt.Fault place cause
 request_found Found.Beyond r = RequestAt.Beyond
-request_found Found.Record (RequestRead.Request x) = RequestAt.Request x
-request_found Found.Record RequestRead.Fault = RequestAt.Beyond
+request_found Found.Record (Some x) = RequestAt.Request x
+request_found Found.Record None = RequestAt.Beyond
 
 unfoldable pub request_at : List ℕ → ℕ → RequestAt
 request_at file k = request_found (found_at FileKind.Request file k) (request_of (piece_of 13 file k))

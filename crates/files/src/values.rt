@@ -5,9 +5,9 @@ ghost use Rattle.files.specs.Values.{report_at, correction_at, request_at};
 
 use crate::read::Found;
 use faults::cause::{Cause, FaultPlace};
-use layout::correction::{Correction, CorrectionRead};
-use layout::report::{Report, ReportRead};
-use layout::request::{Request, RequestRead};
+use layout::correction::Correction;
+use layout::report::Report;
+use layout::request::Request;
 use records::names::kind::FileKind;
 
 #[derive(Drop)]
@@ -24,7 +24,7 @@ pub fn read_report(file: &[u8], place: usize) -> ReportAt
         Found::Fault(at, cause) => ReportAt::Fault(at, cause),
         Found::Beyond => ReportAt::Beyond,
         Found::Record => {
-            let ReportRead::Report(x) = Report::read(text::piece(file, 13, place)) else {
+            let Some(x) = Report::read(text::piece(file, 13, place)) else {
                 return ReportAt::Beyond;
             };
             ReportAt::Report(x)
@@ -46,7 +46,7 @@ pub fn read_correction(file: &[u8], place: usize) -> CorrectionAt
         Found::Fault(at, cause) => CorrectionAt::Fault(at, cause),
         Found::Beyond => CorrectionAt::Beyond,
         Found::Record => {
-            let CorrectionRead::Correction(x) = Correction::read(text::piece(file, 13, place))
+            let Some(x) = Correction::read(text::piece(file, 13, place))
             else {
                 return CorrectionAt::Beyond;
             };
@@ -69,7 +69,7 @@ pub fn read_request(file: &[u8], place: usize) -> RequestAt
         Found::Fault(at, cause) => RequestAt::Fault(at, cause),
         Found::Beyond => RequestAt::Beyond,
         Found::Record => {
-            let RequestRead::Request(x) = Request::read(text::piece(file, 13, place)) else {
+            let Some(x) = Request::read(text::piece(file, 13, place)) else {
                 return RequestAt::Beyond;
             };
             RequestAt::Request(x)

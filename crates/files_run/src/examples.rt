@@ -2,7 +2,7 @@
 use crate::{lines, show, writing};
 use files::judge::Judged;
 use records::names::kind::FileKind;
-use records::names::name::{Name, NameRead};
+use records::names::name::Name;
 
 // A line of the file at the place `i`. Said: whether the record that is found there is the line, and its values too. Not said: whether it is a
 // record.
@@ -80,7 +80,7 @@ fn name_back(rt: &impl Print, m: Name) {
 
 pub fn name(rt: &impl Print, s: &[u8]) {
     show::say(rt, s);
-    let NameRead::Name(m) = Name::read(s) else {
+    let Some(m) = Name::read(s) else {
         show::word(rt, show::NAME_FAULT);
         return;
     };

@@ -6,9 +6,9 @@ ghost use Rattle.layout.specs.Request.{request_fits};
 
 use crate::show;
 use files::values::{CorrectionAt, ReportAt, RequestAt};
-use layout::correction::{Correction, CorrectionRead};
-use layout::report::{Report, ReportRead};
-use layout::request::{Request, RequestRead};
+use layout::correction::Correction;
+use layout::report::Report;
+use layout::request::Request;
 use records::names::kind::FileKind;
 
 // How many bytes were written, and 1,000 for a fault.
@@ -44,7 +44,7 @@ const ALONE: usize = 1000000;
 
 fn report(s: &[u8], place: usize, out: &mut [u8]) -> usize {
     if place == ALONE {
-        let ReportRead::Report(r) = Report::read(s) else {
+        let Some(r) = Report::read(s) else {
             return 1000;
         };
         return put_report(r, out);
@@ -57,7 +57,7 @@ fn report(s: &[u8], place: usize, out: &mut [u8]) -> usize {
 
 fn correction(s: &[u8], place: usize, out: &mut [u8]) -> usize {
     if place == ALONE {
-        let CorrectionRead::Correction(c) = Correction::read(s) else {
+        let Some(c) = Correction::read(s) else {
             return 1000;
         };
         return put_correction(c, out);
@@ -70,7 +70,7 @@ fn correction(s: &[u8], place: usize, out: &mut [u8]) -> usize {
 
 fn request(s: &[u8], place: usize, out: &mut [u8]) -> usize {
     if place == ALONE {
-        let RequestRead::Request(r) = Request::read(s) else {
+        let Some(r) = Request::read(s) else {
             return 1000;
         };
         return put_request(r, out);

@@ -3,10 +3,9 @@
 use crate::{examples, show};
 use files::judge::Judged;
 use records::names::kind::FileKind;
-use text::Spelt;
 
 fn number(s: &[u8], k: usize) -> u64 {
-    let Spelt::Value(n) = text::read_digits(text::piece(s, 32, k), false) else {
+    let Some(n) = text::read_digits(text::piece(s, 32, k), false) else {
         return 0;
     };
     n

@@ -1,4 +1,5 @@
 -- A correction: which way its readers go, what is left to write, and how long its text is. Assumes nothing.
+use Rattle.std.specs.Prelude.{Some, None}
 use Prim.Native.Nat.{ℕ, ◌+◌, ◌-◌, ◌<◌, ◌≤◌}
 use native.Mathlib.Omega.{arith}
 use mathlib.Core.Path.{◌≡◌, refl, sym, ◌∙◌}
@@ -9,23 +10,20 @@ use Rattle.laws.specs.Split.{split, piece_of, between}
 use Rattle.laws.proofs.Digits.{length_digits}
 use Rattle.laws.proofs.Overlay.{Room}
 use Rattle.fields.specs.declared.correction_code.CorrectionCode.{CorrectionCode}
-use Rattle.fields.specs.declared.correction_code.CorrectionCodeRead.{CorrectionCodeRead}
 use Rattle.fields.specs.CorrectionCode.{correction_code_of, correction_code_of_word, correction_code_text}
 use Rattle.layout.specs.declared.part.Part.{Part}
-use Rattle.layout.specs.declared.part.PartRead.{PartRead}
 use Rattle.layout.specs.declared.correction.Correction.{Correction}
-use Rattle.layout.specs.declared.correction.CorrectionRead.TheVariants.{Fault}
 use Rattle.layout.specs.Part.{part_of, part_of_words, part_text}
 use Rattle.layout.specs.Correction.{head_of, reported_of, sound_of, three_of, correction_of, correction_of_words, correction_text}
 use Rattle.layout.specs.Putting.{head_text, between_parts}
 
 -- ---- before the first colon
 module _ (f : List ℕ) where
-  pub head-length : (length f ≡ 5 → ⊥) → head_of f ≡ CorrectionCodeRead.Fault
+  pub head-length : (length f ≡ 5 → ⊥) → head_of f ≡ None
   unfolding head_of
   head-length n = rw (ne_eqb (length f) 5 n)
 
-  pub head-letter : length f ≡ 5 → (get_or f 4 0 ≡ 85 → ⊥) → head_of f ≡ CorrectionCodeRead.Fault
+  pub head-letter : length f ≡ 5 → (get_or f 4 0 ≡ 85 → ⊥) → head_of f ≡ None
   unfolding head_of
   head-letter l n = rw (eq-eqb (length f) 5 l, ne_eqb (get_or f 4 0) 85 n)
 
@@ -34,17 +32,17 @@ module _ (f : List ℕ) where
   head-code l e = rw (eq-eqb (length f) 5 l, eq-eqb (get_or f 4 0) 85 e)
 
   -- ---- between the colons
-  pub reported-short : length f < 2 → reported_of f ≡ PartRead.Fault
+  pub reported-short : length f < 2 → reported_of f ≡ None
   unfolding reported_of
   reported-short h = rw (lt-leb 2 (length f) h)
 
   module _ (h : 2 ≤ length f) where
-    pub reported-comma : (get_or f (length f - 2) 0 ≡ 44 → ⊥) → reported_of f ≡ PartRead.Fault
+    pub reported-comma : (get_or f (length f - 2) 0 ≡ 44 → ⊥) → reported_of f ≡ None
     unfolding reported_of
     reported-comma n = rw (le-leb 2 (length f) h, ne_eqb (get_or f (length f - 2) 0) 44 n)
 
     module _ (e : get_or f (length f - 2) 0 ≡ 44) where
-      pub reported-letter : (get_or f (length f - 2 + 1) 0 ≡ 75 → ⊥) → reported_of f ≡ PartRead.Fault
+      pub reported-letter : (get_or f (length f - 2 + 1) 0 ≡ 75 → ⊥) → reported_of f ≡ None
       unfolding reported_of
       reported-letter n = rw (le-leb 2 (length f) h, eq-eqb (get_or f (length f - 2) 0) 44 e, ne_eqb (get_or f (length f - 2 + 1) 0) 75 n)
 
@@ -54,7 +52,7 @@ module _ (f : List ℕ) where
 
 -- ---- the whole
 module _ (s : List ℕ) where
-  pub correction-count : (length (split 58 s) - 1 ≡ 2 → ⊥) → correction_of s ≡ Fault
+  pub correction-count : (length (split 58 s) - 1 ≡ 2 → ⊥) → correction_of s ≡ None
   unfolding correction_of
   correction-count n = rw (ne_eqb (length (split 58 s)) 3 (λ e. n (omega arith)))
 
@@ -63,45 +61,45 @@ module _ (s : List ℕ) where
   correction-three e = rw (eq-eqb (length (split 58 s)) 3 (omega arith))
 
 module _ (a b c : List ℕ) where
-  pub three-1 : head_of a ≡ CorrectionCodeRead.Fault → three_of a b c ≡ Fault
+  pub three-1 : head_of a ≡ None → three_of a b c ≡ None
   unfolding three_of
   three-1 p₁ = rw p₁
 
-  module _ {code : CorrectionCode} (p₁ : head_of a ≡ CorrectionCodeRead.CorrectionCode code) where
-    pub three-2 : reported_of b ≡ PartRead.Fault → three_of a b c ≡ Fault
+  module _ {code : CorrectionCode} (p₁ : head_of a ≡ Some code) where
+    pub three-2 : reported_of b ≡ None → three_of a b c ≡ None
     unfolding three_of
     three-2 p₂ = rw (p₁, p₂)
 
-    module _ {u : Part} (p₂ : reported_of b ≡ PartRead.Part u) where
-      pub three-3 : part_of c ≡ PartRead.Fault → three_of a b c ≡ Fault
+    module _ {u : Part} (p₂ : reported_of b ≡ Some u) where
+      pub three-3 : part_of c ≡ None → three_of a b c ≡ None
       unfolding three_of
       three-3 p₃ = rw (p₁, p₂, p₃)
 
-      pub three-4 : {k : Part} → part_of c ≡ PartRead.Part k → three_of a b c ≡ sound_of code u k
+      pub three-4 : {k : Part} → part_of c ≡ Some k → three_of a b c ≡ sound_of code u k
       unfolding three_of
       three-4 p₃ = rw (p₁, p₂, p₃)
 
 module _ (w : List ℕ) where
-  pub words-1 : (length w ≡ 13 → ⊥) → correction_of_words w ≡ Fault
+  pub words-1 : (length w ≡ 13 → ⊥) → correction_of_words w ≡ None
   unfolding correction_of_words
   words-1 n = rw (ne_eqb (length w) 13 n)
 
   module _ (l : length w ≡ 13) where
-    pub words-2 : correction_code_of_word (get_or w 0 0) ≡ CorrectionCodeRead.Fault → correction_of_words w ≡ Fault
+    pub words-2 : correction_code_of_word (get_or w 0 0) ≡ None → correction_of_words w ≡ None
     unfolding correction_of_words
     words-2 p₁ = rw (eq-eqb (length w) 13 l, p₁)
 
-    module _ {code : CorrectionCode} (p₁ : correction_code_of_word (get_or w 0 0) ≡ CorrectionCodeRead.CorrectionCode code) where
-      pub words-3 : part_of_words (between w 1 7) ≡ PartRead.Fault → correction_of_words w ≡ Fault
+    module _ {code : CorrectionCode} (p₁ : correction_code_of_word (get_or w 0 0) ≡ Some code) where
+      pub words-3 : part_of_words (between w 1 7) ≡ None → correction_of_words w ≡ None
       unfolding correction_of_words
       words-3 p₂ = rw (eq-eqb (length w) 13 l, p₁, p₂)
 
-      module _ {u : Part} (p₂ : part_of_words (between w 1 7) ≡ PartRead.Part u) where
-        pub words-4 : part_of_words (between w 7 13) ≡ PartRead.Fault → correction_of_words w ≡ Fault
+      module _ {u : Part} (p₂ : part_of_words (between w 1 7) ≡ Some u) where
+        pub words-4 : part_of_words (between w 7 13) ≡ None → correction_of_words w ≡ None
         unfolding correction_of_words
         words-4 p₃ = rw (eq-eqb (length w) 13 l, p₁, p₂, p₃)
 
-        pub words-5 : {k : Part} → part_of_words (between w 7 13) ≡ PartRead.Part k → correction_of_words w ≡ sound_of code u k
+        pub words-5 : {k : Part} → part_of_words (between w 7 13) ≡ Some k → correction_of_words w ≡ sound_of code u k
         unfolding correction_of_words
         words-5 p₃ = rw (eq-eqb (length w) 13 l, p₁, p₂, p₃)
 

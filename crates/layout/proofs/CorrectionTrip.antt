@@ -1,4 +1,5 @@
 -- A correction: what was written is read back, what was read is written again, and how long it can be. Assumes nothing.
+use Rattle.std.specs.Prelude.{Option, Some, None}
 use Prim.Native.Nat.{ℕ, suc, ◌+◌, ◌-◌, ◌≤◌}
 use native.Mathlib.Omega.{arith}
 use mathlib.Core.Path.{◌≡◌, refl, sym, ap, ap₂, ◌∙◌}
@@ -14,14 +15,11 @@ use Rattle.laws.proofs.Tests.{and_left, and_right, and-true}
 use Rattle.laws.proofs.Digits.{length_digits}
 use Rattle.laws.proofs.Split.{split-joined, joined-split}
 use Rattle.fields.specs.declared.correction_code.CorrectionCode.{CorrectionCode}
-use Rattle.fields.specs.declared.correction_code.CorrectionCodeRead.{CorrectionCodeRead}
 use Rattle.fields.specs.CorrectionCode.{correction_code_of, correction_code_of_word, correction_code_fits, correction_code_text}
 use Rattle.fields.proofs.CorrectionCodeLaws.{correction-code-trip, correction-code-back}
 use Rattle.fields.proofs.WordLaws.{correction-code-word}
 use Rattle.layout.specs.declared.part.Part.{Part}
-use Rattle.layout.specs.declared.part.PartRead.{PartRead}
 use Rattle.layout.specs.declared.correction.Correction.{Correction}
-use Rattle.layout.specs.declared.correction.CorrectionRead.{CorrectionRead}
 use Rattle.layout.specs.Part.{part_of, part_of_words, part_fits, part_text}
 use Rattle.layout.specs.Correction.{on_head, on_part, head_of, reported_of, is_sound, sound_of, three_of, correction_of, correction_fits, correction_text, correction_of_words}
 use Rattle.layout.proofs.PartTrip.{part-trip, part-back, part-words, part-longest}
@@ -45,7 +43,7 @@ last-two f n l =
 abbrev head_text : CorrectionCode → List ℕ
 head_text c = correction_code_text c ++ (85 ∷ [])
 
-head-trip : (c : CorrectionCode) → correction_code_fits c ≡ true → head_of (head_text c) ≡ CorrectionCodeRead.CorrectionCode c
+head-trip : (c : CorrectionCode) → correction_code_fits c ≡ true → head_of (head_text c) ≡ Some c
 head-trip c h =
     let four = length_digits 4 c.0 in
     let l : length (head_text c) ≡ 5 = simp length-append (omega arith) in
@@ -53,11 +51,11 @@ head-trip c h =
     ∙ ap correction_code_of (take_at (correction_code_text c) (85 ∷ []) 4 four)
     ∙ correction-code-trip c h
 
-head-back : (f : List ℕ) (c : CorrectionCode) → head_of f ≡ CorrectionCodeRead.CorrectionCode c → (head_text c ≡ f) × (correction_code_fits c ≡ true)
+head-back : (f : List ℕ) (c : CorrectionCode) → head_of f ≡ Some c → (head_text c ≡ f) × (correction_code_fits c ≡ true)
 unfolding head_of
 head-back f c h = go (eqb (length f) 5) (eqb (get_or f 4 0) 85) refl refl h
   where
-    go : (s t : Bool) → eqb (length f) 5 ≡ s → eqb (get_or f 4 0) 85 ≡ t → cond (s && t) (correction_code_of (take 4 f)) CorrectionCodeRead.Fault ≡ CorrectionCodeRead.CorrectionCode c → (head_text c ≡ f) × (correction_code_fits c ≡ true)
+    go : (s t : Bool) → eqb (length f) 5 ≡ s → eqb (get_or f 4 0) 85 ≡ t → cond (s && t) (correction_code_of (take 4 f)) None ≡ Some c → (head_text c ≡ f) × (correction_code_fits c ≡ true)
     go true true p q e =
         let b = correction-code-back (take 4 f) c e in
         (ap₂ (λ (t : List ℕ) (x : ℕ). t ++ (x ∷ [])) b.0 (sym (eqb-true (get_or f 4 0) 85 q)) ∙ last_one f 4 (eqb-true (length f) 5 p), b.1)
@@ -68,7 +66,7 @@ head-back f c h = go (eqb (length f) 5) (eqb (get_or f 4 0) 85) refl refl h
 abbrev reported_text : Part → List ℕ
 reported_text p = part_text p ++ (44 ∷ 75 ∷ [])
 
-reported-trip : (p : Part) → part_fits p ≡ true → reported_of (reported_text p) ≡ PartRead.Part p
+reported-trip : (p : Part) → part_fits p ≡ true → reported_of (reported_text p) ≡ Some p
 reported-trip p h =
     let f : List ℕ = reported_text p in
     let n : ℕ = length (part_text p) in
@@ -81,14 +79,14 @@ reported-trip p h =
     ∙ ap part_of (take_at (part_text p) (44 ∷ 75 ∷ []) n refl)
     ∙ part-trip p h
 
-reported-back : (f : List ℕ) (p : Part) → reported_of f ≡ PartRead.Part p → (reported_text p ≡ f) × (part_fits p ≡ true)
+reported-back : (f : List ℕ) (p : Part) → reported_of f ≡ Some p → (reported_text p ≡ f) × (part_fits p ≡ true)
 unfolding reported_of
 reported-back f p h = go (leb 2 (length f)) (eqb (get_or f n 0) 44) (eqb (get_or f (n + 1) 0) 75) refl refl refl h
   where
     n : ℕ
     n = length f - 2
 
-    go : (s t u : Bool) → leb 2 (length f) ≡ s → eqb (get_or f n 0) 44 ≡ t → eqb (get_or f (n + 1) 0) 75 ≡ u → cond (s && (t && u)) (part_of (take n f)) PartRead.Fault ≡ PartRead.Part p → (reported_text p ≡ f) × (part_fits p ≡ true)
+    go : (s t u : Bool) → leb 2 (length f) ≡ s → eqb (get_or f n 0) 44 ≡ t → eqb (get_or f (n + 1) 0) 75 ≡ u → cond (s && (t && u)) (part_of (take n f)) None ≡ Some p → (reported_text p ≡ f) × (part_fits p ≡ true)
     go true true true x y z e =
         let b = part-back (take n f) p e in
         let two : length f ≡ n + 2 = omega (arith, leb-true 2 (length f) x) in
@@ -115,7 +113,7 @@ module _ (c : Correction) where
       ∙ split-joined 58 _ _ (rw (lacks-head c.code, lacks-reported c.u, lacks-part c.k))
 
   -- what was written is read back
-  pub correction-trip : correction_fits c ≡ true → correction_of (correction_text c) ≡ CorrectionRead.Correction c
+  pub correction-trip : correction_fits c ≡ true → correction_of (correction_text c) ≡ Some c
   unfolding correction_of correction_fits sound_of
   correction-trip h =
       let a = and_left (correction_code_fits c.code) _ h in
@@ -136,33 +134,33 @@ module _ (c : Correction) where
       omega (arith, length-correction c, part-longest c.u u, part-longest c.k k)
 
 -- ---- what was read is written again
-never : (c : Correction) → CorrectionRead.Fault ≡ CorrectionRead.Correction c → ⊥
+never : (c : Correction) → None ≡ Some c → ⊥
 never c h = let z : ◌≡◌ {A = ℕ} 0 1 = cc in omega arith
 
-correction-same : (q c : Correction) → CorrectionRead.Correction q ≡ CorrectionRead.Correction c → q ≡ c
+correction-same : (q c : Correction) → Some q ≡ Some c → q ≡ c
 correction-same q c h = cc
 
 module _ {c : Correction} where
-  head-on : (x : CorrectionCodeRead) (k : CorrectionCode → CorrectionRead) → on_head x k ≡ CorrectionRead.Correction c → (y : CorrectionCode) × (x ≡ CorrectionCodeRead.CorrectionCode y) × (k y ≡ CorrectionRead.Correction c)
-  head-on (CorrectionCodeRead.CorrectionCode y) k h = (y, refl, h)
-  head-on CorrectionCodeRead.Fault k h = absurd (never c h)
+  head-on : (x : Option CorrectionCode) (k : CorrectionCode → Option Correction) → on_head x k ≡ Some c → (y : CorrectionCode) × (x ≡ Some y) × (k y ≡ Some c)
+  head-on (Some y) k h = (y, refl, h)
+  head-on None k h = absurd (never c h)
 
-  part-on : (x : PartRead) (k : Part → CorrectionRead) → on_part x k ≡ CorrectionRead.Correction c → (y : Part) × (x ≡ PartRead.Part y) × (k y ≡ CorrectionRead.Correction c)
-  part-on (PartRead.Part y) k h = (y, refl, h)
-  part-on PartRead.Fault k h = absurd (never c h)
+  part-on : (x : Option Part) (k : Part → Option Correction) → on_part x k ≡ Some c → (y : Part) × (x ≡ Some y) × (k y ≡ Some c)
+  part-on (Some y) k h = (y, refl, h)
+  part-on None k h = absurd (never c h)
 
-  sound-on : (t : Bool) (q : Correction) → cond t (CorrectionRead.Correction q) CorrectionRead.Fault ≡ CorrectionRead.Correction c → (t ≡ true) × (q ≡ c)
+  sound-on : (t : Bool) (q : Correction) → cond t (Some q) None ≡ Some c → (t ≡ true) × (q ≡ c)
   sound-on true q h = (refl, correction-same q c h)
   sound-on false q h = absurd (never c h)
 
 -- what is sound of parts that fit
-sound-fits : (code : CorrectionCode) (u k : Part) (c : Correction) → correction_code_fits code ≡ true → part_fits u ≡ true → part_fits k ≡ true → sound_of code u k ≡ CorrectionRead.Correction c → (◌≡◌ {A = Correction} (record { code = code; u = u; k = k }) c) × (correction_fits c ≡ true)
+sound-fits : (code : CorrectionCode) (u k : Part) (c : Correction) → correction_code_fits code ≡ true → part_fits u ≡ true → part_fits k ≡ true → sound_of code u k ≡ Some c → (◌≡◌ {A = Correction} (record { code = code; u = u; k = k }) c) × (correction_fits c ≡ true)
 unfolding sound_of correction_fits
 sound-fits code u k c a b d h =
     let x = sound-on (is_sound code u k) _ h in
     (x.1, ap correction_fits (sym x.1) ∙ and-true _ _ a (and-true _ _ b (and-true _ _ d x.0)))
 
-three_back : (a b d : List ℕ) (c : Correction) → three_of a b d ≡ CorrectionRead.Correction c → (pieces_of c ≡ a ∷ b ∷ d ∷ []) × (correction_fits c ≡ true)
+three_back : (a b d : List ℕ) (c : Correction) → three_of a b d ≡ Some c → (pieces_of c ≡ a ∷ b ∷ d ∷ []) × (correction_fits c ≡ true)
 unfolding three_of
 three_back a b d c h =
     let x₁ = head-on (head_of a) _ h in
@@ -174,37 +172,37 @@ three_back a b d c h =
     let s = sound-fits x₁.0 x₂.0 x₃.0 c b₁.1 b₂.1 b₃.1 x₃.2 in
     (ap pieces_of (sym s.0) ∙ (λ i. b₁.0 i ∷ b₂.0 i ∷ b₃.0 i ∷ []), s.1)
 
-list_back : (fs : List (List ℕ)) (c : Correction) → length fs ≡ 3 → three_of (get_or fs 0 []) (get_or fs 1 []) (get_or fs 2 []) ≡ CorrectionRead.Correction c → (pieces_of c ≡ fs) × (correction_fits c ≡ true)
+list_back : (fs : List (List ℕ)) (c : Correction) → length fs ≡ 3 → three_of (get_or fs 0 []) (get_or fs 1 []) (get_or fs 2 []) ≡ Some c → (pieces_of c ≡ fs) × (correction_fits c ≡ true)
 list_back [] c l h = absurd (omega arith)
 list_back (a ∷ []) c l h = absurd (omega arith)
 list_back (a ∷ b ∷ []) c l h = absurd (omega arith)
 list_back (a ∷ b ∷ d ∷ []) c l h = three_back a b d c h
 list_back (a ∷ b ∷ d ∷ e ∷ fs) c l h = absurd (omega arith)
 
-pub correction-back : (s : List ℕ) (c : Correction) → correction_of s ≡ CorrectionRead.Correction c → (correction_text c ≡ s) × (correction_fits c ≡ true)
+pub correction-back : (s : List ℕ) (c : Correction) → correction_of s ≡ Some c → (correction_text c ≡ s) × (correction_fits c ≡ true)
 unfolding correction_of
 correction-back s c h = go (eqb (length (split 58 s)) 3) refl h
   where
     fs : List (List ℕ)
     fs = split 58 s
 
-    go : (t : Bool) → eqb (length fs) 3 ≡ t → cond t (three_of (get_or fs 0 []) (get_or fs 1 []) (get_or fs 2 [])) CorrectionRead.Fault ≡ CorrectionRead.Correction c → (correction_text c ≡ s) × (correction_fits c ≡ true)
+    go : (t : Bool) → eqb (length fs) 3 ≡ t → cond t (three_of (get_or fs 0 []) (get_or fs 1 []) (get_or fs 2 [])) None ≡ Some c → (correction_text c ≡ s) × (correction_fits c ≡ true)
     go true q e =
         let b = list_back fs c (eqb-true (length fs) 3 q) e in
         (joined-pieces c ∙ ap (joined 58) b.0 ∙ joined-split 58 s, b.1)
     go false q e = absurd (never c e)
 
-pub correction-record : (s : List ℕ) (c : Correction) → correction_of s ≡ CorrectionRead.Correction c → length s ≤ 97
+pub correction-record : (s : List ℕ) (c : Correction) → correction_of s ≡ Some c → length s ≤ 97
 correction-record s c h =
     let b = correction-back s c h in
     rw b.0 at (correction-longest c b.1)
 
 -- what is made of words fits
-pub correction-words : (w : List ℕ) (c : Correction) → correction_of_words w ≡ CorrectionRead.Correction c → correction_fits c ≡ true
+pub correction-words : (w : List ℕ) (c : Correction) → correction_of_words w ≡ Some c → correction_fits c ≡ true
 unfolding correction_of_words
 correction-words w c h = go (eqb (length w) 13) h
   where
-    go : (t : Bool) → cond t (on_head (correction_code_of_word (get_or w 0 0)) (λ code. on_part (part_of_words (between w 1 7)) (λ u. on_part (part_of_words (between w 7 13)) (λ k. sound_of code u k)))) CorrectionRead.Fault ≡ CorrectionRead.Correction c → correction_fits c ≡ true
+    go : (t : Bool) → cond t (on_head (correction_code_of_word (get_or w 0 0)) (λ code. on_part (part_of_words (between w 1 7)) (λ u. on_part (part_of_words (between w 7 13)) (λ k. sound_of code u k)))) None ≡ Some c → correction_fits c ≡ true
     go true e =
         let x₁ = head-on (correction_code_of_word (get_or w 0 0)) _ e in
         let x₂ = part-on (part_of_words (between w 1 7)) _ x₁.2 in

@@ -1,4 +1,5 @@
 -- The digits of a field passed once: what they are worth so far and what is left of the line say what the field reads as. Assumes nothing.
+use Rattle.std.specs.Prelude.{Some, None}
 use Prim.Native.Nat.{ℕ, suc, ◌+◌, ◌-◌, ◌*◌, ◌<◌, ◌≤◌}
 use native.Mathlib.Nat.{add-zero}
 use native.Mathlib.Numerals.{add-one}
@@ -18,8 +19,6 @@ use Rattle.laws.proofs.Loops.{first-here}
 use Rattle.laws.proofs.Tests.{le-or-lt}
 use Rattle.text.specs.Spelt.{spells, digits_of}
 use Rattle.fields.specs.declared.number.Digits.{Digits}
-use Rattle.fields.specs.declared.number.DigitsRead.{DigitsRead}
-use Rattle.fields.specs.declared.number.NumberRead.{NumberRead}
 use Rattle.fields.specs.Number.{digits_from, digits_field_of, number_of}
 use Rattle.layout.specs.declared.walk.DigitsAt.{DigitsAt}
 use Rattle.layout.specs.declared.walk.NumberAt.{NumberAt}
@@ -32,7 +31,7 @@ comma g = first_at (is_sep 44) g
 
 -- what a field reads as of which digits worth n lie before the place k, g follows, and the comma is one of the first m bytes of g
 unfoldable pub found : ℕ → ℕ → ℕ → List ℕ → DigitsAt
-found m n k g = cond (ltb (comma g) (length g)) (digits_then (cond (ltb (comma g) m) (digits_from (spells n (take (comma g) g))) DigitsRead.Fault) (k + comma g + 1)) DigitsAt.Fault
+found m n k g = cond (ltb (comma g) (length g)) (digits_then (cond (ltb (comma g) m) (digits_from (spells n (take (comma g) g))) None) (k + comma g + 1)) DigitsAt.Fault
 
 -- ---- the next byte
 module _ (m n k b : ℕ) (t : List ℕ) where
@@ -55,7 +54,7 @@ module _ (m n k b : ℕ) (t : List ℕ) where
       rw (comma-on (λ e. omega arith), leb-suc-suc (suc (comma t)) (length t), leb-suc-suc (suc (comma t)) m, le-leb 48 b low, le-leb b 57 high, place)
 
 -- neither a digit nor the comma: a fault, however far the comma is
-fault-in : (far near : Bool) (next : ℕ) → cond far (digits_then (cond near DigitsRead.Fault DigitsRead.Fault) next) DigitsAt.Fault ≡ DigitsAt.Fault
+fault-in : (far near : Bool) (next : ℕ) → cond far (digits_then (cond near None None) next) DigitsAt.Fault ≡ DigitsAt.Fault
 fault-in true true next = refl
 fault-in true false next = refl
 fault-in false near next = refl
@@ -97,7 +96,7 @@ found-late n k g = rw (le-ltb (comma g) 0 (omega arith)) (fault-in (ltb (comma g
 
 -- ---- before the first byte: at most 11 digits come before the comma
 module _ (s : List ℕ) (at : ℕ) where
-  field_found : comma (drop at s) < length (drop at s) → digits_field_of (between s at (end_of 44 s at)) ≡ cond (ltb (comma (drop at s)) 12) (digits_from (spells 1 (take (comma (drop at s)) (drop at s)))) DigitsRead.Fault
+  field_found : comma (drop at s) < length (drop at s) → digits_field_of (between s at (end_of 44 s at)) ≡ cond (ltb (comma (drop at s)) 12) (digits_from (spells 1 (take (comma (drop at s)) (drop at s)))) None
   unfolding end_of digits_field_of digits_of
   field_found h =
       let j : ℕ = comma (drop at s) in
@@ -144,7 +143,7 @@ module _ (first : Digits) (s : List ℕ) (at : ℕ) where
   number-empty h e =
       let here : at ≡ at + comma (drop at s) = sym (first-here (is_sep 44) 0 s at h (eq-eqb (get_or s at 0) 44 e)) in
       let none : at - at ≡ 0 = omega arith in
-      number-then first s at at here h {r = NumberRead.Number (record { first = first; last = record { 0 = 1 } })} (rw none refl)
+      number-then first s at at here h {r = Some (record { first = first; last = record { 0 = 1 } })} (rw none refl)
 
   pub number-beyond : length s ≤ at → number_at first s at ≡ NumberAt.Fault
   number-beyond h = number-none first s at (end_of 44 s at) refl (omega (arith, end-from s at))

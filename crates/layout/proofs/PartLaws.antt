@@ -1,4 +1,8 @@
 -- A part: which way its readers go, what is left to write, and how long its text is. Assumes nothing.
+use Rattle.fields.specs.declared.kind.Kind.{Kind}
+use Rattle.calendar.specs.declared.dates.CalendarDays.{CalendarDays}
+use Rattle.fields.specs.declared.code.Code.{Code}
+use Rattle.std.specs.Prelude.{Option, Some, None}
 use Prim.Native.Nat.{ℕ, ◌+◌, ◌≤◌}
 use native.Mathlib.Omega.{arith}
 use mathlib.Core.Path.{◌≡◌, sym, ap, ◌∙◌}
@@ -8,16 +12,8 @@ use lib.ListN.{length, get_or, length-append}
 use borrow.Author.Tests.{eq-eqb, ne_eqb}
 use Rattle.laws.proofs.Digits.{size-le}
 use Rattle.laws.proofs.Overlay.{Room}
-use Rattle.fields.specs.declared.code.MaybeCode.{MaybeCode}
-use Rattle.fields.specs.declared.code.MaybeCodeRead.{MaybeCodeRead}
-use Rattle.fields.specs.declared.date.MaybeDate.{MaybeDate}
-use Rattle.fields.specs.declared.date.MaybeDateRead.{MaybeDateRead}
-use Rattle.fields.specs.declared.kind.MaybeKind.{MaybeKind}
-use Rattle.fields.specs.declared.kind.MaybeKindRead.{MaybeKindRead}
 use Rattle.fields.specs.declared.number.Digits.{Digits}
-use Rattle.fields.specs.declared.number.DigitsRead.{DigitsRead}
 use Rattle.fields.specs.declared.number.Number.{Number}
-use Rattle.fields.specs.declared.number.NumberRead.{NumberRead}
 use Rattle.fields.specs.Code.{maybe_code_of, maybe_code_of_word, maybe_code_text}
 use Rattle.fields.specs.Date.{maybe_date_of, maybe_date_of_word, maybe_date_text}
 use Rattle.fields.specs.Kind.{maybe_kind_of, maybe_kind_of_word, maybe_kind_text}
@@ -27,27 +23,25 @@ use Rattle.fields.proofs.DateLaws.{length-date}
 use Rattle.fields.proofs.KindLaws.{length-kind}
 use Rattle.fields.proofs.NumberLaws.{length-field}
 use Rattle.layout.specs.declared.part.Part.{Part}
-use Rattle.layout.specs.declared.part.PartRead.{PartRead}
-use Rattle.layout.specs.declared.part.PartRead.TheVariants.{Fault}
 use Rattle.layout.specs.Part.{six_of, rest_of_words, number_of_words, part_of_words, part_text}
 use Rattle.layout.specs.Putting.{followed, number_followed, networks_followed}
 
 -- ---- six fields that have their values
-module _ (a b c d e f : List ℕ) {first : Digits} {number : Number} {date : MaybeDate} {gaining losing : MaybeCode} {kind : MaybeKind} where
-  pub six-known : digits_field_of a ≡ DigitsRead.Digits first → number_of first b ≡ NumberRead.Number number → maybe_date_of c ≡ MaybeDateRead.MaybeDate date
-      → maybe_code_of d ≡ MaybeCodeRead.MaybeCode gaining → maybe_code_of e ≡ MaybeCodeRead.MaybeCode losing → maybe_kind_of f ≡ MaybeKindRead.MaybeKind kind
-      → six_of a b c d e f ≡ PartRead.Part (record { number = number; date = date; gaining = gaining; losing = losing; kind = kind })
+module _ (a b c d e f : List ℕ) {first : Digits} {number : Number} {date : Option CalendarDays} {gaining losing : Option Code} {kind : Option Kind} where
+  pub six-known : digits_field_of a ≡ Some first → number_of first b ≡ Some number → maybe_date_of c ≡ Some date
+      → maybe_code_of d ≡ Some gaining → maybe_code_of e ≡ Some losing → maybe_kind_of f ≡ Some kind
+      → six_of a b c d e f ≡ Some (record { number = number; date = date; gaining = gaining; losing = losing; kind = kind })
   unfolding six_of
   six-known p₁ p₂ p₃ p₄ p₅ p₆ = rw (p₁, p₂, p₃, p₄, p₅, p₆)
 
 -- ---- which way the words go
 module _ (w : List ℕ) where
-  pub words_count : (length w ≡ 6 → ⊥) → part_of_words w ≡ Fault
+  pub words_count : (length w ≡ 6 → ⊥) → part_of_words w ≡ None
   unfolding part_of_words
   words_count n = rw (ne_eqb (length w) 6 n)
 
   module _ (l : length w ≡ 6) where
-    pub words-number : number_fits (number_of_words w) ≡ false → part_of_words w ≡ Fault
+    pub words-number : number_fits (number_of_words w) ≡ false → part_of_words w ≡ None
     unfolding part_of_words
     words-number p = rw (eq-eqb (length w) 6 l, p)
 
@@ -56,26 +50,26 @@ module _ (w : List ℕ) where
     words-rest p = rw (eq-eqb (length w) 6 l, p)
 
 module _ (number : Number) (c d e f : ℕ) where
-  pub rest-1 : maybe_date_of_word c ≡ MaybeDateRead.Fault → rest_of_words number c d e f ≡ Fault
+  pub rest-1 : maybe_date_of_word c ≡ None → rest_of_words number c d e f ≡ None
   unfolding rest_of_words
   rest-1 p₁ = rw p₁
 
-  module _ {date : MaybeDate} (p₁ : maybe_date_of_word c ≡ MaybeDateRead.MaybeDate date) where
-    pub rest-2 : maybe_code_of_word d ≡ MaybeCodeRead.Fault → rest_of_words number c d e f ≡ Fault
+  module _ {date : Option CalendarDays} (p₁ : maybe_date_of_word c ≡ Some date) where
+    pub rest-2 : maybe_code_of_word d ≡ None → rest_of_words number c d e f ≡ None
     unfolding rest_of_words
     rest-2 p₂ = rw (p₁, p₂)
 
-    module _ {gaining : MaybeCode} (p₂ : maybe_code_of_word d ≡ MaybeCodeRead.MaybeCode gaining) where
-      pub rest-3 : maybe_code_of_word e ≡ MaybeCodeRead.Fault → rest_of_words number c d e f ≡ Fault
+    module _ {gaining : Option Code} (p₂ : maybe_code_of_word d ≡ Some gaining) where
+      pub rest-3 : maybe_code_of_word e ≡ None → rest_of_words number c d e f ≡ None
       unfolding rest_of_words
       rest-3 p₃ = rw (p₁, p₂, p₃)
 
-      module _ {losing : MaybeCode} (p₃ : maybe_code_of_word e ≡ MaybeCodeRead.MaybeCode losing) where
-        pub rest-4 : maybe_kind_of_word f ≡ MaybeKindRead.Fault → rest_of_words number c d e f ≡ Fault
+      module _ {losing : Option Code} (p₃ : maybe_code_of_word e ≡ Some losing) where
+        pub rest-4 : maybe_kind_of_word f ≡ None → rest_of_words number c d e f ≡ None
         unfolding rest_of_words
         rest-4 p₄ = rw (p₁, p₂, p₃, p₄)
 
-        pub rest-5 : {kind : MaybeKind} → maybe_kind_of_word f ≡ MaybeKindRead.MaybeKind kind → rest_of_words number c d e f ≡ PartRead.Part (record { number = number; date = date; gaining = gaining; losing = losing; kind = kind })
+        pub rest-5 : {kind : Option Kind} → maybe_kind_of_word f ≡ Some kind → rest_of_words number c d e f ≡ Some (record { number = number; date = date; gaining = gaining; losing = losing; kind = kind })
         unfolding rest_of_words
         rest-5 p₄ = rw (p₁, p₂, p₃, p₄)
 
@@ -111,17 +105,17 @@ module _ (p : Part) where
   room-part o at h = record { fits = rw whole at h }
 
 -- ---- how long the fields are
-pub date-short : (d : MaybeDate) → length (maybe_date_text d) ≤ 8
-date-short (MaybeDate.Date d) = omega (arith, length-date d)
-date-short MaybeDate.Empty = omega arith
+pub date-short : (d : Option CalendarDays) → length (maybe_date_text d) ≤ 8
+date-short (Some d) = omega (arith, length-date d)
+date-short None = omega arith
 
-pub code-short : (c : MaybeCode) → length (maybe_code_text c) ≤ 4
-code-short (MaybeCode.Code c) = omega (arith, length-code c)
-code-short MaybeCode.Empty = omega arith
+pub code-short : (c : Option Code) → length (maybe_code_text c) ≤ 4
+code-short (Some c) = omega (arith, length-code c)
+code-short None = omega arith
 
-pub kind-short : (k : MaybeKind) → length (maybe_kind_text k) ≤ 1
-kind-short (MaybeKind.Kind k) = omega (arith, length-kind k)
-kind-short MaybeKind.Empty = omega arith
+pub kind-short : (k : Option Kind) → length (maybe_kind_text k) ≤ 1
+kind-short (Some k) = omega (arith, length-kind k)
+kind-short None = omega arith
 
 pub digits-short : (d : Digits) → digits_size d ≤ 12
 digits-short d = size-le 12 d.0

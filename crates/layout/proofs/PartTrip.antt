@@ -1,4 +1,8 @@
 -- A part: what was written is read back, what was read is written again, and how long it can be. Assumes nothing.
+use Rattle.fields.specs.declared.kind.Kind.{Kind}
+use Rattle.calendar.specs.declared.dates.CalendarDays.{CalendarDays}
+use Rattle.fields.specs.declared.code.Code.{Code}
+use Rattle.std.specs.Prelude.{Option, Some, None}
 use Prim.Native.Nat.{ℕ, ◌≤◌}
 use native.Mathlib.Omega.{arith}
 use mathlib.Core.Path.{◌≡◌, refl, sym, ap, ◌∙◌}
@@ -12,16 +16,8 @@ use Rattle.laws.specs.Digits.{is_digit}
 use Rattle.laws.specs.Split.{split, joined, lacks}
 use Rattle.laws.proofs.Tests.{and_left, and_right, and-true}
 use Rattle.laws.proofs.Split.{split-joined, joined-split, lacks-by}
-use Rattle.fields.specs.declared.code.MaybeCode.{MaybeCode}
-use Rattle.fields.specs.declared.code.MaybeCodeRead.{MaybeCodeRead}
-use Rattle.fields.specs.declared.date.MaybeDate.{MaybeDate}
-use Rattle.fields.specs.declared.date.MaybeDateRead.{MaybeDateRead}
-use Rattle.fields.specs.declared.kind.MaybeKind.{MaybeKind}
-use Rattle.fields.specs.declared.kind.MaybeKindRead.{MaybeKindRead}
 use Rattle.fields.specs.declared.number.Digits.{Digits}
-use Rattle.fields.specs.declared.number.DigitsRead.{DigitsRead}
 use Rattle.fields.specs.declared.number.Number.{Number}
-use Rattle.fields.specs.declared.number.NumberRead.{NumberRead}
 use Rattle.fields.specs.Bytes.{field_byte}
 use Rattle.fields.specs.Code.{maybe_code_of, maybe_code_of_word, maybe_code_fits, maybe_code_text}
 use Rattle.fields.specs.Date.{maybe_date_of, maybe_date_of_word, maybe_date_fits, maybe_date_text}
@@ -34,7 +30,6 @@ use Rattle.fields.proofs.KindLaws.{maybe-kind-trip, maybe-kind-back}
 use Rattle.fields.proofs.WordLaws.{maybe-code-word, maybe-date-word}
 use Rattle.fields.proofs.NumberLaws.{digits-trip, digits-back, fits-size, first_fits, last-size, number-trip, number-back}
 use Rattle.layout.specs.declared.part.Part.{Part}
-use Rattle.layout.specs.declared.part.PartRead.{PartRead}
 use Rattle.layout.specs.Part.{on_digits, on_number, on_date, on_code, on_kind, six_of, part_of, part_fits, fields_of, part_text, rest_of_words, number_of_words, part_of_words}
 use Rattle.layout.proofs.PartLaws.{six-known, length_part, date-short, code-short, kind-short}
 
@@ -62,7 +57,7 @@ module _ (p : Part) where
   split-part = split-joined 44 _ _ (fields-lack 44 comma-none p)
 
   -- what was written is read back
-  pub part-trip : part_fits p ≡ true → part_of (part_text p) ≡ PartRead.Part p
+  pub part-trip : part_fits p ≡ true → part_of (part_text p) ≡ Some p
   unfolding part_of part_fits
   part-trip h =
       let n = and_left (number_fits p.number) _ h in
@@ -81,36 +76,36 @@ module _ (p : Part) where
       (maybe-kind-trip p.kind))
 
 -- ---- what was read is written again
-part_same : (q p : Part) → PartRead.Part q ≡ PartRead.Part p → q ≡ p
+part_same : (q p : Part) → Some q ≡ Some p → q ≡ p
 part_same q p h = cc
 
-never : (p : Part) → PartRead.Fault ≡ PartRead.Part p → ⊥
+never : (p : Part) → None ≡ Some p → ⊥
 never p h = let z : ◌≡◌ {A = ℕ} 0 1 = cc in omega arith
 
 -- where a field's reader leads to a part, it found a value
 module _ {p : Part} where
-  digits-on : (r : DigitsRead) (k : Digits → PartRead) → on_digits r PartRead.Fault k ≡ PartRead.Part p → (x : Digits) × (r ≡ DigitsRead.Digits x) × (k x ≡ PartRead.Part p)
-  digits-on (DigitsRead.Digits x) k h = (x, refl, h)
-  digits-on DigitsRead.Fault k h = absurd (never p h)
+  digits-on : (r : Option Digits) (k : Digits → Option Part) → on_digits r None k ≡ Some p → (x : Digits) × (r ≡ Some x) × (k x ≡ Some p)
+  digits-on (Some x) k h = (x, refl, h)
+  digits-on None k h = absurd (never p h)
 
-  number-on : (r : NumberRead) (k : Number → PartRead) → on_number r PartRead.Fault k ≡ PartRead.Part p → (x : Number) × (r ≡ NumberRead.Number x) × (k x ≡ PartRead.Part p)
-  number-on (NumberRead.Number x) k h = (x, refl, h)
-  number-on NumberRead.Fault k h = absurd (never p h)
+  number-on : (r : Option Number) (k : Number → Option Part) → on_number r None k ≡ Some p → (x : Number) × (r ≡ Some x) × (k x ≡ Some p)
+  number-on (Some x) k h = (x, refl, h)
+  number-on None k h = absurd (never p h)
 
-  date-on : (r : MaybeDateRead) (k : MaybeDate → PartRead) → on_date r PartRead.Fault k ≡ PartRead.Part p → (x : MaybeDate) × (r ≡ MaybeDateRead.MaybeDate x) × (k x ≡ PartRead.Part p)
-  date-on (MaybeDateRead.MaybeDate x) k h = (x, refl, h)
-  date-on MaybeDateRead.Fault k h = absurd (never p h)
+  date-on : (r : Option (Option CalendarDays)) (k : Option CalendarDays → Option Part) → on_date r None k ≡ Some p → (x : Option CalendarDays) × (r ≡ Some x) × (k x ≡ Some p)
+  date-on (Some x) k h = (x, refl, h)
+  date-on None k h = absurd (never p h)
 
-  code-on : (r : MaybeCodeRead) (k : MaybeCode → PartRead) → on_code r PartRead.Fault k ≡ PartRead.Part p → (x : MaybeCode) × (r ≡ MaybeCodeRead.MaybeCode x) × (k x ≡ PartRead.Part p)
-  code-on (MaybeCodeRead.MaybeCode x) k h = (x, refl, h)
-  code-on MaybeCodeRead.Fault k h = absurd (never p h)
+  code-on : (r : Option (Option Code)) (k : Option Code → Option Part) → on_code r None k ≡ Some p → (x : Option Code) × (r ≡ Some x) × (k x ≡ Some p)
+  code-on (Some x) k h = (x, refl, h)
+  code-on None k h = absurd (never p h)
 
-  kind-on : (r : MaybeKindRead) (k : MaybeKind → PartRead) → on_kind r PartRead.Fault k ≡ PartRead.Part p → (x : MaybeKind) × (r ≡ MaybeKindRead.MaybeKind x) × (k x ≡ PartRead.Part p)
-  kind-on (MaybeKindRead.MaybeKind x) k h = (x, refl, h)
-  kind-on MaybeKindRead.Fault k h = absurd (never p h)
+  kind-on : (r : Option (Option Kind)) (k : Option Kind → Option Part) → on_kind r None k ≡ Some p → (x : Option Kind) × (r ≡ Some x) × (k x ≡ Some p)
+  kind-on (Some x) k h = (x, refl, h)
+  kind-on None k h = absurd (never p h)
 
 module _ (a b c d e f : List ℕ) (p : Part) where
-  six-back : six_of a b c d e f ≡ PartRead.Part p → (fields_of p ≡ a ∷ b ∷ c ∷ d ∷ e ∷ f ∷ []) × (part_fits p ≡ true)
+  six-back : six_of a b c d e f ≡ Some p → (fields_of p ≡ a ∷ b ∷ c ∷ d ∷ e ∷ f ∷ []) × (part_fits p ≡ true)
   unfolding six_of part_fits
   six-back h =
       let x₁ = digits-on (digits_field_of a) _ h in
@@ -131,7 +126,7 @@ module _ (a b c d e f : List ℕ) (p : Part) where
         ap part_fits (sym same) ∙ and-true _ _ b₂.2 (and-true _ _ b₃.1 (and-true _ _ b₄.1 b₅.1)),
       )
 
-list_back : (fs : List (List ℕ)) (p : Part) → length fs ≡ 6 → six_of (get_or fs 0 []) (get_or fs 1 []) (get_or fs 2 []) (get_or fs 3 []) (get_or fs 4 []) (get_or fs 5 []) ≡ PartRead.Part p → (fields_of p ≡ fs) × (part_fits p ≡ true)
+list_back : (fs : List (List ℕ)) (p : Part) → length fs ≡ 6 → six_of (get_or fs 0 []) (get_or fs 1 []) (get_or fs 2 []) (get_or fs 3 []) (get_or fs 4 []) (get_or fs 5 []) ≡ Some p → (fields_of p ≡ fs) × (part_fits p ≡ true)
 list_back [] p l h = absurd (omega arith)
 list_back (a ∷ []) p l h = absurd (omega arith)
 list_back (a ∷ b ∷ []) p l h = absurd (omega arith)
@@ -141,14 +136,14 @@ list_back (a ∷ b ∷ c ∷ d ∷ e ∷ []) p l h = absurd (omega arith)
 list_back (a ∷ b ∷ c ∷ d ∷ e ∷ f ∷ []) p l h = six-back a b c d e f p h
 list_back (a ∷ b ∷ c ∷ d ∷ e ∷ f ∷ g ∷ fs) p l h = absurd (omega arith)
 
-pub part-back : (s : List ℕ) (p : Part) → part_of s ≡ PartRead.Part p → (part_text p ≡ s) × (part_fits p ≡ true)
+pub part-back : (s : List ℕ) (p : Part) → part_of s ≡ Some p → (part_text p ≡ s) × (part_fits p ≡ true)
 unfolding part_of part_text
 part-back s p h = go (eqb (length (split 44 s)) 6) refl h
   where
     fs : List (List ℕ)
     fs = split 44 s
 
-    go : (t : Bool) → eqb (length fs) 6 ≡ t → cond t (six_of (get_or fs 0 []) (get_or fs 1 []) (get_or fs 2 []) (get_or fs 3 []) (get_or fs 4 []) (get_or fs 5 [])) PartRead.Fault ≡ PartRead.Part p → (part_text p ≡ s) × (part_fits p ≡ true)
+    go : (t : Bool) → eqb (length fs) 6 ≡ t → cond t (six_of (get_or fs 0 []) (get_or fs 1 []) (get_or fs 2 []) (get_or fs 3 []) (get_or fs 4 []) (get_or fs 5 [])) None ≡ Some p → (part_text p ≡ s) × (part_fits p ≡ true)
     go true q e =
         let b = list_back fs p (eqb-true (length fs) 6 q) e in
         (ap (joined 44) b.0 ∙ joined-split 44 s, b.1)
@@ -162,11 +157,11 @@ part-longest p h =
     omega (arith, length_part p, fits-size p.number.first (first_fits p.number n), last-size p.number n, date-short p.date, code-short p.gaining, code-short p.losing, kind-short p.kind)
 
 -- ---- what is made of words fits
-pub part-words : (w : List ℕ) (p : Part) → part_of_words w ≡ PartRead.Part p → part_fits p ≡ true
+pub part-words : (w : List ℕ) (p : Part) → part_of_words w ≡ Some p → part_fits p ≡ true
 unfolding part_of_words rest_of_words part_fits
 part-words w p h = go (eqb (length w) 6) (number_fits (number_of_words w)) refl h
   where
-    go : (s t : Bool) → number_fits (number_of_words w) ≡ t → cond (s && t) (rest_of_words (number_of_words w) (get_or w 2 0) (get_or w 3 0) (get_or w 4 0) (get_or w 5 0)) PartRead.Fault ≡ PartRead.Part p → part_fits p ≡ true
+    go : (s t : Bool) → number_fits (number_of_words w) ≡ t → cond (s && t) (rest_of_words (number_of_words w) (get_or w 2 0) (get_or w 3 0) (get_or w 4 0) (get_or w 5 0)) None ≡ Some p → part_fits p ≡ true
     go true true n e =
         let x₁ = date-on (maybe_date_of_word (get_or w 2 0)) _ e in
         let x₂ = code-on (maybe_code_of_word (get_or w 3 0)) _ x₁.2 in

@@ -1,4 +1,5 @@
 -- A report as a part with nothing missing; reading and writing undo each other. Assumes nothing.
+use Rattle.std.specs.Prelude.{Option, Some, None}
 use Prim.Native.Nat.{ℕ, ◌≤◌}
 use native.Mathlib.Omega.{arith}
 use mathlib.Core.Path.{◌≡◌, refl, sym, ap, ◌∙◌}
@@ -8,28 +9,22 @@ use lib.ListN.{length}
 use borrow.Author.Tests.{not-true}
 use Rattle.laws.proofs.Tests.{and_left, and_right, and-true}
 use Rattle.fields.specs.declared.code.Code.{Code}
-use Rattle.fields.specs.declared.code.MaybeCode.{MaybeCode}
-use Rattle.fields.specs.declared.date.MaybeDate.{MaybeDate}
 use Rattle.fields.specs.declared.gaining.Gaining.{Gaining}
 use Rattle.fields.specs.declared.kind.Kind.{Kind}
-use Rattle.fields.specs.declared.kind.MaybeKind.{MaybeKind}
 use Rattle.fields.specs.Gaining.{gaining_of, gaining_field}
 use Rattle.fields.specs.Number.{is_empty}
 use Rattle.calendar.specs.declared.dates.CalendarDays.{CalendarDays}
 use Rattle.layout.specs.declared.part.Part.{Part}
 use Rattle.layout.specs.declared.report.Report.{Report}
-use Rattle.layout.specs.declared.report.ReportRead.{ReportRead}
-use Rattle.layout.specs.declared.part.PartRead.{PartRead}
-use Rattle.layout.specs.declared.report.ReportRead.TheVariants.{Fault}
 use Rattle.layout.specs.Part.{part_of, part_of_words, part_fits, part_text}
 use Rattle.layout.specs.Report.{is_named, on_some_date, on_some_code, on_some_kind, whole_of, report_from, report_of, report_of_words, report_part, report_fits, report_text}
 use Rattle.layout.proofs.PartTrip.{part-trip, part-back, part-words, part-longest}
 
 -- a part with nothing missing is a report
 pub whole-report : (p : Part) {date : CalendarDays} {losing : Code} {kind : Kind} {gaining : Gaining}
-    → is_empty p.number.first ≡ false → p.date ≡ MaybeDate.Date date → p.losing ≡ MaybeCode.Code losing → p.kind ≡ MaybeKind.Kind kind
+    → is_empty p.number.first ≡ false → p.date ≡ Some date → p.losing ≡ Some losing → p.kind ≡ Some kind
     → is_named p.gaining kind ≡ true → gaining ≡ gaining_of p.gaining
-    → whole_of p ≡ ReportRead.Report (record { number = p.number; date = date; gaining = gaining; losing = losing; kind = kind })
+    → whole_of p ≡ Some (record { number = p.number; date = date; gaining = gaining; losing = losing; kind = kind })
 unfolding whole_of
 whole-report p e₁ e₂ e₃ e₄ e₅ e₆ = rw (e₁, e₂, e₃, e₄, e₅, e₆)
 
@@ -38,37 +33,37 @@ field_back : (g : Gaining) → gaining_of (gaining_field g) ≡ g
 field_back (Gaining.Code c) = refl
 field_back Gaining.Owner = refl
 
-of-back : (f : MaybeCode) → gaining_field (gaining_of f) ≡ f
-of-back (MaybeCode.Code c) = refl
-of-back MaybeCode.Empty = refl
+of-back : (f : Option Code) → gaining_field (gaining_of f) ≡ f
+of-back (Some c) = refl
+of-back None = refl
 
 module _ {r : Report} where
-  date-on : (m : MaybeDate) (k : CalendarDays → ReportRead) → on_some_date m k ≡ ReportRead.Report r → (x : CalendarDays) × (m ≡ MaybeDate.Date x) × (k x ≡ ReportRead.Report r)
-  date-on (MaybeDate.Date x) k h = (x, refl, h)
-  date-on MaybeDate.Empty k h = absurd (let z : ◌≡◌ {A = ℕ} 0 1 = cc in omega arith)
+  date-on : (m : Option CalendarDays) (k : CalendarDays → Option Report) → on_some_date m k ≡ Some r → (x : CalendarDays) × (m ≡ Some x) × (k x ≡ Some r)
+  date-on (Some x) k h = (x, refl, h)
+  date-on None k h = absurd (let z : ◌≡◌ {A = ℕ} 0 1 = cc in omega arith)
 
-  code-on : (m : MaybeCode) (k : Code → ReportRead) → on_some_code m k ≡ ReportRead.Report r → (x : Code) × (m ≡ MaybeCode.Code x) × (k x ≡ ReportRead.Report r)
-  code-on (MaybeCode.Code x) k h = (x, refl, h)
-  code-on MaybeCode.Empty k h = absurd (let z : ◌≡◌ {A = ℕ} 0 1 = cc in omega arith)
+  code-on : (m : Option Code) (k : Code → Option Report) → on_some_code m k ≡ Some r → (x : Code) × (m ≡ Some x) × (k x ≡ Some r)
+  code-on (Some x) k h = (x, refl, h)
+  code-on None k h = absurd (let z : ◌≡◌ {A = ℕ} 0 1 = cc in omega arith)
 
-  kind-on : (m : MaybeKind) (k : Kind → ReportRead) → on_some_kind m k ≡ ReportRead.Report r → (x : Kind) × (m ≡ MaybeKind.Kind x) × (k x ≡ ReportRead.Report r)
-  kind-on (MaybeKind.Kind x) k h = (x, refl, h)
-  kind-on MaybeKind.Empty k h = absurd (let z : ◌≡◌ {A = ℕ} 0 1 = cc in omega arith)
+  kind-on : (m : Option Kind) (k : Kind → Option Report) → on_some_kind m k ≡ Some r → (x : Kind) × (m ≡ Some x) × (k x ≡ Some r)
+  kind-on (Some x) k h = (x, refl, h)
+  kind-on None k h = absurd (let z : ◌≡◌ {A = ℕ} 0 1 = cc in omega arith)
 
   -- a test that must fail, and one that must hold
-  some-on : (t : Bool) (x : ReportRead) → cond t Fault x ≡ ReportRead.Report r → (t ≡ false) × (x ≡ ReportRead.Report r)
+  some-on : (t : Bool) (x : Option Report) → cond t None x ≡ Some r → (t ≡ false) × (x ≡ Some r)
   some-on true x h = absurd (let z : ◌≡◌ {A = ℕ} 0 1 = cc in omega arith)
   some-on false x h = (refl, h)
 
-  named-on : (t : Bool) (q : Report) → cond t (ReportRead.Report q) Fault ≡ ReportRead.Report r → (t ≡ true) × (q ≡ r)
+  named-on : (t : Bool) (q : Report) → cond t (Some q) None ≡ Some r → (t ≡ true) × (q ≡ r)
   named-on true q h = (refl, cc)
   named-on false q h = absurd (let z : ◌≡◌ {A = ℕ} 0 1 = cc in omega arith)
 
 -- the report's own part is whole, and the part that a report was made of is its own
-pub whole_part : (r : Report) → is_empty r.number.first ≡ false → is_named (gaining_field r.gaining) r.kind ≡ true → whole_of (report_part r) ≡ ReportRead.Report r
+pub whole_part : (r : Report) → is_empty r.number.first ≡ false → is_named (gaining_field r.gaining) r.kind ≡ true → whole_of (report_part r) ≡ Some r
 whole_part r e n = whole-report (report_part r) e refl refl refl n (sym (field_back r.gaining))
 
-pub whole_back : (p : Part) (r : Report) → whole_of p ≡ ReportRead.Report r → (report_part r ≡ p) × (is_empty r.number.first ≡ false) × (is_named (gaining_field r.gaining) r.kind ≡ true)
+pub whole_back : (p : Part) (r : Report) → whole_of p ≡ Some r → (report_part r ≡ p) × (is_empty r.number.first ≡ false) × (is_named (gaining_field r.gaining) r.kind ≡ true)
 unfolding whole_of
 whole_back p r h =
     let x₀ = some-on (is_empty p.number.first) _ h in
@@ -85,11 +80,11 @@ whole_back p r h =
     (λ i. record { number = p.number; date = d i; gaining = g i; losing = l i; kind = k i }) in (
       ap report_part (sym same) ∙ own,
       ap (λ (q : Report). is_empty q.number.first) (sym same) ∙ x₀.0,
-      ap (λ (q : Report). is_named (gaining_field q.gaining) q.kind) (sym same) ∙ ap (λ (f : MaybeCode). is_named f x₃.0) g ∙ x₄.0,
+      ap (λ (q : Report). is_named (gaining_field q.gaining) q.kind) (sym same) ∙ ap (λ (f : Option Code). is_named f x₃.0) g ∙ x₄.0,
     )
 
 -- ---- what was written is read back
-pub report-trip : (r : Report) → report_fits r ≡ true → report_of (report_text r) ≡ ReportRead.Report r
+pub report-trip : (r : Report) → report_fits r ≡ true → report_of (report_text r) ≡ Some r
 unfolding report_of report_from report_fits
 report-trip r h =
     let a = and_left (part_fits (report_part r)) _ h in
@@ -98,18 +93,18 @@ report-trip r h =
     ∙ whole_part r (not-true (is_empty r.number.first) (and_left (not (is_empty r.number.first)) _ b)) (and_right (not (is_empty r.number.first)) _ b)
 
 -- ---- what was read is written again
-from_back : (x : PartRead) (r : Report) → report_from x ≡ ReportRead.Report r → (p : Part) × (x ≡ PartRead.Part p) × (whole_of p ≡ ReportRead.Report r)
+from_back : (x : Option Part) (r : Report) → report_from x ≡ Some r → (p : Part) × (x ≡ Some p) × (whole_of p ≡ Some r)
 unfolding report_from
-from_back (PartRead.Part p) r h = (p, refl, h)
-from_back PartRead.Fault r h = absurd (let z : ◌≡◌ {A = ℕ} 0 1 = cc in omega arith)
+from_back (Some p) r h = (p, refl, h)
+from_back None r h = absurd (let z : ◌≡◌ {A = ℕ} 0 1 = cc in omega arith)
 
-fits-from : (p : Part) (r : Report) → part_fits p ≡ true → whole_of p ≡ ReportRead.Report r → report_fits r ≡ true
+fits-from : (p : Part) (r : Report) → part_fits p ≡ true → whole_of p ≡ Some r → report_fits r ≡ true
 unfolding report_fits
 fits-from p r f h =
     let w = whole_back p r h in
     and-true _ _ (ap part_fits w.0 ∙ f) (and-true _ _ (ap not w.1) w.2)
 
-pub report-back : (s : List ℕ) (r : Report) → report_of s ≡ ReportRead.Report r → (report_text r ≡ s) × (report_fits r ≡ true)
+pub report-back : (s : List ℕ) (r : Report) → report_of s ≡ Some r → (report_text r ≡ s) × (report_fits r ≡ true)
 unfolding report_of
 report-back s r h =
     let x = from_back (part_of s) r h in
@@ -118,7 +113,7 @@ report-back s r h =
     (ap part_text w.0 ∙ b.0, fits-from x.0 r b.1 x.2)
 
 -- what is made of words fits
-pub report-words : (w : List ℕ) (r : Report) → report_of_words w ≡ ReportRead.Report r → report_fits r ≡ true
+pub report-words : (w : List ℕ) (r : Report) → report_of_words w ≡ Some r → report_fits r ≡ true
 unfolding report_of_words
 report-words w r h =
     let x = from_back (part_of_words w) r h in
@@ -129,7 +124,7 @@ pub report-longest : (r : Report) → report_fits r ≡ true → length (report_
 unfolding report_fits
 report-longest r h = part-longest (report_part r) (and_left (part_fits (report_part r)) _ h)
 
-pub report-record : (s : List ℕ) (r : Report) → report_of s ≡ ReportRead.Report r → length s ≤ 44
+pub report-record : (s : List ℕ) (r : Report) → report_of s ≡ Some r → length s ≤ 44
 report-record s r h =
     let b = report-back s r h in
     rw b.0 at (report-longest r b.1)

@@ -1,4 +1,9 @@
 -- A walk through a part's fields: what the reader of each gives, and that the walk reads what the six pieces between commas say. Assumes nothing.
+use Rattle.layout.specs.declared.part.Part.{Part}
+use Rattle.fields.specs.declared.kind.Kind.{Kind}
+use Rattle.calendar.specs.declared.dates.CalendarDays.{CalendarDays}
+use Rattle.fields.specs.declared.code.Code.{Code}
+use Rattle.std.specs.Prelude.{Option, Some, None}
 use Prim.Native.Nat.{ℕ, ◌+◌, ◌-◌, ◌<◌, ◌≤◌}
 use native.Mathlib.Omega.{arith}
 use mathlib.Core.Path.{◌≡◌, refl, sym, ap, ◌∙◌}
@@ -12,22 +17,12 @@ use borrow.Author.Tests.{lt-ltb, le-ltb, ne_eqb}
 use Rattle.laws.specs.Split.{split, joined, between, end_of}
 use Rattle.laws.proofs.Split.{split-some, ends_at, ends_more, ends_last, joined-split}
 use Rattle.laws.proofs.Tests.{le-or-lt}
-use Rattle.fields.specs.declared.code.MaybeCode.{MaybeCode}
-use Rattle.fields.specs.declared.code.MaybeCodeRead.{MaybeCodeRead}
-use Rattle.fields.specs.declared.date.MaybeDate.{MaybeDate}
-use Rattle.fields.specs.declared.date.MaybeDateRead.{MaybeDateRead}
-use Rattle.fields.specs.declared.kind.MaybeKind.{MaybeKind}
-use Rattle.fields.specs.declared.kind.MaybeKindRead.{MaybeKindRead}
 use Rattle.fields.specs.declared.number.Digits.{Digits}
-use Rattle.fields.specs.declared.number.DigitsRead.{DigitsRead}
 use Rattle.fields.specs.declared.number.Number.{Number}
-use Rattle.fields.specs.declared.number.NumberRead.{NumberRead}
 use Rattle.fields.specs.Code.{maybe_code_of}
 use Rattle.fields.specs.Date.{maybe_date_of}
 use Rattle.fields.specs.Kind.{kind_by, kind_of, maybe_kind_from, maybe_kind_of}
 use Rattle.fields.specs.Number.{digits_field_of, number_of}
-use Rattle.layout.specs.declared.part.PartRead.{PartRead}
-use Rattle.layout.specs.declared.part.PartRead.TheVariants.{Fault}
 use Rattle.layout.specs.declared.walk.DigitsAt.{DigitsAt}
 use Rattle.layout.specs.declared.walk.NumberAt.{NumberAt}
 use Rattle.layout.specs.declared.walk.DateAt.{DateAt}
@@ -49,24 +44,24 @@ more-here s at h = ends_more (ends_at 44 s at (omega (arith, end-from s at))) h
 
 -- ---- any field that a comma follows, whatever it holds: a reader of the pieces goes as one does that starts at a place of the line. `on` goes on with what a
 -- field says, `on_at` with what is found at a place and where the next field starts; a piece alone is the last field, which no comma follows
-module _ {X R : Type 0} (read : List ℕ → R) (on : R → (X → PartRead) → PartRead) where
-  unfoldable headed : (X → List (List ℕ) → PartRead) → List (List ℕ) → PartRead
-  headed K [] = Fault
+module _ {X R : Type 0} (read : List ℕ → R) (on : R → (X → Option Part) → Option Part) where
+  unfoldable headed : (X → List (List ℕ) → Option Part) → List (List ℕ) → Option Part
+  headed K [] = None
   headed K (f ∷ fs) = on (read f) λ x. K x fs
 
-module _ {X R A : Type 0} (read : List ℕ → R) (on : R → (X → PartRead) → PartRead) (on_at : A → (X → ℕ → PartRead) → PartRead) (then : R → ℕ → A) (found : List ℕ → ℕ → A) where
+module _ {X R A : Type 0} (read : List ℕ → R) (on : R → (X → Option Part) → Option Part) (on_at : A → (X → ℕ → Option Part) → Option Part) (then : R → ℕ → A) (found : List ℕ → ℕ → A) where
   -- what is asked of them: where nothing follows there is a fault, and both go on alike
   pub record Goes : Type 0 where
-    pub stops : (r : R) (k : X → PartRead) → ((x : X) → k x ≡ Fault) → on r k ≡ Fault
-    pub goes : (r : R) (k : X → ℕ → PartRead) (next : ℕ) → on r (λ x. k x next) ≡ on_at (then r next) k
-    pub none : (s : List ℕ) (at : ℕ) (k : X → ℕ → PartRead) → length s ≤ end_of 44 s at → on_at (found s at) k ≡ Fault
+    pub stops : (r : R) (k : X → Option Part) → ((x : X) → k x ≡ None) → on r k ≡ None
+    pub goes : (r : R) (k : X → ℕ → Option Part) (next : ℕ) → on r (λ x. k x next) ≡ on_at (then r next) k
+    pub none : (s : List ℕ) (at : ℕ) (k : X → ℕ → Option Part) → length s ≤ end_of 44 s at → on_at (found s at) k ≡ None
     pub more : (s : List ℕ) (at : ℕ) → end_of 44 s at < length s → found s at ≡ then (read (between s at (end_of 44 s at))) (end_of 44 s at + 1)
 
-  field_at : Goes → (K : X → List (List ℕ) → PartRead) → ((x : X) → K x [] ≡ Fault) → (s : List ℕ) (at : ℕ) → headed read on K (split 44 (drop at s)) ≡ on_at (found s at) (λ x next. K x (split 44 (drop next s)))
+  field_at : Goes → (K : X → List (List ℕ) → Option Part) → ((x : X) → K x [] ≡ None) → (s : List ℕ) (at : ℕ) → headed read on K (split 44 (drop at s)) ≡ on_at (found s at) (λ x next. K x (split 44 (drop next s)))
   unfolding headed
   field_at g K none s at =
       let e : ℕ = end_of 44 s at in
-      let k : X → ℕ → PartRead = λ x next. K x (split 44 (drop next s)) in
+      let k : X → ℕ → Option Part = λ x next. K x (split 44 (drop next s)) in
       ⊎_elim
       (λ (h : length s ≤ e). ap (headed read on K) (last-here s at h) ∙ g.stops (read (between s at e)) (λ x. K x []) none ∙ sym (g.none s at k h))
       (λ (h : e < length s). ap (headed read on K) (more-here s at h) ∙ g.goes (read (between s at e)) k (e + 1) ∙ ap (λ (r : A). on_at r k) (sym (g.more s at h)))
@@ -78,28 +73,28 @@ module _ (s : List ℕ) (at e : ℕ) (q : e ≡ end_of 44 s at) where
   unfolding digits_at
   digits-none h = rw (← q, le-ltb e (length s) h)
 
-  pub digits-then : e < length s → {r : DigitsRead} → digits_field_of (between s at e) ≡ r → digits_at s at ≡ digits_then r (e + 1)
+  pub digits-then : e < length s → {r : Option Digits} → digits_field_of (between s at e) ≡ r → digits_at s at ≡ digits_then r (e + 1)
   unfolding digits_at
   digits-then h p = rw (← q, lt-ltb e (length s) h, p)
 
-abbrev digits_head : (Digits → List (List ℕ) → PartRead) → List (List ℕ) → PartRead
-digits_head K = headed (digits_field_of) (λ r k. on_digits r Fault k) K
+abbrev digits_head : (Digits → List (List ℕ) → Option Part) → List (List ℕ) → Option Part
+digits_head K = headed (digits_field_of) (λ r k. on_digits r None k) K
 
-abbrev on_digits_at : DigitsAt → (Digits → ℕ → PartRead) → PartRead
+abbrev on_digits_at : DigitsAt → (Digits → ℕ → Option Part) → Option Part
 on_digits_at (DigitsAt.Digits x next) k = k x next
-on_digits_at DigitsAt.Fault k = Fault
+on_digits_at DigitsAt.Fault k = None
 
-digits-stops : (r : DigitsRead) (k : Digits → PartRead) → ((x : Digits) → k x ≡ Fault) → on_digits r Fault k ≡ Fault
-digits-stops (DigitsRead.Digits x) k h = h x
-digits-stops DigitsRead.Fault k h = refl
+digits-stops : (r : Option Digits) (k : Digits → Option Part) → ((x : Digits) → k x ≡ None) → on_digits r None k ≡ None
+digits-stops (Some x) k h = h x
+digits-stops None k h = refl
 
-digits-goes : (r : DigitsRead) (k : Digits → ℕ → PartRead) (next : ℕ) → on_digits r Fault (λ x. k x next) ≡ on_digits_at (digits_then r next) k
-digits-goes (DigitsRead.Digits x) k next = refl
-digits-goes DigitsRead.Fault k next = refl
+digits-goes : (r : Option Digits) (k : Digits → ℕ → Option Part) (next : ℕ) → on_digits r None (λ x. k x next) ≡ on_digits_at (digits_then r next) k
+digits-goes (Some x) k next = refl
+digits-goes None k next = refl
 
-digits-at : (K : Digits → List (List ℕ) → PartRead) → ((x : Digits) → K x [] ≡ Fault) → (s : List ℕ) (at : ℕ) → digits_head K (split 44 (drop at s)) ≡ on_digits_at (digits_at s at) (λ x next. K x (split 44 (drop next s)))
+digits-at : (K : Digits → List (List ℕ) → Option Part) → ((x : Digits) → K x [] ≡ None) → (s : List ℕ) (at : ℕ) → digits_head K (split 44 (drop at s)) ≡ on_digits_at (digits_at s at) (λ x next. K x (split 44 (drop next s)))
 digits-at =
-    field_at (digits_field_of) (λ r k. on_digits r Fault k) on_digits_at digits_then (digits_at)
+    field_at (digits_field_of) (λ r k. on_digits r None k) on_digits_at digits_then (digits_at)
     (record {
       stops = digits-stops;
       goes = digits-goes;
@@ -113,28 +108,28 @@ module _ (first : Digits) (s : List ℕ) (at e : ℕ) (q : e ≡ end_of 44 s at)
   unfolding number_at
   number-none h = rw (← q, le-ltb e (length s) h)
 
-  pub number-then : e < length s → {r : NumberRead} → number_of first (between s at e) ≡ r → number_at first s at ≡ number_then r (e + 1)
+  pub number-then : e < length s → {r : Option Number} → number_of first (between s at e) ≡ r → number_at first s at ≡ number_then r (e + 1)
   unfolding number_at
   number-then h p = rw (← q, lt-ltb e (length s) h, p)
 
-abbrev number_head : Digits → (Number → List (List ℕ) → PartRead) → List (List ℕ) → PartRead
-number_head first K = headed (number_of first) (λ r k. on_number r Fault k) K
+abbrev number_head : Digits → (Number → List (List ℕ) → Option Part) → List (List ℕ) → Option Part
+number_head first K = headed (number_of first) (λ r k. on_number r None k) K
 
-abbrev on_number_at : NumberAt → (Number → ℕ → PartRead) → PartRead
+abbrev on_number_at : NumberAt → (Number → ℕ → Option Part) → Option Part
 on_number_at (NumberAt.Number x next) k = k x next
-on_number_at NumberAt.Fault k = Fault
+on_number_at NumberAt.Fault k = None
 
-number-stops : (r : NumberRead) (k : Number → PartRead) → ((x : Number) → k x ≡ Fault) → on_number r Fault k ≡ Fault
-number-stops (NumberRead.Number x) k h = h x
-number-stops NumberRead.Fault k h = refl
+number-stops : (r : Option Number) (k : Number → Option Part) → ((x : Number) → k x ≡ None) → on_number r None k ≡ None
+number-stops (Some x) k h = h x
+number-stops None k h = refl
 
-number-goes : (r : NumberRead) (k : Number → ℕ → PartRead) (next : ℕ) → on_number r Fault (λ x. k x next) ≡ on_number_at (number_then r next) k
-number-goes (NumberRead.Number x) k next = refl
-number-goes NumberRead.Fault k next = refl
+number-goes : (r : Option Number) (k : Number → ℕ → Option Part) (next : ℕ) → on_number r None (λ x. k x next) ≡ on_number_at (number_then r next) k
+number-goes (Some x) k next = refl
+number-goes None k next = refl
 
-number-at : (first : Digits) (K : Number → List (List ℕ) → PartRead) → ((x : Number) → K x [] ≡ Fault) → (s : List ℕ) (at : ℕ) → number_head first K (split 44 (drop at s)) ≡ on_number_at (number_at first s at) (λ x next. K x (split 44 (drop next s)))
+number-at : (first : Digits) (K : Number → List (List ℕ) → Option Part) → ((x : Number) → K x [] ≡ None) → (s : List ℕ) (at : ℕ) → number_head first K (split 44 (drop at s)) ≡ on_number_at (number_at first s at) (λ x next. K x (split 44 (drop next s)))
 number-at first =
-    field_at (number_of first) (λ r k. on_number r Fault k) on_number_at number_then (number_at first)
+    field_at (number_of first) (λ r k. on_number r None k) on_number_at number_then (number_at first)
     (record {
       stops = number-stops;
       goes = number-goes;
@@ -148,28 +143,28 @@ module _ (s : List ℕ) (at e : ℕ) (q : e ≡ end_of 44 s at) where
   unfolding date_at
   date-none h = rw (← q, le-ltb e (length s) h)
 
-  pub date-then : e < length s → {r : MaybeDateRead} → maybe_date_of (between s at e) ≡ r → date_at s at ≡ date_then r (e + 1)
+  pub date-then : e < length s → {r : Option (Option CalendarDays)} → maybe_date_of (between s at e) ≡ r → date_at s at ≡ date_then r (e + 1)
   unfolding date_at
   date-then h p = rw (← q, lt-ltb e (length s) h, p)
 
-abbrev date_head : (MaybeDate → List (List ℕ) → PartRead) → List (List ℕ) → PartRead
-date_head K = headed (maybe_date_of) (λ r k. on_date r Fault k) K
+abbrev date_head : ((Option CalendarDays) → List (List ℕ) → Option Part) → List (List ℕ) → Option Part
+date_head K = headed (maybe_date_of) (λ r k. on_date r None k) K
 
-abbrev on_date_at : DateAt → (MaybeDate → ℕ → PartRead) → PartRead
+abbrev on_date_at : DateAt → ((Option CalendarDays) → ℕ → Option Part) → Option Part
 on_date_at (DateAt.Date x next) k = k x next
-on_date_at DateAt.Fault k = Fault
+on_date_at DateAt.Fault k = None
 
-date-stops : (r : MaybeDateRead) (k : MaybeDate → PartRead) → ((x : MaybeDate) → k x ≡ Fault) → on_date r Fault k ≡ Fault
-date-stops (MaybeDateRead.MaybeDate x) k h = h x
-date-stops MaybeDateRead.Fault k h = refl
+date-stops : (r : Option (Option CalendarDays)) (k : Option CalendarDays → Option Part) → ((x : Option CalendarDays) → k x ≡ None) → on_date r None k ≡ None
+date-stops (Some x) k h = h x
+date-stops None k h = refl
 
-date-goes : (r : MaybeDateRead) (k : MaybeDate → ℕ → PartRead) (next : ℕ) → on_date r Fault (λ x. k x next) ≡ on_date_at (date_then r next) k
-date-goes (MaybeDateRead.MaybeDate x) k next = refl
-date-goes MaybeDateRead.Fault k next = refl
+date-goes : (r : Option (Option CalendarDays)) (k : Option CalendarDays → ℕ → Option Part) (next : ℕ) → on_date r None (λ x. k x next) ≡ on_date_at (date_then r next) k
+date-goes (Some x) k next = refl
+date-goes None k next = refl
 
-date-at : (K : MaybeDate → List (List ℕ) → PartRead) → ((x : MaybeDate) → K x [] ≡ Fault) → (s : List ℕ) (at : ℕ) → date_head K (split 44 (drop at s)) ≡ on_date_at (date_at s at) (λ x next. K x (split 44 (drop next s)))
+date-at : (K : Option CalendarDays → List (List ℕ) → Option Part) → ((x : Option CalendarDays) → K x [] ≡ None) → (s : List ℕ) (at : ℕ) → date_head K (split 44 (drop at s)) ≡ on_date_at (date_at s at) (λ x next. K x (split 44 (drop next s)))
 date-at =
-    field_at (maybe_date_of) (λ r k. on_date r Fault k) on_date_at date_then (date_at)
+    field_at (maybe_date_of) (λ r k. on_date r None k) on_date_at date_then (date_at)
     (record {
       stops = date-stops;
       goes = date-goes;
@@ -183,28 +178,28 @@ module _ (s : List ℕ) (at e : ℕ) (q : e ≡ end_of 44 s at) where
   unfolding code_at
   code-none h = rw (← q, le-ltb e (length s) h)
 
-  pub code-then : e < length s → {r : MaybeCodeRead} → maybe_code_of (between s at e) ≡ r → code_at s at ≡ code_then r (e + 1)
+  pub code-then : e < length s → {r : Option (Option Code)} → maybe_code_of (between s at e) ≡ r → code_at s at ≡ code_then r (e + 1)
   unfolding code_at
   code-then h p = rw (← q, lt-ltb e (length s) h, p)
 
-abbrev code_head : (MaybeCode → List (List ℕ) → PartRead) → List (List ℕ) → PartRead
-code_head K = headed (maybe_code_of) (λ r k. on_code r Fault k) K
+abbrev code_head : ((Option Code) → List (List ℕ) → Option Part) → List (List ℕ) → Option Part
+code_head K = headed (maybe_code_of) (λ r k. on_code r None k) K
 
-abbrev on_code_at : CodeAt → (MaybeCode → ℕ → PartRead) → PartRead
+abbrev on_code_at : CodeAt → ((Option Code) → ℕ → Option Part) → Option Part
 on_code_at (CodeAt.Code x next) k = k x next
-on_code_at CodeAt.Fault k = Fault
+on_code_at CodeAt.Fault k = None
 
-code-stops : (r : MaybeCodeRead) (k : MaybeCode → PartRead) → ((x : MaybeCode) → k x ≡ Fault) → on_code r Fault k ≡ Fault
-code-stops (MaybeCodeRead.MaybeCode x) k h = h x
-code-stops MaybeCodeRead.Fault k h = refl
+code-stops : (r : Option (Option Code)) (k : Option Code → Option Part) → ((x : Option Code) → k x ≡ None) → on_code r None k ≡ None
+code-stops (Some x) k h = h x
+code-stops None k h = refl
 
-code-goes : (r : MaybeCodeRead) (k : MaybeCode → ℕ → PartRead) (next : ℕ) → on_code r Fault (λ x. k x next) ≡ on_code_at (code_then r next) k
-code-goes (MaybeCodeRead.MaybeCode x) k next = refl
-code-goes MaybeCodeRead.Fault k next = refl
+code-goes : (r : Option (Option Code)) (k : Option Code → ℕ → Option Part) (next : ℕ) → on_code r None (λ x. k x next) ≡ on_code_at (code_then r next) k
+code-goes (Some x) k next = refl
+code-goes None k next = refl
 
-code-at : (K : MaybeCode → List (List ℕ) → PartRead) → ((x : MaybeCode) → K x [] ≡ Fault) → (s : List ℕ) (at : ℕ) → code_head K (split 44 (drop at s)) ≡ on_code_at (code_at s at) (λ x next. K x (split 44 (drop next s)))
+code-at : (K : Option Code → List (List ℕ) → Option Part) → ((x : Option Code) → K x [] ≡ None) → (s : List ℕ) (at : ℕ) → code_head K (split 44 (drop at s)) ≡ on_code_at (code_at s at) (λ x next. K x (split 44 (drop next s)))
 code-at =
-    field_at (maybe_code_of) (λ r k. on_code r Fault k) on_code_at code_then (code_at)
+    field_at (maybe_code_of) (λ r k. on_code r None k) on_code_at code_then (code_at)
     (record {
       stops = code-stops;
       goes = code-goes;
@@ -213,25 +208,25 @@ code-at =
     })
 
 -- ---- the kind, which ends the part
-abbrev kind_last : Number → MaybeDate → MaybeCode → MaybeCode → List (List ℕ) → PartRead
-kind_last number date gaining losing [] = Fault
-kind_last number date gaining losing (f ∷ []) = on_kind (maybe_kind_of f) Fault λ kind. PartRead.Part (record { number = number; date = date; gaining = gaining; losing = losing; kind = kind })
-kind_last number date gaining losing (f ∷ g ∷ fs) = Fault
+abbrev kind_last : Number → Option CalendarDays → Option Code → Option Code → List (List ℕ) → Option Part
+kind_last number date gaining losing [] = None
+kind_last number date gaining losing (f ∷ []) = on_kind (maybe_kind_of f) None λ kind. Some (record { number = number; date = date; gaining = gaining; losing = losing; kind = kind })
+kind_last number date gaining losing (f ∷ g ∷ fs) = None
 
 -- no kind has a comma
-kind-comma : (f t : List ℕ) → maybe_kind_of (f ++ 44 ∷ t) ≡ MaybeKindRead.Fault
+kind-comma : (f t : List ℕ) → maybe_kind_of (f ++ 44 ∷ t) ≡ None
 unfolding maybe_kind_of maybe_kind_from kind_of kind_by
 kind-comma [] [] = refl
 kind-comma [] (x ∷ t) = rw (ne_eqb (length (44 ∷ x ∷ t)) 0 (λ e. omega arith), ne_eqb (length (44 ∷ x ∷ t)) 1 (λ e. omega arith))
 kind-comma (y ∷ f) t =
     rw (ne_eqb (length (y ∷ (f ++ 44 ∷ t))) 0 (λ e. omega arith), ne_eqb (length (y ∷ (f ++ 44 ∷ t))) 1 (λ e. omega (arith, length-append f (44 ∷ t))))
 
-kind_at : (number : Number) (date : MaybeDate) (gaining losing : MaybeCode) (t : List ℕ)
-    → kind_last number date gaining losing (split 44 t) ≡ on_kind (maybe_kind_of t) Fault λ kind. PartRead.Part (record { number = number; date = date; gaining = gaining; losing = losing; kind = kind })
+kind_at : (number : Number) (date : Option CalendarDays) (gaining losing : Option Code) (t : List ℕ)
+    → kind_last number date gaining losing (split 44 t) ≡ on_kind (maybe_kind_of t) None λ kind. Some (record { number = number; date = date; gaining = gaining; losing = losing; kind = kind })
 kind_at number date gaining losing t = go (split 44 t) (split-some 44 t) (joined-split 44 t)
   where
-    k : MaybeKindRead → PartRead
-    k r = on_kind r Fault λ kind. PartRead.Part (record { number = number; date = date; gaining = gaining; losing = losing; kind = kind })
+    k : Option (Option Kind) → Option Part
+    k r = on_kind r None λ kind. Some (record { number = number; date = date; gaining = gaining; losing = losing; kind = kind })
 
     go : (fs : List (List ℕ)) → 1 ≤ length fs → joined 44 fs ≡ t → kind_last number date gaining losing fs ≡ k (maybe_kind_of t)
     go [] h e = absurd (omega arith)
@@ -239,53 +234,53 @@ kind_at number date gaining losing t = go (split 44 t) (split-some 44 t) (joined
     go (f ∷ g ∷ fs) h e = ap k (sym (kind-comma f (joined 44 (g ∷ fs)))) ∙ ap (λ (l : List ℕ). k (maybe_kind_of l)) e
 
 -- ---- the six of them, from each on
-abbrev from_losing : Number → MaybeDate → MaybeCode → List (List ℕ) → PartRead
+abbrev from_losing : Number → Option CalendarDays → Option Code → List (List ℕ) → Option Part
 from_losing number date gaining fs = code_head (λ losing. kind_last number date gaining losing) fs
 
-abbrev from_gaining : Number → MaybeDate → List (List ℕ) → PartRead
+abbrev from_gaining : Number → Option CalendarDays → List (List ℕ) → Option Part
 from_gaining number date fs = code_head (λ gaining. from_losing number date gaining) fs
 
-abbrev from_date : Number → List (List ℕ) → PartRead
+abbrev from_date : Number → List (List ℕ) → Option Part
 from_date number fs = date_head (λ date. from_gaining number date) fs
 
-abbrev from_last : Digits → List (List ℕ) → PartRead
+abbrev from_last : Digits → List (List ℕ) → Option Part
 from_last first fs = number_head first (λ number. from_date number) fs
 
-abbrev from_first : List (List ℕ) → PartRead
+abbrev from_first : List (List ℕ) → Option Part
 from_first fs = digits_head (λ first. from_last first) fs
 
 -- no more and no fewer
-kind-count : (number : Number) (date : MaybeDate) (gaining losing : MaybeCode) (fs : List (List ℕ)) → (length fs ≡ 1 → ⊥) → kind_last number date gaining losing fs ≡ Fault
+kind-count : (number : Number) (date : Option CalendarDays) (gaining losing : Option Code) (fs : List (List ℕ)) → (length fs ≡ 1 → ⊥) → kind_last number date gaining losing fs ≡ None
 kind-count number date gaining losing [] n = refl
 kind-count number date gaining losing (f ∷ []) n = absurd (n refl)
 kind-count number date gaining losing (f ∷ g ∷ fs) n = refl
 
-losing-count : (number : Number) (date : MaybeDate) (gaining : MaybeCode) (fs : List (List ℕ)) → (length fs ≡ 2 → ⊥) → from_losing number date gaining fs ≡ Fault
+losing-count : (number : Number) (date : Option CalendarDays) (gaining : Option Code) (fs : List (List ℕ)) → (length fs ≡ 2 → ⊥) → from_losing number date gaining fs ≡ None
 unfolding headed
 losing-count number date gaining [] n = refl
 losing-count number date gaining (f ∷ fs) n = code-stops (maybe_code_of f) _ (λ x. kind-count number date gaining x fs (λ e. n (omega arith)))
 
-gaining-count : (number : Number) (date : MaybeDate) (fs : List (List ℕ)) → (length fs ≡ 3 → ⊥) → from_gaining number date fs ≡ Fault
+gaining-count : (number : Number) (date : Option CalendarDays) (fs : List (List ℕ)) → (length fs ≡ 3 → ⊥) → from_gaining number date fs ≡ None
 unfolding headed
 gaining-count number date [] n = refl
 gaining-count number date (f ∷ fs) n = code-stops (maybe_code_of f) _ (λ x. losing-count number date x fs (λ e. n (omega arith)))
 
-date-count : (number : Number) (fs : List (List ℕ)) → (length fs ≡ 4 → ⊥) → from_date number fs ≡ Fault
+date-count : (number : Number) (fs : List (List ℕ)) → (length fs ≡ 4 → ⊥) → from_date number fs ≡ None
 unfolding headed
 date-count number [] n = refl
 date-count number (f ∷ fs) n = date-stops (maybe_date_of f) _ (λ x. gaining-count number x fs (λ e. n (omega arith)))
 
-last-count : (first : Digits) (fs : List (List ℕ)) → (length fs ≡ 5 → ⊥) → from_last first fs ≡ Fault
+last-count : (first : Digits) (fs : List (List ℕ)) → (length fs ≡ 5 → ⊥) → from_last first fs ≡ None
 unfolding headed
 last-count first [] n = refl
 last-count first (f ∷ fs) n = number-stops (number_of first f) _ (λ x. date-count x fs (λ e. n (omega arith)))
 
-first_count : (fs : List (List ℕ)) → (length fs ≡ 6 → ⊥) → from_first fs ≡ Fault
+first_count : (fs : List (List ℕ)) → (length fs ≡ 6 → ⊥) → from_first fs ≡ None
 unfolding headed
 first_count [] n = refl
 first_count (f ∷ fs) n = digits-stops (digits_field_of f) _ (λ x. last-count x fs (λ e. n (omega arith)))
 
-part-pieces : (fs : List (List ℕ)) → cond (eqb (length fs) 6) (six_of (get_or fs 0 []) (get_or fs 1 []) (get_or fs 2 []) (get_or fs 3 []) (get_or fs 4 []) (get_or fs 5 [])) Fault ≡ from_first fs
+part-pieces : (fs : List (List ℕ)) → cond (eqb (length fs) 6) (six_of (get_or fs 0 []) (get_or fs 1 []) (get_or fs 2 []) (get_or fs 3 []) (get_or fs 4 []) (get_or fs 5 [])) None ≡ from_first fs
 unfolding six_of headed
 part-pieces [] = sym (first_count [] (λ q. omega arith))
 part-pieces (a ∷ []) = sym (first_count (a ∷ []) (λ q. omega arith))
@@ -303,7 +298,7 @@ module _ (s : List ℕ) where
   unfolding part_of headed
   from-0 = part-pieces (split 44 s) ∙ digits-at _ (λ first. refl) s 0
 
-  pub walk_1 : digits_at s 0 ≡ DigitsAt.Fault → part_of s ≡ Fault
+  pub walk_1 : digits_at s 0 ≡ DigitsAt.Fault → part_of s ≡ None
   walk_1 p₁ = from-0 ∙ rw p₁
 
   module _ {first : Digits} {a : ℕ} (p₁ : digits_at s 0 ≡ DigitsAt.Digits first a) where
@@ -311,7 +306,7 @@ module _ (s : List ℕ) where
     unfolding headed
     from-1 = from-0 ∙ rw p₁ (number-at first _ (λ number. refl) s a)
 
-    pub walk_2 : number_at first s a ≡ NumberAt.Fault → part_of s ≡ Fault
+    pub walk_2 : number_at first s a ≡ NumberAt.Fault → part_of s ≡ None
     walk_2 p₂ = from-1 ∙ rw p₂
 
     module _ {number : Number} {b : ℕ} (p₂ : number_at first s a ≡ NumberAt.Number number b) where
@@ -319,30 +314,30 @@ module _ (s : List ℕ) where
       unfolding headed
       from-2 = from-1 ∙ rw p₂ (date-at _ (λ date. refl) s b)
 
-      pub walk_3 : date_at s b ≡ DateAt.Fault → part_of s ≡ Fault
+      pub walk_3 : date_at s b ≡ DateAt.Fault → part_of s ≡ None
       walk_3 p₃ = from-2 ∙ rw p₃
 
-      module _ {date : MaybeDate} {c : ℕ} (p₃ : date_at s b ≡ DateAt.Date date c) where
+      module _ {date : Option CalendarDays} {c : ℕ} (p₃ : date_at s b ≡ DateAt.Date date c) where
         from-3 : part_of s ≡ on_code_at (code_at s c) (λ gaining next. from_losing number date gaining (split 44 (drop next s)))
         unfolding headed
         from-3 = from-2 ∙ rw p₃ (code-at _ (λ gaining. refl) s c)
 
-        pub walk_4 : code_at s c ≡ CodeAt.Fault → part_of s ≡ Fault
+        pub walk_4 : code_at s c ≡ CodeAt.Fault → part_of s ≡ None
         walk_4 p₄ = from-3 ∙ rw p₄
 
-        module _ {gaining : MaybeCode} {d : ℕ} (p₄ : code_at s c ≡ CodeAt.Code gaining d) where
+        module _ {gaining : Option Code} {d : ℕ} (p₄ : code_at s c ≡ CodeAt.Code gaining d) where
           from-4 : part_of s ≡ on_code_at (code_at s d) (λ losing next. kind_last number date gaining losing (split 44 (drop next s)))
           from-4 = from-3 ∙ rw p₄ (code-at _ (λ losing. refl) s d)
 
-          pub walk_5 : code_at s d ≡ CodeAt.Fault → part_of s ≡ Fault
+          pub walk_5 : code_at s d ≡ CodeAt.Fault → part_of s ≡ None
           walk_5 p₅ = from-4 ∙ rw p₅
 
-          module _ {losing : MaybeCode} {e : ℕ} (p₅ : code_at s d ≡ CodeAt.Code losing e) where
-            from-5 : part_of s ≡ on_kind (maybe_kind_of (drop e s)) Fault λ kind. PartRead.Part (record { number = number; date = date; gaining = gaining; losing = losing; kind = kind })
+          module _ {losing : Option Code} {e : ℕ} (p₅ : code_at s d ≡ CodeAt.Code losing e) where
+            from-5 : part_of s ≡ on_kind (maybe_kind_of (drop e s)) None λ kind. Some (record { number = number; date = date; gaining = gaining; losing = losing; kind = kind })
             from-5 = from-4 ∙ rw p₅ (kind_at number date gaining losing (drop e s))
 
-            pub walk_6 : maybe_kind_of (drop e s) ≡ MaybeKindRead.Fault → part_of s ≡ Fault
+            pub walk_6 : maybe_kind_of (drop e s) ≡ None → part_of s ≡ None
             walk_6 p₆ = from-5 ∙ rw p₆
 
-            pub walk-7 : {kind : MaybeKind} → maybe_kind_of (drop e s) ≡ MaybeKindRead.MaybeKind kind → part_of s ≡ PartRead.Part (record { number = number; date = date; gaining = gaining; losing = losing; kind = kind })
+            pub walk-7 : {kind : Option Kind} → maybe_kind_of (drop e s) ≡ Some kind → part_of s ≡ Some (record { number = number; date = date; gaining = gaining; losing = losing; kind = kind })
             walk-7 p₆ = from-5 ∙ rw p₆

@@ -1,4 +1,6 @@
 -- A field whose width is known, a date or a code, is empty or ends where its comma must stand, or the part is a fault. Assumes nothing.
+use Rattle.fields.specs.declared.kind.Kind.{Kind}
+use Rattle.std.specs.Prelude.{Option, Some, None}
 use Prim.Native.Nat.{ℕ, suc, ◌+◌, ◌-◌, ◌<◌, ◌≤◌}
 use native.Mathlib.Decide.{ℕ_discrete}
 use native.Mathlib.Omega.{arith}
@@ -19,15 +21,6 @@ use Rattle.laws.proofs.Split.{ends_at, length-between, lacks-by}
 use Rattle.laws.proofs.Tests.{and_left, and_right, le-or-lt}
 use Rattle.calendar.specs.declared.dates.CalendarDays.{CalendarDays}
 use Rattle.fields.specs.declared.code.Code.{Code}
-use Rattle.fields.specs.declared.code.CodeRead.{CodeRead}
-use Rattle.fields.specs.declared.code.MaybeCode.{MaybeCode}
-use Rattle.fields.specs.declared.code.MaybeCodeRead.{MaybeCodeRead}
-use Rattle.fields.specs.declared.date.DateRead.{DateRead}
-use Rattle.fields.specs.declared.date.MaybeDate.{MaybeDate}
-use Rattle.fields.specs.declared.date.MaybeDateRead.{MaybeDateRead}
-use Rattle.fields.specs.declared.kind.KindRead.{KindRead}
-use Rattle.fields.specs.declared.kind.MaybeKind.{MaybeKind}
-use Rattle.fields.specs.declared.kind.MaybeKindRead.{MaybeKindRead}
 use Rattle.fields.specs.Bytes.{field_byte}
 use Rattle.fields.specs.Code.{code_of, maybe_code_from, maybe_code_of, code_text}
 use Rattle.fields.specs.Date.{date_field_of, maybe_date_from, maybe_date_of, maybe_date_text}
@@ -131,70 +124,70 @@ between_none : (s : List ℕ) (at : ℕ) → between s at at ≡ []
 between_none s at = let none : at - at ≡ 0 = omega arith in rw none refl
 
 -- ---- a date
-date-filled : (f : List ℕ) → (length f ≡ 0 → ⊥) → {r : DateRead} → date_field_of f ≡ r → maybe_date_of f ≡ maybe_date_from r
+date-filled : (f : List ℕ) → (length f ≡ 0 → ⊥) → {r : Option CalendarDays} → date_field_of f ≡ r → maybe_date_of f ≡ maybe_date_from r
 unfolding maybe_date_of
 date-filled f z p = rw (ne_eqb (length f) 0 z, p)
 
-date-blank : maybe_date_of [] ≡ MaybeDateRead.MaybeDate MaybeDate.Empty
+date-blank : maybe_date_of [] ≡ Some None
 unfolding maybe_date_of
 date-blank = refl
 
-date-width : (f : List ℕ) → (length f ≡ 8 → ⊥) → date_field_of f ≡ DateRead.Fault
+date-width : (f : List ℕ) → (length f ≡ 8 → ⊥) → date_field_of f ≡ None
 unfolding date_field_of
 date-width f m = rw (ne_eqb (length f) 8 m)
 
-date-clean : (f : List ℕ) → (length f ≡ 0 → ⊥) → (d : CalendarDays) → date_field_of f ≡ DateRead.Date d → lacks 44 f ≡ true
+date-clean : (f : List ℕ) → (length f ≡ 0 → ⊥) → (d : CalendarDays) → date_field_of f ≡ Some d → lacks 44 f ≡ true
 unfolding maybe_date_from field_byte is_digit
-date-clean f z d r = rw (maybe-date-back f (MaybeDate.Date d) (date-filled f z r)).0 at (lacks-by field_byte 44 refl (maybe_date_text (MaybeDate.Date d)) (bytes-maybe-date (MaybeDate.Date d)))
+date-clean f z d r = rw (maybe-date-back f (Some d) (date-filled f z r)).0 at (lacks-by field_byte 44 refl (maybe_date_text (Some d)) (bytes-maybe-date (Some d)))
 
-pub dates : Wide 8 date_field_of DateRead.Fault DateRead.Date date_at DateAt.Fault (λ n. DateAt.Date MaybeDate.Empty n) (λ d n. DateAt.Date (MaybeDate.Date d) n)
+pub dates : Wide 8 date_field_of None Some date_at DateAt.Fault (λ n. DateAt.Date None n) (λ d n. DateAt.Date (Some d) n)
 unfolding maybe_date_from
 dates = record {
   some = omega arith;
   width = date-width;
   clean = date-clean;
   none = date-none;
-  blank = λ s at q h. date-then s at at q h {r = MaybeDateRead.MaybeDate MaybeDate.Empty} (ap maybe_date_of (between_none s at) ∙ date-blank);
-  wrong = λ s at e q h z r. date-then s at e q h {r = MaybeDateRead.Fault} (date-filled (between s at e) z r);
-  right = λ s at e q h z d r. date-then s at e q h {r = MaybeDateRead.MaybeDate (MaybeDate.Date d)} (date-filled (between s at e) z r);
+  blank = λ s at q h. date-then s at at q h {r = Some None} (ap maybe_date_of (between_none s at) ∙ date-blank);
+  wrong = λ s at e q h z r. date-then s at e q h {r = None} (date-filled (between s at e) z r);
+  right = λ s at e q h z d r. date-then s at e q h {r = Some (Some d)} (date-filled (between s at e) z r);
 }
 
 -- ---- a code
-code-filled : (f : List ℕ) → (length f ≡ 0 → ⊥) → {r : CodeRead} → code_of f ≡ r → maybe_code_of f ≡ maybe_code_from r
+code-filled : (f : List ℕ) → (length f ≡ 0 → ⊥) → {r : Option Code} → code_of f ≡ r → maybe_code_of f ≡ maybe_code_from r
 unfolding maybe_code_of
 code-filled f z p = rw (ne_eqb (length f) 0 z, p)
 
-code-blank : maybe_code_of [] ≡ MaybeCodeRead.MaybeCode MaybeCode.Empty
+code-blank : maybe_code_of [] ≡ Some None
 unfolding maybe_code_of
 code-blank = refl
 
-code-width : (f : List ℕ) → (length f ≡ 4 → ⊥) → code_of f ≡ CodeRead.Fault
+code-width : (f : List ℕ) → (length f ≡ 4 → ⊥) → code_of f ≡ None
 unfolding code_of
 code-width f m = rw (ne_eqb (length f) 4 m)
 
-code-clean : (f : List ℕ) → (length f ≡ 0 → ⊥) → (c : Code) → code_of f ≡ CodeRead.Code c → lacks 44 f ≡ true
+code-clean : (f : List ℕ) → (length f ≡ 0 → ⊥) → (c : Code) → code_of f ≡ Some c → lacks 44 f ≡ true
 unfolding field_byte is_digit
 code-clean f z c r = rw (code-back f c r).0 at (lacks-by field_byte 44 refl (code_text c) (bytes-code c))
 
-pub codes : Wide 4 code_of CodeRead.Fault CodeRead.Code code_at CodeAt.Fault (λ n. CodeAt.Code MaybeCode.Empty n) (λ c n. CodeAt.Code (MaybeCode.Code c) n)
+pub codes : Wide 4 code_of None Some code_at CodeAt.Fault (λ n. CodeAt.Code None n) (λ c n. CodeAt.Code (Some c) n)
 unfolding maybe_code_from
 codes = record {
   some = omega arith;
   width = code-width;
   clean = code-clean;
   none = code-none;
-  blank = λ s at q h. code-then s at at q h {r = MaybeCodeRead.MaybeCode MaybeCode.Empty} (ap maybe_code_of (between_none s at) ∙ code-blank);
-  wrong = λ s at e q h z r. code-then s at e q h {r = MaybeCodeRead.Fault} (code-filled (between s at e) z r);
-  right = λ s at e q h z c r. code-then s at e q h {r = MaybeCodeRead.MaybeCode (MaybeCode.Code c)} (code-filled (between s at e) z r);
+  blank = λ s at q h. code-then s at at q h {r = Some None} (ap maybe_code_of (between_none s at) ∙ code-blank);
+  wrong = λ s at e q h z r. code-then s at e q h {r = None} (code-filled (between s at e) z r);
+  right = λ s at e q h z c r. code-then s at e q h {r = Some (Some c)} (code-filled (between s at e) z r);
 }
 
 -- ---- the kind
 module _ (s : List ℕ) (at : ℕ) where
-  pub kind-empty : length s ≤ at → maybe_kind_of (drop at s) ≡ MaybeKindRead.MaybeKind MaybeKind.Empty
+  pub kind-empty : length s ≤ at → maybe_kind_of (drop at s) ≡ Some None
   unfolding maybe_kind_of
   kind-empty h = rw (drop_of_length-le s h) refl
 
-  pub kind-read : at < length s → {r : KindRead} → kind_of (take (length s - at) (drop at s)) ≡ r → maybe_kind_of (drop at s) ≡ maybe_kind_from r
+  pub kind-read : at < length s → {r : Option Kind} → kind_of (take (length s - at) (drop at s)) ≡ r → maybe_kind_of (drop at s) ≡ maybe_kind_from r
   unfolding maybe_kind_of
   kind-read h {r} e =
       let whole : take (length s - at) (drop at s) ≡ drop at s = take_all (length s - at) (drop at s) (omega (arith, length-drop at s)) in

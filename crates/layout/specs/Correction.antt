@@ -1,51 +1,48 @@
 -- What a correction is read as, which corrections it can hold, and how they are written. Assumes nothing: these are definitions.
+use Rattle.layout.specs.declared.report.Report.{Report}
+use Rattle.std.specs.Prelude.{Option, Some, None}
 use Rattle.std.specs.Prelude.{ℕ, ◌-◌, ◌+◌, Bool, true, false, cond, not, ◌&&◌, ◌||◌, List, ◌∷◌, ◌++◌, eqb, leb, length, get_or, take}
 use Rattle.laws.specs.Split.{split, piece_of, between}
 use Rattle.fields.specs.declared.correction_code.CorrectionCode.{CorrectionCode}
-use Rattle.fields.specs.declared.correction_code.CorrectionCodeRead.{CorrectionCodeRead}
 use Rattle.fields.specs.declared.number.Number.{Number}
 use Rattle.fields.specs.CorrectionCode.{correction_code_of, correction_code_of_word, correction_code_fits, is_objection, correction_code_text}
 use Rattle.fields.specs.Number.{is_empty}
 use Rattle.layout.specs.declared.part.Part.{Part}
-use Rattle.layout.specs.declared.part.PartRead.{PartRead}
-use Rattle.layout.specs.declared.report.ReportRead.{ReportRead}
 use Rattle.layout.specs.declared.correction.Correction.{Correction}
-use Rattle.layout.specs.declared.correction.CorrectionRead.{CorrectionRead}
-use Rattle.layout.specs.declared.correction.CorrectionRead.TheVariants.{Fault}
 use Rattle.layout.specs.Part.{part_of, part_of_words, part_fits, part_text}
 use Rattle.layout.specs.Report.{whole_of}
 
 -- ---- what is found goes on to what makes the correction of it; a fault is the correction's
 
-abbrev pub on_head : CorrectionCodeRead → (CorrectionCode → CorrectionRead) → CorrectionRead
-on_head (CorrectionCodeRead.CorrectionCode c) k = k c
-on_head CorrectionCodeRead.Fault k = Fault
+abbrev pub on_head : Option CorrectionCode → (CorrectionCode → Option Correction) → Option Correction
+on_head (Some c) k = k c
+on_head None k = None
 
-abbrev pub on_part : PartRead → (Part → CorrectionRead) → CorrectionRead
-on_part (PartRead.Part p) k = k p
-on_part PartRead.Fault k = Fault
+abbrev pub on_part : Option Part → (Part → Option Correction) → Option Correction
+on_part (Some p) k = k p
+on_part None k = None
 
 -- before the first colon: the code, and 'U' (85)
-unfoldable pub head_of : List ℕ → CorrectionCodeRead
-head_of f = cond (eqb (length f) 5 && eqb (get_or f 4 0) 85) (correction_code_of (take 4 f)) CorrectionCodeRead.Fault
+unfoldable pub head_of : List ℕ → Option CorrectionCode
+head_of f = cond (eqb (length f) 5 && eqb (get_or f 4 0) 85) (correction_code_of (take 4 f)) None
 
 -- between the colons: a part, a comma (44), and 'K' (75)
-unfoldable pub reported_of : List ℕ → PartRead
+unfoldable pub reported_of : List ℕ → Option Part
 reported_of f =
-    cond (leb 2 (length f) && (eqb (get_or f (length f - 2) 0) 44 && eqb (get_or f (length f - 2 + 1) 0) 75)) (part_of (take (length f - 2) f)) PartRead.Fault
+    cond (leb 2 (length f) && (eqb (get_or f (length f - 2) 0) 44 && eqb (get_or f (length f - 2 + 1) 0) 75)) (part_of (take (length f - 2) f)) None
 
-abbrev pub is_report : ReportRead → Bool
-is_report (ReportRead.Report r) = true
-is_report ReportRead.Fault = false
+abbrev pub is_report : Option Report → Bool
+is_report (Some r) = true
+is_report None = false
 
 -- with code 25XX the U part is a whole report; with any other at least one part has a number
 unfoldable pub is_sound : CorrectionCode → Part → Part → Bool
 is_sound code u k = cond (is_objection code) (is_report (whole_of u)) (not (is_empty u.number.first) || not (is_empty k.number.first))
 
-unfoldable pub sound_of : CorrectionCode → Part → Part → CorrectionRead
-sound_of code u k = cond (is_sound code u k) (CorrectionRead.Correction (record { code = code; u = u; k = k })) Fault
+unfoldable pub sound_of : CorrectionCode → Part → Part → Option Correction
+sound_of code u k = cond (is_sound code u k) (Some (record { code = code; u = u; k = k })) None
 
-unfoldable pub three_of : List ℕ → List ℕ → List ℕ → CorrectionRead
+unfoldable pub three_of : List ℕ → List ℕ → List ℕ → Option Correction
 three_of a b c =
     on_head (head_of a)
     λ code. on_part (reported_of b)
@@ -53,8 +50,8 @@ three_of a b c =
     λ k. sound_of code u k
 
 -- two colons (58)
-unfoldable pub correction_of : List ℕ → CorrectionRead
-correction_of s = cond (eqb (length (split 58 s)) 3) (three_of (piece_of 58 s 0) (piece_of 58 s 1) (piece_of 58 s 2)) Fault
+unfoldable pub correction_of : List ℕ → Option Correction
+correction_of s = cond (eqb (length (split 58 s)) 3) (three_of (piece_of 58 s 0) (piece_of 58 s 1) (piece_of 58 s 2)) None
 
 -- each field holds its value, and the code's rule is kept
 unfoldable pub correction_fits : Correction → Bool
@@ -69,11 +66,11 @@ unfoldable pub named_number : Correction → Number
 named_number c = cond (is_empty c.u.number.first) c.k.number c.u.number
 
 -- from 13 plain words: the code, and six for each part
-unfoldable pub correction_of_words : List ℕ → CorrectionRead
+unfoldable pub correction_of_words : List ℕ → Option Correction
 correction_of_words w =
     cond (eqb (length w) 13)
     (on_head (correction_code_of_word (get_or w 0 0))
     λ code. on_part (part_of_words (between w 1 7))
     λ u. on_part (part_of_words (between w 7 13))
     λ k. sound_of code u k)
-    Fault
+    None

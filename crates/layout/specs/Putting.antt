@@ -1,6 +1,7 @@
 -- Fields with the comma (44) behind each, and what stands around the parts of a correction. Assumes nothing: these are definitions.
+use Rattle.fields.specs.declared.code.Code.{Code}
+use Rattle.std.specs.Prelude.{Option}
 use Rattle.std.specs.Prelude.{ℕ, List, [], ◌∷◌, ◌++◌}
-use Rattle.fields.specs.declared.code.MaybeCode.{MaybeCode}
 use Rattle.fields.specs.declared.correction_code.CorrectionCode.{CorrectionCode}
 use Rattle.fields.specs.declared.number.Number.{Number}
 use Rattle.fields.specs.Code.{maybe_code_text}
@@ -13,7 +14,7 @@ followed field = field ++ (44 ∷ [])
 abbrev pub number_followed : Number → List ℕ
 number_followed n = followed (digits_text n.first) ++ followed (digits_text n.last)
 
-abbrev pub networks_followed : MaybeCode → MaybeCode → List ℕ
+abbrev pub networks_followed : Option Code → Option Code → List ℕ
 networks_followed gaining losing = followed (maybe_code_text gaining) ++ followed (maybe_code_text losing)
 
 -- the code and "U:"; ",K:"

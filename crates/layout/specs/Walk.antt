@@ -1,12 +1,12 @@
 -- The fields of a line read one after the other: the value of the field that starts at a place, and the place behind the comma (44) that ends it.
 -- Assumes nothing: these are definitions.
+use Rattle.fields.specs.declared.number.Number.{Number}
+use Rattle.calendar.specs.declared.dates.CalendarDays.{CalendarDays}
+use Rattle.fields.specs.declared.code.Code.{Code}
+use Rattle.std.specs.Prelude.{Option, Some, None}
 use Rattle.std.specs.Prelude.{ℕ, ◌+◌, cond, List, leb, ltb, length}
 use Rattle.laws.specs.Split.{between, end_of}
-use Rattle.fields.specs.declared.code.MaybeCodeRead.{MaybeCodeRead}
-use Rattle.fields.specs.declared.date.MaybeDateRead.{MaybeDateRead}
 use Rattle.fields.specs.declared.number.Digits.{Digits}
-use Rattle.fields.specs.declared.number.DigitsRead.{DigitsRead}
-use Rattle.fields.specs.declared.number.NumberRead.{NumberRead}
 use Rattle.fields.specs.Code.{maybe_code_of}
 use Rattle.fields.specs.Date.{maybe_date_of}
 use Rattle.fields.specs.Number.{digits_field_of, number_of}
@@ -24,33 +24,33 @@ field_at s at = between s at (end_of 44 s at)
 unfoldable pub reach_of : List ℕ → ℕ → ℕ
 reach_of s at = cond (leb (length s) (at + 12)) (length s) (at + 12)
 
-abbrev pub digits_then : DigitsRead → ℕ → DigitsAt
-digits_then (DigitsRead.Digits d) next = DigitsAt.Digits d next
-digits_then DigitsRead.Fault next = DigitsAt.Fault
+abbrev pub digits_then : Option Digits → ℕ → DigitsAt
+digits_then (Some d) next = DigitsAt.Digits d next
+digits_then None next = DigitsAt.Fault
 
 unfoldable pub digits_at : List ℕ → ℕ → DigitsAt
 digits_at s at = cond (ltb (end_of 44 s at) (length s)) (digits_then (digits_field_of (field_at s at)) (end_of 44 s at + 1)) DigitsAt.Fault
 
 -- ---- a number's second field beside the first
-abbrev pub number_then : NumberRead → ℕ → NumberAt
-number_then (NumberRead.Number n) next = NumberAt.Number n next
-number_then NumberRead.Fault next = NumberAt.Fault
+abbrev pub number_then : Option Number → ℕ → NumberAt
+number_then (Some n) next = NumberAt.Number n next
+number_then None next = NumberAt.Fault
 
 unfoldable pub number_at : Digits → List ℕ → ℕ → NumberAt
 number_at first s at = cond (ltb (end_of 44 s at) (length s)) (number_then (number_of first (field_at s at)) (end_of 44 s at + 1)) NumberAt.Fault
 
 -- ---- a date, or an empty field
-abbrev pub date_then : MaybeDateRead → ℕ → DateAt
-date_then (MaybeDateRead.MaybeDate d) next = DateAt.Date d next
-date_then MaybeDateRead.Fault next = DateAt.Fault
+abbrev pub date_then : Option (Option CalendarDays) → ℕ → DateAt
+date_then (Some d) next = DateAt.Date d next
+date_then None next = DateAt.Fault
 
 unfoldable pub date_at : List ℕ → ℕ → DateAt
 date_at s at = cond (ltb (end_of 44 s at) (length s)) (date_then (maybe_date_of (field_at s at)) (end_of 44 s at + 1)) DateAt.Fault
 
 -- ---- a code, or an empty field
-abbrev pub code_then : MaybeCodeRead → ℕ → CodeAt
-code_then (MaybeCodeRead.MaybeCode c) next = CodeAt.Code c next
-code_then MaybeCodeRead.Fault next = CodeAt.Fault
+abbrev pub code_then : Option (Option Code) → ℕ → CodeAt
+code_then (Some c) next = CodeAt.Code c next
+code_then None next = CodeAt.Fault
 
 unfoldable pub code_at : List ℕ → ℕ → CodeAt
 code_at s at = cond (ltb (end_of 44 s at) (length s)) (code_then (maybe_code_of (field_at s at)) (end_of 44 s at + 1)) CodeAt.Fault

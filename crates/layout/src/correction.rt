@@ -4,10 +4,10 @@ ghost use Rattle.laws.specs.Overlay.{Laid};
 ghost use Rattle.layout.specs.Report.{whole_of};
 ghost use Rattle.layout.specs.Correction.{head_of, reported_of, is_sound, sound_of, correction_of, correction_of_words, named_number, correction_fits, correction_text};
 
-use crate::part::{Part, PartRead};
+use crate::part::Part;
 use crate::putting;
-use crate::report::{Report, ReportRead};
-use fields::correction_code::{CorrectionCode, CorrectionCodeRead};
+use crate::report::Report;
+use fields::correction_code::CorrectionCode;
 use fields::number::Number;
 
 #[derive(Clone, Copy)]
@@ -17,38 +17,32 @@ pub struct Correction {
     pub k: Part,
 }
 
-#[derive(Drop)]
-pub enum CorrectionRead {
-    Correction(Correction),
-    Fault,
-}
-
 // What stands before the first colon: the code, and U.
-fn read_head(f: &[u8]) -> CorrectionCodeRead
+fn read_head(f: &[u8]) -> Option<CorrectionCode>
     ensures { result ≡ head_of f.now }
 {
     if f.len() != 5 {
-        return CorrectionCodeRead::Fault;
+        return None;
     }
     if f[4] != 85 {
-        return CorrectionCodeRead::Fault;
+        return None;
     }
     CorrectionCode::read(&f[0..4])
 }
 
 // What stands between the colons: a part, a comma, and K.
-fn read_reported(f: &[u8]) -> PartRead
+fn read_reported(f: &[u8]) -> Option<Part>
     ensures { result ≡ reported_of f.now }
 {
     if f.len() < 2 {
-        return PartRead::Fault;
+        return None;
     }
     let n = f.len() - 2;
     if f[n] != 44 {
-        return PartRead::Fault;
+        return None;
     }
     if f[n + 1] != 75 {
-        return PartRead::Fault;
+        return None;
     }
     Part::read(&f[0..n])
 }
@@ -58,7 +52,7 @@ fn is_sound(code: CorrectionCode, u: Part, k: Part) -> bool
     ensures { result ≡ is_sound code u k }
 {
     if code.is_objection() {
-        let ReportRead::Report(_) = Report::of_part(u) else {
+        let Some(_) = Report::of_part(u) else {
             return false;
         };
         return true;
@@ -73,56 +67,56 @@ fn is_sound(code: CorrectionCode, u: Part, k: Part) -> bool
     !first.is_empty()
 }
 
-fn sound(code: CorrectionCode, u: Part, k: Part) -> CorrectionRead
+fn sound(code: CorrectionCode, u: Part, k: Part) -> Option<Correction>
     ensures { result ≡ sound_of code u k }
 {
     if !is_sound(code, u, k) {
-        return CorrectionRead::Fault;
+        return None;
     }
-    CorrectionRead::Correction(Correction { code, u, k })
+    Some(Correction { code, u, k })
 }
 
 impl Correction {
-    pub fn read(s: &[u8]) -> CorrectionRead
+    pub fn read(s: &[u8]) -> Option<Correction>
         ensures { result ≡ correction_of s.now }
     {
         let a = text::field_end(s, 0, 58);
         if s.len() <= a {
-            return CorrectionRead::Fault;
+            return None;
         }
-        let CorrectionCodeRead::CorrectionCode(code) = read_head(&s[0..a]) else {
-            return CorrectionRead::Fault;
+        let Some(code) = read_head(&s[0..a]) else {
+            return None;
         };
         let behind = a + 1;
         let b = text::field_end(s, behind, 58);
         if s.len() <= b {
-            return CorrectionRead::Fault;
+            return None;
         }
-        let PartRead::Part(u) = read_reported(&s[behind..b]) else {
-            return CorrectionRead::Fault;
+        let Some(u) = read_reported(&s[behind..b]) else {
+            return None;
         };
         let rest = b + 1;
-        let PartRead::Part(k) = Part::read(&s[rest..]) else {
-            return CorrectionRead::Fault;
+        let Some(k) = Part::read(&s[rest..]) else {
+            return None;
         };
         sound(code, u, k)
     }
 
     // From 13 plain words: the code, and six for each part.
-    pub fn of_words(w: &[u64]) -> CorrectionRead
+    pub fn of_words(w: &[u64]) -> Option<Correction>
         ensures { result ≡ correction_of_words w.now }
     {
         if w.len() != 13 {
-            return CorrectionRead::Fault;
+            return None;
         }
-        let CorrectionCodeRead::CorrectionCode(code) = CorrectionCode::of_word(w[0]) else {
-            return CorrectionRead::Fault;
+        let Some(code) = CorrectionCode::of_word(w[0]) else {
+            return None;
         };
-        let PartRead::Part(u) = Part::of_words(&w[1..7]) else {
-            return CorrectionRead::Fault;
+        let Some(u) = Part::of_words(&w[1..7]) else {
+            return None;
         };
-        let PartRead::Part(k) = Part::of_words(&w[7..13]) else {
-            return CorrectionRead::Fault;
+        let Some(k) = Part::of_words(&w[7..13]) else {
+            return None;
         };
         sound(code, u, k)
     }
@@ -142,7 +136,7 @@ impl Correction {
     }
 
     // The report that it names, where its U part is a whole one.
-    pub fn named_report(self) -> ReportRead
+    pub fn named_report(self) -> Option<Report>
         ensures { result ≡ whole_of self.u }
     {
         let u = self.u;

@@ -6,49 +6,40 @@ ghost use Rattle.layout.specs.Part.{part_of, part_of_words, part_fits, part_text
 
 use crate::putting;
 use crate::walk::{CodeAt, DateAt, DigitsAt, NumberAt};
-use fields::code::{MaybeCode, MaybeCodeRead};
-use fields::date::{MaybeDate, MaybeDateRead};
-use fields::kind::{MaybeKind, MaybeKindRead};
 use fields::number::{Digits, Number};
 
 #[derive(Clone, Copy)]
 pub struct Part {
     pub number: Number,
-    pub date: MaybeDate,
-    pub gaining: MaybeCode,
-    pub losing: MaybeCode,
-    pub kind: MaybeKind,
-}
-
-#[derive(Drop)]
-pub enum PartRead {
-    Part(Part),
-    Fault,
+    pub date: Option<CalendarDays>,
+    pub gaining: Option<Code>,
+    pub losing: Option<Code>,
+    pub kind: Option<Kind>,
 }
 
 impl Part {
-    pub fn read(s: &[u8]) -> PartRead
+    pub fn read(s: &[u8]) -> Option<Part>
         ensures { result ≡ part_of s.now }
     {
         let DigitsAt::Digits(first, a) = crate::walk::digits_at(s, 0) else {
-            return PartRead::Fault;
+            return None;
         };
         let NumberAt::Number(number, b) = crate::walk::number_at(first, s, a) else {
-            return PartRead::Fault;
+            return None;
         };
         let DateAt::Date(date, c) = crate::walk::date_at(s, b) else {
-            return PartRead::Fault;
+            return None;
         };
         let CodeAt::Code(gaining, d) = crate::walk::code_at(s, c) else {
-            return PartRead::Fault;
+            return None;
         };
         let CodeAt::Code(losing, e) = crate::walk::code_at(s, d) else {
-            return PartRead::Fault;
+            return None;
         };
-        let MaybeKindRead::MaybeKind(kind) = crate::walk::kind_at(s, e) else {
-            return PartRead::Fault;
+        let Some(kind) = crate::walk::kind_at(s, e) else {
+            return None;
         };
-        PartRead::Part(Part {
+        Some(Part {
             number,
             date,
             gaining,
@@ -59,32 +50,32 @@ impl Part {
 
     // From six plain words, in the order of the fields: the codes of the number fields, 1 for an empty one; a day's
     // number, 65535 for none; two network codes, 1000 for none; the kind, P 0, L 1, Z 2, 3 for none.
-    pub fn of_words(w: &[u64]) -> PartRead
+    pub fn of_words(w: &[u64]) -> Option<Part>
         ensures { result ≡ part_of_words w.now }
     {
         if w.len() != 6 {
-            return PartRead::Fault;
+            return None;
         }
         let number = Number {
             first: Digits(w[0]),
             last: Digits(w[1]),
         };
         if !number.fits() {
-            return PartRead::Fault;
+            return None;
         }
-        let MaybeDateRead::MaybeDate(date) = MaybeDate::of_word(w[2]) else {
-            return PartRead::Fault;
+        let Some(date) = Option<CalendarDays>::of_word(w[2]) else {
+            return None;
         };
-        let MaybeCodeRead::MaybeCode(gaining) = MaybeCode::of_word(w[3]) else {
-            return PartRead::Fault;
+        let Some(gaining) = Option<Code>::of_word(w[3]) else {
+            return None;
         };
-        let MaybeCodeRead::MaybeCode(losing) = MaybeCode::of_word(w[4]) else {
-            return PartRead::Fault;
+        let Some(losing) = Option<Code>::of_word(w[4]) else {
+            return None;
         };
-        let MaybeKindRead::MaybeKind(kind) = MaybeKind::of_word(w[5]) else {
-            return PartRead::Fault;
+        let Some(kind) = Option<Kind>::of_word(w[5]) else {
+            return None;
         };
-        PartRead::Part(Part {
+        Some(Part {
             number,
             date,
             gaining,

@@ -7,9 +7,7 @@ ghost use Rattle.fields.specs.Date.{maybe_date_fits, maybe_date_text};
 ghost use Rattle.fields.specs.Number.{digits_fits, digits_text, number_fits};
 ghost use Rattle.layout.specs.Putting.{followed, number_followed, networks_followed, head_text, between_parts};
 
-use fields::code::MaybeCode;
 use fields::correction_code::CorrectionCode;
-use fields::date::MaybeDate;
 use fields::number::{Digits, Number};
 
 fn put_digits(d: Digits, out: &mut [u8], at: usize) -> usize
@@ -20,7 +18,7 @@ fn put_digits(d: Digits, out: &mut [u8], at: usize) -> usize
     text::put_byte(out, behind, 44)
 }
 
-fn put_code(code: MaybeCode, out: &mut [u8], at: usize) -> usize
+fn put_code(code: Option<Code>, out: &mut [u8], at: usize) -> usize
     requires { (at + length (followed (maybe_code_text code)) ≤ length out.old) × (maybe_code_fits code ≡ true) }
     ensures { Laid out.old at (followed (maybe_code_text code)) out.new result }
 {
@@ -28,7 +26,7 @@ fn put_code(code: MaybeCode, out: &mut [u8], at: usize) -> usize
     text::put_byte(out, behind, 44)
 }
 
-pub(crate) fn put_date(date: MaybeDate, out: &mut [u8], at: usize) -> usize
+pub(crate) fn put_date(date: Option<CalendarDays>, out: &mut [u8], at: usize) -> usize
     requires { (at + length (followed (maybe_date_text date)) ≤ length out.old) × (maybe_date_fits date ≡ true) }
     ensures { Laid out.old at (followed (maybe_date_text date)) out.new result }
 {
@@ -49,8 +47,8 @@ pub(crate) fn put_number(number: Number, out: &mut [u8], at: usize) -> usize
 
 // Both networks.
 pub(crate) fn put_networks(
-    gaining: MaybeCode,
-    losing: MaybeCode,
+    gaining: Option<Code>,
+    losing: Option<Code>,
     out: &mut [u8],
     at: usize,
 ) -> usize

@@ -3,12 +3,11 @@ ghost use Rattle.std.specs.Prelude.{◌≡◌, true, ◌+◌, ◌≤◌, length}
 ghost use Rattle.laws.specs.Overlay.{Laid};
 ghost use Rattle.layout.specs.Report.{is_named, whole_of, report_part, report_of, report_of_words, report_fits, report_text};
 
-use crate::part::{Part, PartRead};
+use crate::part::Part;
 use calendar::dates::CalendarDays;
-use fields::code::{Code, MaybeCode};
-use fields::date::MaybeDate;
+use fields::code::Code;
 use fields::gaining::Gaining;
-use fields::kind::{Kind, MaybeKind};
+use fields::kind::Kind;
 use fields::number::Number;
 
 #[derive(Clone, Copy)]
@@ -20,19 +19,13 @@ pub struct Report {
     pub kind: Kind,
 }
 
-#[derive(Drop)]
-pub enum ReportRead {
-    Report(Report),
-    Fault,
-}
-
 // Only a Z may leave the gaining network out.
-fn is_named(gaining: MaybeCode, kind: Kind) -> bool
+fn is_named(gaining: Option<Code>, kind: Kind) -> bool
     ensures { result ≡ is_named gaining kind }
 {
     match gaining {
-        MaybeCode::Code(_) => true,
-        MaybeCode::Empty => match kind {
+        Some(_) => true,
+        None => match kind {
             Kind::P => false,
             Kind::L => false,
             Kind::Z => true,
@@ -42,7 +35,7 @@ fn is_named(gaining: MaybeCode, kind: Kind) -> bool
 
 impl Report {
     // The report that a part is, where nothing is missing.
-    pub fn of_part(p: Part) -> ReportRead
+    pub fn of_part(p: Part) -> Option<Report>
         ensures { result ≡ whole_of p }
     {
         let number = p.number;
@@ -52,22 +45,22 @@ impl Report {
         let maybe_losing = p.losing;
         let maybe_kind = p.kind;
         if first.is_empty() {
-            return ReportRead::Fault;
+            return None;
         }
-        let MaybeDate::Date(date) = maybe_date else {
-            return ReportRead::Fault;
+        let Some(date) = maybe_date else {
+            return None;
         };
-        let MaybeCode::Code(losing) = maybe_losing else {
-            return ReportRead::Fault;
+        let Some(losing) = maybe_losing else {
+            return None;
         };
-        let MaybeKind::Kind(kind) = maybe_kind else {
-            return ReportRead::Fault;
+        let Some(kind) = maybe_kind else {
+            return None;
         };
         if !is_named(gaining, kind) {
-            return ReportRead::Fault;
+            return None;
         }
         let gaining = Gaining::of(gaining);
-        ReportRead::Report(Report {
+        Some(Report {
             number,
             date,
             gaining,
@@ -88,28 +81,28 @@ impl Report {
         let field = gaining.field();
         Part {
             number,
-            date: MaybeDate::Date(date),
+            date: Some(date),
             gaining: field,
-            losing: MaybeCode::Code(losing),
-            kind: MaybeKind::Kind(kind),
+            losing: Some(losing),
+            kind: Some(kind),
         }
     }
 
-    pub fn read(s: &[u8]) -> ReportRead
+    pub fn read(s: &[u8]) -> Option<Report>
         ensures { result ≡ report_of s.now }
     {
-        let PartRead::Part(p) = Part::read(s) else {
-            return ReportRead::Fault;
+        let Some(p) = Part::read(s) else {
+            return None;
         };
         Report::of_part(p)
     }
 
     // From six plain words, as a part's, with nothing missing.
-    pub fn of_words(w: &[u64]) -> ReportRead
+    pub fn of_words(w: &[u64]) -> Option<Report>
         ensures { result ≡ report_of_words w.now }
     {
-        let PartRead::Part(six) = Part::of_words(w) else {
-            return ReportRead::Fault;
+        let Some(six) = Part::of_words(w) else {
+            return None;
         };
         Report::of_part(six)
     }

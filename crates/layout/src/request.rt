@@ -3,55 +3,48 @@ ghost use Rattle.std.specs.Prelude.{◌≡◌, true, ◌+◌, ◌≤◌, length}
 ghost use Rattle.laws.specs.Overlay.{Laid};
 ghost use Rattle.layout.specs.Request.{request_of, request_of_words, request_fits, request_text};
 
-use fields::code::{Code, CodeRead};
-use fields::date::{MaybeDate, MaybeDateRead};
+use fields::code::Code;
 
 #[derive(Clone, Copy)]
 pub struct Request {
     pub code: Code,
-    pub from: MaybeDate,
-}
-
-#[derive(Drop)]
-pub enum RequestRead {
-    Request(Request),
-    Fault,
+    pub from: Option<CalendarDays>,
 }
 
 impl Request {
-    pub fn read(s: &[u8]) -> RequestRead
+    pub fn read(s: &[u8]) -> Option<Request>
         ensures { result ≡ request_of s.now }
     {
         if text::cuts(s, 44) != 2 {
-            return RequestRead::Fault;
+            return None;
         }
-        let CodeRead::Code(code) = Code::read(text::piece(s, 44, 0)) else {
-            return RequestRead::Fault;
+        let Some(code) = Code::read(text::piece(s, 44, 0)) else {
+            return None;
         };
-        let MaybeDateRead::MaybeDate(from) = MaybeDate::read(text::piece(s, 44, 1)) else {
-            return RequestRead::Fault;
+        let Some(from) = Option<CalendarDays>::read(text::piece(s, 44, 1)) else {
+            return None;
         };
         let rest = text::piece(s, 44, 2);
         if rest.len() != 0 {
-            return RequestRead::Fault;
+            return None;
         }
-        RequestRead::Request(Request { code, from })
+        Some(Request { code, from })
     }
 
     // From two plain words: the network code, and a day's number, 65535 for none.
-    pub fn of_words(w: &[u64]) -> RequestRead
+    pub fn of_words(w: &[u64]) -> Option<Request>
         ensures { result ≡ request_of_words w.now }
     {
         if w.len() != 2 {
-            return RequestRead::Fault;
+            return None;
         }
-        let CodeRead::Code(code) = Code::of_word(w[0]) else {
-            return RequestRead::Fault;
+        let Some(code) = Code::of_word(w[0]) else {
+            return None;
         };
-        let MaybeDateRead::MaybeDate(from) = MaybeDate::of_word(w[1]) else {
-            return RequestRead::Fault;
+        let Some(from) = Option<CalendarDays>::of_word(w[1]) else {
+            return None;
         };
-        RequestRead::Request(Request { code, from })
+        Some(Request { code, from })
     }
 
     // How many bytes its text has.

@@ -3,10 +3,9 @@ ghost use Rattle.std.specs.Prelude.{◌≡◌, drop};
 ghost use Rattle.fields.specs.Kind.{maybe_kind_of};
 ghost use Rattle.layout.specs.Walk.{reach_of, digits_at, number_at, date_at, code_at};
 
-use fields::code::{Code, CodeRead, MaybeCode};
-use fields::date::{DateRead, MaybeDate};
-use fields::kind::{Kind, KindRead, MaybeKind, MaybeKindRead};
-use fields::number::{Digits, Number, NumberRead};
+use fields::code::Code;
+use fields::kind::Kind;
+use fields::number::{Digits, Number};
 
 // Each field's value, and the place behind its comma; a fault where it has no value or no comma follows.
 #[derive(Drop)]
@@ -23,13 +22,13 @@ pub enum NumberAt {
 
 #[derive(Drop)]
 pub enum DateAt {
-    Date(MaybeDate, usize),
+    Date(Option<CalendarDays>, usize),
     Fault,
 }
 
 #[derive(Drop)]
 pub enum CodeAt {
-    Code(MaybeCode, usize),
+    Code(Option<Code>, usize),
     Fault,
 }
 
@@ -97,7 +96,7 @@ pub(crate) fn number_at(first: Digits, s: &[u8], at: usize) -> NumberAt
     if s.len() <= end {
         return NumberAt::Fault;
     }
-    let NumberRead::Number(n) = Number::read(first, &s[at..end]) else {
+    let Some(n) = Number::read(first, &s[at..end]) else {
         return NumberAt::Fault;
     };
     let next = end + 1;
@@ -113,7 +112,7 @@ pub(crate) fn date_at(s: &[u8], at: usize) -> DateAt
     }
     if s[at] == 44 {
         let next = at + 1;
-        return DateAt::Date(MaybeDate::Empty, next);
+        return DateAt::Date(None, next);
     }
     if s.len() - at <= 8 {
         return DateAt::Fault;
@@ -122,11 +121,11 @@ pub(crate) fn date_at(s: &[u8], at: usize) -> DateAt
     if s[end] != 44 {
         return DateAt::Fault;
     }
-    let DateRead::Date(d) = fields::date::read(&s[at..end]) else {
+    let Some(d) = fields::date::read(&s[at..end]) else {
         return DateAt::Fault;
     };
     let next = end + 1;
-    DateAt::Date(MaybeDate::Date(d), next)
+    DateAt::Date(Some(d), next)
 }
 
 // A code has four bytes, or none.
@@ -138,7 +137,7 @@ pub(crate) fn code_at(s: &[u8], at: usize) -> CodeAt
     }
     if s[at] == 44 {
         let next = at + 1;
-        return CodeAt::Code(MaybeCode::Empty, next);
+        return CodeAt::Code(None, next);
     }
     if s.len() - at <= 4 {
         return CodeAt::Fault;
@@ -147,22 +146,22 @@ pub(crate) fn code_at(s: &[u8], at: usize) -> CodeAt
     if s[end] != 44 {
         return CodeAt::Fault;
     }
-    let CodeRead::Code(c) = Code::read(&s[at..end]) else {
+    let Some(c) = Code::read(&s[at..end]) else {
         return CodeAt::Fault;
     };
     let next = end + 1;
-    CodeAt::Code(MaybeCode::Code(c), next)
+    CodeAt::Code(Some(c), next)
 }
 
 // All that is left is the kind, which no comma follows.
-pub(crate) fn kind_at(s: &[u8], at: usize) -> MaybeKindRead
+pub(crate) fn kind_at(s: &[u8], at: usize) -> Option<Option<Kind>>
     ensures { result ≡ maybe_kind_of (drop at s.now) }
 {
     if s.len() <= at {
-        return MaybeKindRead::MaybeKind(MaybeKind::Empty);
+        return Some(None);
     }
-    let KindRead::Kind(k) = Kind::read(&s[at..]) else {
-        return MaybeKindRead::Fault;
+    let Some(k) = Kind::read(&s[at..]) else {
+        return None;
     };
-    MaybeKindRead::MaybeKind(MaybeKind::Kind(k))
+    Some(Some(k))
 }

@@ -1,8 +1,9 @@
 -- What becomes of a file that is offered by its path. Assumes nothing: these are definitions.
+use Rattle.records.specs.declared.names.name.Name.{Name}
+use Rattle.std.specs.Prelude.{Option, Some, None}
 use Rattle.std.specs.Prelude.{◌≡◌, true, false, List, ℕ, take}
 use Rattle.calendar.specs.declared.dates.CalendarDays.{CalendarDays}
 use Rattle.records.specs.declared.names.kind.FileKind.{FileKind}
-use Rattle.records.specs.declared.names.name.NameRead.{NameRead}
 use Rattle.store.specs.Reads.{Buffers}
 use Rattle.filing.specs.declared.entering.kind.Filable.{Filable}
 use Rattle.commands.specs.Given.{name_in}
@@ -25,9 +26,9 @@ heading_by FileKind.Correction day = heading Filable.Correction day
 heading_by FileKind.Request day = no_heading
 heading_by FileKind.Response day = no_heading
 
-abbrev pub heading_of : NameRead → Heading
-heading_of (NameRead.Name name) = heading_by name.kind name.day
-heading_of NameRead.Fault = no_heading
+abbrev pub heading_of : Option Name → Heading
+heading_of (Some name) = heading_by name.kind name.day
+heading_of None = no_heading
 
 -- what is told is what filing answers to the bytes that were read
 abbrev pub FilesFrom : Buffers → Heading → List ℕ → List ℕ → Told → Buffers → Type 0

@@ -2,7 +2,7 @@
 use commands::LONGEST;
 use desk::place::PATH_MAX;
 use desk::{Host, args, copy_in};
-use fields::code::{Code, CodeRead};
+use fields::code::Code;
 
 #[derive(Drop)]
 pub enum Gathered {
@@ -14,7 +14,7 @@ pub enum Gathered {
 // The publisher's four bytes; one that is no network code is as wrong as any other, and has no tab in it.
 fn publisher(word: &[u8]) -> [u8; 4] {
     let mut code = [b'-'; 4];
-    let CodeRead::Code(_) = Code::read(word) else {
+    let Some(_) = Code::read(word) else {
         return code;
     };
     copy_in(&mut code, 0, word);

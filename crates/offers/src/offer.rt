@@ -11,10 +11,9 @@ use commands::given::Given;
 use commands::{LONGEST, given};
 use desk::{Host, within};
 use disk::{CORRECTIONS, ENTRIES, FILES, REGULAR, TABLE};
-use fields::code::{Code, CodeRead};
+use fields::code::Code;
 use filing::entering::kind::Filable;
 use records::names::kind::FileKind;
-use records::names::name::NameRead;
 
 #[derive(Drop)]
 pub enum Offered {
@@ -65,17 +64,17 @@ fn heading_of(path: &[u8]) -> Heading
 {
     let read = given::name_of(path);
     match read {
-        NameRead::Name(name) => {
+        Some(name) => {
             let kind = name.kind;
             let day = name.day;
             heading_by(kind, day)
         }
-        NameRead::Fault => no_heading(),
+        None => no_heading(),
     }
 }
 
 fn is_code(publisher: &[u8]) -> bool {
-    let CodeRead::Code(_) = Code::read(publisher) else {
+    let Some(_) = Code::read(publisher) else {
         return false;
     };
     true

@@ -1,4 +1,5 @@
 -- What a store in use answers, from asking's promises about a store that the model reaches: all citations of these stand here. Assumes nothing.
+use Rattle.std.specs.Prelude.{Option, Some, None}
 use mathlib.Core.Path.{◌≡◌, refl, sym, ap, ◌∙◌}
 use mathlib.Core.Logic.{◌⊎◌, inl, inr, ⊎_elim}
 use mathlib.Core.Bool.{true}
@@ -10,7 +11,6 @@ use lib.ListN.{take}
 use Rattle.laws.specs.Lists.{table, keep}
 use Rattle.fields.specs.declared.code.Code.{Code}
 use Rattle.fields.specs.declared.number.Number.{Number}
-use Rattle.fields.specs.declared.number.NumberRead.{NumberRead}
 use Rattle.entries.specs.declared.entry.Place.{Place}
 use Rattle.entries.specs.declared.entry.Entry.{Entry}
 use Rattle.verdict.specs.declared.step.Why.{Why}
@@ -56,11 +56,11 @@ module _ {b : Buffers} (u : InUse b) where
 
   -- ---- what is asked of the store is asked of what the buffers hold
   why-is : (x : Number) → why_of b x ≡ why_in (held b).lines (held b).files x
-  why-is x = ap (λ (h : Option Held). why_asked h (NumberRead.Number x)) in-use-reads
+  why-is x = ap (λ (h : Option Held). why_asked h (Some x)) in-use-reads
 
-  entry-is : (x : Number) → entry_asked (reads b) (NumberRead.Number x) ≡ held_as (entry_of rules (held b).lines (held b).entries x)
+  entry-is : (x : Number) → entry_asked (reads b) (Some x) ≡ held_as (entry_of rules (held b).lines (held b).entries x)
   unfolding entry_in
-  entry-is x = ap (λ (h : Option Held). entry_asked h (NumberRead.Number x)) in-use-reads
+  entry-is x = ap (λ (h : Option Held). entry_asked h (Some x)) in-use-reads
 
   entry_found : (x : Number) (e : Entry) → entry_of rules (held b).lines (held b).entries x ≡ some e → entry_shown b x e
   entry_found x e q = entry-is x ∙ ap held_as q
@@ -150,12 +150,12 @@ module _ {b : Buffers} (u : InUse b) where
         go (some d) q e = absurd (omega (arith, sym (record-said d q).answers ∙ e))
 
   -- ---- as it stood before a file arrived
-  pub before-said : {c : Buffers} → InUse c → (n : ℕ) → (held c).lines ≡ (held b).lines → (held c).files ≡ take n (held b).files → (x : NumberRead) → before_asked (reads b) n x ≡ entry_asked (reads c) x
+  pub before-said : {c : Buffers} → InUse c → (n : ℕ) → (held c).lines ≡ (held b).lines → (held c).files ≡ take n (held b).files → (x : Option Number) → before_asked (reads b) n x ≡ entry_asked (reads c) x
   before-said {c} v n lines files x = rw (in-use-reads, reads-some c (in-use-reached v).0) (go x)
     where
-      go : (x : NumberRead) → before_asked (some (held b)) n x ≡ entry_asked (some (held c)) x
-      go NumberRead.Fault = refl
-      go (NumberRead.Number x) = unfold entry_before entry_in in
+      go : (x : Option Number) → before_asked (some (held b)) n x ≡ entry_asked (some (held c)) x
+      go None = refl
+      go (Some x) = unfold entry_before entry_in in
           ap held_as ((λ i. map (entry_over rules (sym files i)) (line_of rules (sym lines i) x)) ∙ sym (entry-worked-afresh (in-use-reached v).1 x))
 
   -- ---- the figure
@@ -172,5 +172,5 @@ module _ {b : Buffers} (u : InUse b) where
 
 -- ---- what one number depends on
 pub depends : {b c : Buffers} → InUse b → InUse c → (x : Number) → line_of rules (held b).lines x ≡ line_of rules (held c).lines x
-    → Perm (keep (about rules x) (journal (held b).files)) (keep (about rules x) (journal (held c).files)) → entry_asked (reads b) (NumberRead.Number x) ≡ entry_asked (reads c) (NumberRead.Number x)
+    → Perm (keep (about rules x) (journal (held b).files)) (keep (about rules x) (journal (held c).files)) → entry_asked (reads b) (Some x) ≡ entry_asked (reads c) (Some x)
 depends u v x lines records = entry-is u x ∙ ap held_as (what-one-number-depends-on (in-use-reached u).1 (in-use-reached v).1 x lines records) ∙ sym (entry-is v x)

@@ -30,6 +30,7 @@
 --     reworked-as-worked-out             what answer 0 of reworking leaves: the same lines and files, and the entries that the first n files lead to
 --     rework-lists-once                  reworking lists each line whose entry reads otherwise than before, once
 -- Assumes nothing.
+use Rattle.std.specs.Prelude.{Option, Some}
 use mathlib.Core.Path.{◌≡◌, ◌∙◌}
 use mathlib.Core.Logic.{◌⊎◌, ⊎_elim}
 use mathlib.Core.Bool.{true, false}
@@ -40,11 +41,8 @@ use lib.ListN.{length, get_or, take}
 use Rattle.laws.specs.Lists.{table, keep, first_line}
 use Rattle.laws.specs.Slots.{slot_at}
 use Rattle.fields.specs.declared.number.Number.{Number}
-use Rattle.fields.specs.declared.number.NumberRead.{NumberRead}
 use Rattle.layout.specs.declared.report.Report.{Report}
-use Rattle.layout.specs.declared.report.ReportRead.{ReportRead}
 use Rattle.layout.specs.declared.correction.Correction.{Correction}
-use Rattle.layout.specs.declared.correction.CorrectionRead.{CorrectionRead}
 use Rattle.layout.specs.Report.{report_of_words}
 use Rattle.layout.specs.Correction.{correction_of_words}
 use Rattle.records.specs.declared.names.kind.FileKind.{FileKind}
@@ -159,11 +157,11 @@ written-reads-back-c kind words s = reads-back (kind_by kind) words (wrote-c s)
 
 -- record by record: the report that was given at a place is the one that is read there, and a correction likewise
 pub written-report-reads-back : (words : List ℕ) {before after : List ℕ} {n : ℕ} (k : ℕ) → Wrote (file_answer FileKind.Default words (length before)) (file_of FileKind.Default words) before after (Written.Length n)
-    → k < length (values_in FileKind.Default words) → (x : Report) → report_of_words (get_or (values_in FileKind.Default words) k []) ≡ ReportRead.Report x → report_at (take n after) k ≡ ReportAt.Report x
+    → k < length (values_in FileKind.Default words) → (x : Report) → report_of_words (get_or (values_in FileKind.Default words) k []) ≡ Some x → report_at (take n after) k ≡ ReportAt.Report x
 written-report-reads-back words k s = report-back words k s
 
 pub written-correction-reads-back : (words : List ℕ) {before after : List ℕ} {n : ℕ} (k : ℕ) → Wrote (file_answer FileKind.Correction words (length before)) (file_of FileKind.Correction words) before after (Written.Length n)
-    → k < length (values_in FileKind.Correction words) → (x : Correction) → correction_of_words (get_or (values_in FileKind.Correction words) k []) ≡ CorrectionRead.Correction x → correction_at (take n after) k ≡ CorrectionAt.Correction x
+    → k < length (values_in FileKind.Correction words) → (x : Correction) → correction_of_words (get_or (values_in FileKind.Correction words) k []) ≡ Some x → correction_at (take n after) k ≡ CorrectionAt.Correction x
 written-correction-reads-back words k s = correction-back words k s
 
 -- and a file that reads is exactly its records, each with its CR, and the closing record where its kind has one
@@ -214,12 +212,12 @@ beyond-exactly u = beyond-said-exactly u
 -- have the same line for a number, and in both journals together the same records that name it, in whatever order, show the same entry
 pub depends-on-line-and-records : {b c : Buffers} → InUse b → InUse c → (x : Number) → line_of rules (held b).lines x ≡ line_of rules (held c).lines x
     → Perm (keep (about rules x) (journal (held b).files)) (keep (about rules x) (journal (held c).files))
-    → entry_asked (reads b) (NumberRead.Number x) ≡ entry_asked (reads c) (NumberRead.Number x)
+    → entry_asked (reads b) (Some x) ≡ entry_asked (reads c) (Some x)
 depends-on-line-and-records = depends
 
 -- what a store shows as it stood before the file at n arrived is what a store in use with the same lines and the first n files shows
 pub table-before-a-late-file : {b c : Buffers} → InUse b → InUse c → (n : ℕ) → (held c).lines ≡ (held b).lines → (held c).files ≡ take n (held b).files
-    → (x : NumberRead) → before_asked (reads b) n x ≡ entry_asked (reads c) x
+    → (x : Option Number) → before_asked (reads b) n x ≡ entry_asked (reads c) x
 table-before-a-late-file u v = before-said u v
 
 -- and for each n there was such a store, where starting and filing led to this one

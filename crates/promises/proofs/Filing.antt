@@ -1,4 +1,5 @@
 -- What answer 0 of filing leaves, from its contract alone. Assumes nothing.
+use Rattle.std.specs.Prelude.{Option, Some, None}
 use mathlib.Core.Path.{◌≡◌, refl, sym, ap, subst, ◌∙◌}
 use mathlib.Core.Bool.{Bool, true, false, cond, not, ◌||◌, false≢true}
 use mathlib.Core.List.{List, [], ◌∷◌, ◌++◌, map}
@@ -16,7 +17,6 @@ use Rattle.calendar.specs.Dates.{in_calendar}
 use Rattle.fields.specs.Code.{code_of}
 use Rattle.fields.specs.Number.{same_number}
 use Rattle.fields.specs.declared.code.Code.{Code}
-use Rattle.fields.specs.declared.code.CodeRead.{CodeRead}
 use Rattle.fields.specs.declared.number.Number.{Number}
 use Rattle.files.specs.Judged.{judged_file, records_of as texts_of}
 use Rattle.files.specs.declared.judge.Judged.{Judged}
@@ -68,12 +68,12 @@ module _ (files : List Filed) (kind : Filable) (day : ℕ) (text : List ℕ) (f 
   day-accepts g j true q = new-accepts g j (any (alike g) files) q
   day-accepts g j false q = never Answer.NoDay f q
 
-  code-accepts : (r : CodeRead) → published_to files kind r day text ≡ Accept f → (c : Code) × (r ≡ CodeRead.Code c) × (f ≡ filed_as kind c.0 day text)
-  code-accepts CodeRead.Fault q = never Answer.NoCode f q
-  code-accepts (CodeRead.Code c) q = (c, refl, sym (day-accepts (filed_as kind c.0 day text) (judged_file (file_kind kind) text) (in_calendar day) q))
+  code-accepts : (r : Option Code) → published_to files kind r day text ≡ Accept f → (c : Code) × (r ≡ Some c) × (f ≡ filed_as kind c.0 day text)
+  code-accepts None q = never Answer.NoCode f q
+  code-accepts (Some c) q = (c, refl, sym (day-accepts (filed_as kind c.0 day text) (judged_file (file_kind kind) text) (in_calendar day) q))
 
 offered-by : (b : Buffers) (kind : Filable) (publisher : List ℕ) (day : ℕ) (text : List ℕ) (f : Filed) → is_readable b ≡ true → decide b kind publisher day text ≡ Accept f
-    → (c : Code) × (code_of publisher ≡ CodeRead.Code c) × (f ≡ filed_as kind c.0 day text)
+    → (c : Code) × (code_of publisher ≡ Some c) × (f ≡ filed_as kind c.0 day text)
 unfolding decide
 offered-by b kind publisher day text f whole q = code-accepts (held b).files kind day text f (code_of publisher) (rw whole at q)
 
@@ -107,14 +107,14 @@ by-table : (b : Buffers) (kind : Filable) (publisher : List ℕ) (day : ℕ) (te
 unfolding decide
 by-table b kind publisher day text = go (is_readable b) (code_of publisher)
   where
-    f : CodeRead → Filed
+    f : Option Code → Filed
     f r = offered_as kind r day text
 
-    go : (t : Bool) (r : CodeRead) → number_to (cond t (published_to (held b).files kind r day text) (Refuse Answer.Unreadable))
+    go : (t : Bool) (r : Option Code) → number_to (cond t (published_to (held b).files kind r day text) (Refuse Answer.Unreadable))
         ≡ first_line ((not t, 44) ∷ (is_no_code r, 1) ∷ (not (in_calendar day), 2) ∷ (any (alike (f r)) (held b).files, 3) ∷ (is_fault (judged_file (file_kind kind) text), 4) ∷ (not (within_limits ((held b).files ++ (f r ∷ []))), 5) ∷ []) 0
     go false r = refl
-    go true CodeRead.Fault = refl
-    go true (CodeRead.Code c) = day-line (held b).files kind day text (filed_as kind c.0 day text) (judged_file (file_kind kind) text) (in_calendar day)
+    go true None = refl
+    go true (Some c) = day-line (held b).files kind day text (filed_as kind c.0 day text) (judged_file (file_kind kind) text) (in_calendar day)
 
 number-answered : (files : List Filed) (d : Decision) → filed_number (answer_to files d) ≡ number_to d
 number-answered files (Refuse a) = refl

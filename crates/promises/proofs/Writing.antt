@@ -1,4 +1,5 @@
 -- What was written reads back, from the writer's contract. Assumes nothing.
+use Rattle.std.specs.Prelude.{Some}
 use mathlib.Core.Path.{◌≡◌, refl, sym, ap, ◌∙◌}
 use mathlib.Core.Bool.{Bool, true, false, cond}
 use mathlib.Core.List.{List, [], map}
@@ -10,9 +11,7 @@ use lib.Dec.{leb}
 use lib.ListN.{length, get_or, take, length-map}
 use Rattle.laws.proofs.Overlay.{laid-front}
 use Rattle.layout.specs.declared.report.Report.{Report}
-use Rattle.layout.specs.declared.report.ReportRead.{ReportRead}
 use Rattle.layout.specs.declared.correction.Correction.{Correction}
-use Rattle.layout.specs.declared.correction.CorrectionRead.{CorrectionRead}
 use Rattle.layout.specs.Report.{report_of_words}
 use Rattle.layout.specs.Correction.{correction_of_words}
 use Rattle.records.specs.declared.names.kind.FileKind.{FileKind}
@@ -64,14 +63,14 @@ module _ (kind : FileKind) (words : List ℕ) {before after : List ℕ} {n : ℕ
 -- ---- value by value
 module _ (words : List ℕ) {before after : List ℕ} {n : ℕ} (k : ℕ) where
   pub report-back : Wrote (file_answer FileKind.Default words (length before)) (file_of FileKind.Default words) before after (Written.Length n) → k < length (values_in FileKind.Default words)
-      → (x : Report) → report_of_words (get_or (values_in FileKind.Default words) k []) ≡ ReportRead.Report x → report_at (take n after) k ≡ ReportAt.Report x
+      → (x : Report) → report_of_words (get_or (values_in FileKind.Default words) k []) ≡ Some x → report_at (take n after) k ≡ ReportAt.Report x
   report-back s h x e =
       ap (λ (file : List ℕ). report_at file k) (front FileKind.Default words s)
       ∙ report-kept words (found FileKind.Default words s).0 k (found FileKind.Default words s).1 (inside FileKind.Default words s k h)
       ∙ ap (report_found Found.Record) e
 
   pub correction-back : Wrote (file_answer FileKind.Correction words (length before)) (file_of FileKind.Correction words) before after (Written.Length n) → k < length (values_in FileKind.Correction words)
-      → (x : Correction) → correction_of_words (get_or (values_in FileKind.Correction words) k []) ≡ CorrectionRead.Correction x → correction_at (take n after) k ≡ CorrectionAt.Correction x
+      → (x : Correction) → correction_of_words (get_or (values_in FileKind.Correction words) k []) ≡ Some x → correction_at (take n after) k ≡ CorrectionAt.Correction x
   correction-back s h x e =
       ap (λ (file : List ℕ). correction_at file k) (front FileKind.Correction words s)
       ∙ correction-kept words (found FileKind.Correction words s).0 k (found FileKind.Correction words s).1 (inside FileKind.Correction words s k h)

@@ -1,11 +1,10 @@
 -- What a store in use answers when it is asked why, and for a record: paper 01, "Verdicts on reports", the last paragraph. Assumes nothing: these are
 -- definitions. `Latest` (the last record of a history that got 11) and `Root` (a report of an entry is a record of the history) are asking's.
+use Rattle.std.specs.Prelude.{Some, None}
 use Rattle.std.specs.Prelude.{◌≡◌, true, List, ℕ}
 use Rattle.fields.specs.declared.number.Number.{Number}
-use Rattle.fields.specs.declared.number.NumberRead.{NumberRead}
 use Rattle.entries.specs.declared.entry.Place.{Place}
 use Rattle.entries.specs.declared.entry.Entry.{Entry}
-use Rattle.entries.specs.declared.entry.Last.TheVariants.{Never, On}
 use Rattle.entries.specs.Entry.{first_entry}
 use Rattle.verdict.specs.declared.step.Why.{Why}
 use Rattle.verdict.specs.Sound.{Pairing}
@@ -35,10 +34,10 @@ NoneConfirmed b line = none_confirms (line_by line) (first_entry (line_by line))
 
 -- what is asked
 abbrev pub why_of : Buffers → Number → WhyAnswer
-why_of b x = why_asked (reads b) (NumberRead.Number x)
+why_of b x = why_asked (reads b) (Some x)
 
 abbrev pub entry_shown : Buffers → Number → Entry → Type 0
-entry_shown b x entry = entry_asked (reads b) (NumberRead.Number x) ≡ record { answer = Answer.Shown; entry = entry }
+entry_shown b x entry = entry_asked (reads b) (Some x) ≡ record { answer = Answer.Shown; entry = entry }
 
 -- ---- why: none
 pub record SaysNone (b : Buffers) (x : Number) (line : TableLine Number) : Type 0 where
@@ -48,7 +47,7 @@ pub record SaysNone (b : Buffers) (x : Number) (line : TableLine Number) : Type 
   pub entry : Entry
   pub stored : entry_shown b x entry
   pub holder : entry.holder ≡ (line_by line).owner
-  pub last : entry.last ≡ Never
+  pub last : entry.last ≡ None
 
 -- ---- why: the pair
 pub record ShowsPair (b : Buffers) (x : Number) (line : TableLine Number) : Type 0 where
@@ -74,7 +73,7 @@ pub record ShowsPair (b : Buffers) (x : Number) (line : TableLine Number) : Type
   pub entry : Entry
   pub stored : entry_shown b x entry
   pub holder : entry.holder ≡ second.report.gaining
-  pub last : entry.last ≡ On second.report.date
+  pub last : entry.last ≡ Some second.report.date
 
 -- ---- a record by journal and place: 0 with publisher, publication day, place in its file and bytes; and its verdict at its own point of the history
 -- of its number, on the entry that the records processed before it lead to (12 where the number has no line)

@@ -1,4 +1,5 @@
 -- What starting and filing answer, and what answer 0 of filing leaves in the buffers: paper 01, "What filing answers". Assumes nothing: these are definitions.
+use Rattle.std.specs.Prelude.{Option, Some, None}
 use Rattle.std.specs.Prelude.{◌≡◌, Bool, true, false, not, List, [], ◌∷◌, ◌++◌, ℕ, ◌<◌}
 use Rattle.std.proofs.Math.Option.{Option, none, some}
 use Rattle.laws.specs.Lists.{any}
@@ -7,7 +8,6 @@ use Rattle.calendar.specs.Dates.{in_calendar}
 use Rattle.fields.specs.Code.{code_of}
 use Rattle.fields.specs.Number.{same_number}
 use Rattle.fields.specs.declared.code.Code.{Code}
-use Rattle.fields.specs.declared.code.CodeRead.{CodeRead}
 use Rattle.fields.specs.declared.number.Number.{Number}
 use Rattle.files.specs.declared.judge.Judged.{Judged}
 use Rattle.files.specs.Judged.{judged_file, records_of as texts_of}
@@ -27,9 +27,9 @@ use Rattle.filing.specs.checking.Filing.{within_limits}
 
 -- ---- the answers
 -- no network code; no table; a file with a fault
-abbrev pub is_no_code : CodeRead → Bool
-is_no_code (CodeRead.Code c) = false
-is_no_code CodeRead.Fault = true
+abbrev pub is_no_code : Option Code → Bool
+is_no_code (Some c) = false
+is_no_code None = true
 
 abbrev pub is_no_table : Option (List Line) → Bool
 is_no_table (some lines) = false
@@ -40,9 +40,9 @@ is_fault (Judged.Records n) = false
 is_fault (Judged.Fault place cause) = true
 
 -- the file as it is offered; its publisher counts only once it is a network code
-abbrev pub offered_as : Filable → CodeRead → ℕ → List ℕ → Filed
-offered_as kind (CodeRead.Code c) day text = filed_as kind c.0 day text
-offered_as kind CodeRead.Fault day text = filed_as kind 0 day text
+abbrev pub offered_as : Filable → Option Code → ℕ → List ℕ → Filed
+offered_as kind (Some c) day text = filed_as kind c.0 day text
+offered_as kind None day text = filed_as kind 0 day text
 
 -- the paper's table, line by line: the number of the first line that applies, else 0
 abbrev pub filing_table : Buffers → Filable → List ℕ → ℕ → List ℕ → List (Bool × ℕ)
@@ -66,7 +66,7 @@ named_in kind text number = any (λ (r : List ℕ). same_number (number_in (kind
 pub record JoinedAndRenewed (b : Buffers) (kind : Filable) (publisher : List ℕ) (day : ℕ) (text : List ℕ) (count : ℕ) (after : Buffers) : Type 0 where
   -- the file that was offered: its publisher is a network code, its publication day in the calendar
   pub code : Code
-  pub published : code_of publisher ≡ CodeRead.Code code
+  pub published : code_of publisher ≡ Some code
   pub dated : in_calendar day ≡ true
   pub filed : Filed
   pub offered : filed ≡ filed_as kind code.0 day text

@@ -1,11 +1,9 @@
 -- What is shown of a table and its entries, and what words of the command line mean. Assumes nothing: these are definitions.
+use Rattle.std.specs.Prelude.{Option, Some, None}
 use Rattle.std.specs.Prelude.{Bool, false, cond, List, ℕ, leb, ltb, eqb, length}
-use Rattle.text.specs.declared.Spelt.{Spelt}
 use Rattle.text.specs.Spelt.{digits_of}
 use Rattle.fields.specs.declared.number.Number.{Number}
-use Rattle.fields.specs.declared.number.NumberRead.{NumberRead}
 use Rattle.entries.specs.declared.entry.Entry.{Entry}
-use Rattle.store.specs.declared.numbers.find.FoundLine.{FoundLine}
 use Rattle.store.specs.numbers.Find.{found_line}
 use Rattle.store.specs.numbers.Lines.{line_count, line_at}
 use Rattle.store.specs.entry_slots.Entries.{entry_at}
@@ -32,13 +30,13 @@ entry_wanted stored n t f r c e i = cond stored (entry_shown e i) (standing_look
 
 -- ---- words
 -- the line of a number; none for what is no number
-abbrev pub line_named : List ℕ → NumberRead → FoundLine
-line_named t (NumberRead.Number x) = found_line t x
-line_named t NumberRead.Fault = FoundLine.Unknown
+abbrev pub line_named : List ℕ → Option Number → Option ℕ
+line_named t (Some x) = found_line t x
+line_named t None = None
 
-abbrev pub value_of : Spelt → ℕ
-value_of (Spelt.Value n) = n
-value_of Spelt.Fault = 0
+abbrev pub value_of : Option ℕ → ℕ
+value_of (Some n) = n
+value_of None = 0
 
 -- the number of a file, counted from 1, of at most nine digits; 0 for a word that is none
 unfoldable pub file_number : List ℕ → ℕ

@@ -9,8 +9,6 @@ use desk::{Host, args, page};
 use disk::{CORRECTIONS, ENTRIES, FILES, REGULAR, TABLE};
 use entries::entry::Entry;
 use page::{Page, ROOM};
-use store::numbers::find::FoundLine;
-use text::Spelt;
 
 // What is asked for: the stored entries, or those that the first files lead to.
 #[derive(Clone, Copy)]
@@ -107,11 +105,11 @@ fn print_word<'a>(
 ) -> Told {
     let p = t.page;
     match named::line_of(lines, shown::number::read(word)) {
-        FoundLine::Unknown => Told {
+        None => Told {
             page: unknown(rt, p, room, word),
             known: false,
         },
-        FoundLine::At(i) => {
+        Some(i) => {
             let e = entry_of(a, lines, files, regular, corrections, entries, i);
             Told {
                 page: line(rt, p, room, lines, i, e),
@@ -300,7 +298,7 @@ fn file_number(word: &[u8]) -> u64
     if 9 < word.len() {
         return 0;
     }
-    let Spelt::Value(n) = text::read_digits(word, false) else {
+    let Some(n) = text::read_digits(word, false) else {
         return 0;
     };
     n

@@ -3,7 +3,7 @@ ghost use Rattle.std.specs.Prelude.{◌≡◌};
 ghost use Rattle.asking.specs.Standing.{no_entry};
 ghost use Rattle.questions.specs.Shown.{lines_shown, number_shown, entry_shown};
 
-use entries::entry::{Entry, Listed};
+use entries::entry::Entry;
 use fields::number::{Digits, Number};
 use store::numbers::lines;
 
@@ -43,7 +43,7 @@ pub fn number_at(table: &[u8], i: usize) -> Number
 fn no_entry() -> Entry
     ensures { result ≡ no_entry }
 {
-    let none = entries::entry::line_in(Listed::Missing);
+    let none = entries::entry::line_in(None);
     entries::entry::first(none)
 }
 

@@ -5,7 +5,6 @@ ghost use Rattle.reasons.specs.Named.{why_named};
 
 use asking::looks::LookedWhy;
 use asking::pairs::Stored;
-use fields::number::NumberRead;
 use store::journals::records::{Journal, REPORTS, record_bytes};
 
 // Why a number stands where it does.
@@ -14,13 +13,13 @@ pub fn why<'a>(
     files: &'a [u8],
     regular: &'a [u8],
     corrections: &'a [u8],
-    number: NumberRead,
+    number: Option<Number>,
 ) -> LookedWhy
     ensures { result ≡ why_named lines.now files.now regular.now corrections.now number }
 {
     match number {
-        NumberRead::Number(x) => asking::why::look(lines, files, regular, corrections, x),
-        NumberRead::Fault => LookedWhy::UnknownNumber,
+        Some(x) => asking::why::look(lines, files, regular, corrections, x),
+        None => LookedWhy::UnknownNumber,
     }
 }
 

@@ -1,5 +1,8 @@
 -- What the files need to know of their records. Assumes nothing.
 --     fits_width, fits-short     words that make a record are as many as its kind takes, and its line is no longer than they are
+use Rattle.layout.specs.declared.report.Report.{Report}
+use Rattle.layout.specs.declared.part.Part.{Part}
+use Rattle.std.specs.Prelude.{Option, Some, None}
 use Prim.Native.Nat.{ℕ, ◌+◌, ◌*◌, ◌≤◌}
 use native.Mathlib.Omega.{arith}
 use mathlib.Core.Path.{◌≡◌, sym, ap, ◌∙◌}
@@ -8,10 +11,6 @@ use mathlib.Core.List.{List}
 use lib.ListN.{length}
 use native.Mathlib.Decide.{ℕ_discrete}
 use Rattle.laws.proofs.Tests.{never}
-use Rattle.layout.specs.declared.part.PartRead.{PartRead}
-use Rattle.layout.specs.declared.report.ReportRead.{ReportRead}
-use Rattle.layout.specs.declared.correction.CorrectionRead.{CorrectionRead}
-use Rattle.layout.specs.declared.request.RequestRead.{RequestRead}
 use Rattle.layout.specs.Report.{report_from, report_of_words, report_part}
 use Rattle.layout.specs.Correction.{correction_of_words, is_report}
 use Rattle.layout.specs.Request.{request_of_words}
@@ -27,7 +26,7 @@ report-width : (w : List ℕ) → is_report (report_of_words w) ≡ true → len
 unfolding report_of_words report_from
 report-width w e = elim (ℕ_discrete (length w) 6) [
   | yes h ↦ h
-  | no h ↦ never (sym (ap (λ (p : PartRead). is_report (report_from p)) (words_count w h)) ∙ e)
+  | no h ↦ never (sym (ap (λ (p : Option Part). is_report (report_from p)) (words_count w h)) ∙ e)
 ]
 
 correction-width : (w : List ℕ) → is_correction (correction_of_words w) ≡ true → length w ≡ 13
@@ -50,17 +49,17 @@ fits_width Request w e = request-width w e
 fits_width Response w e = report-width w e
 
 -- ---- how many bytes
-report-short : (r : ReportRead) → length (report_spelt r) ≤ 46
-report-short (ReportRead.Report x) = part-short (report_part x)
-report-short ReportRead.Fault = omega arith
+report-short : (r : Option Report) → length (report_spelt r) ≤ 46
+report-short (Some x) = part-short (report_part x)
+report-short None = omega arith
 
-correction-short : (r : CorrectionRead) → length (correction_spelt r) ≤ 101
-correction-short (CorrectionRead.Correction x) = omega (arith, correction.length-correction x, part-short x.u, part-short x.k)
-correction-short CorrectionRead.Fault = omega arith
+correction-short : (r : Option Correction) → length (correction_spelt r) ≤ 101
+correction-short (Some x) = omega (arith, correction.length-correction x, part-short x.u, part-short x.k)
+correction-short None = omega arith
 
-request-short : (r : RequestRead) → length (request_spelt r) ≤ 14
-request-short (RequestRead.Request x) = omega (arith, request.length-request x, date-short x.from)
-request-short RequestRead.Fault = omega arith
+request-short : (r : Option Request) → length (request_spelt r) ≤ 14
+request-short (Some x) = omega (arith, request.length-request x, date-short x.from)
+request-short None = omega arith
 
 pub fits-short : (k : FileKind) (w : List ℕ) → fits k w ≡ true → length (text_of k w) + 1 ≤ 8 * length w
 unfolding fits text_of

@@ -2,6 +2,8 @@
 --     record-lacks, record-begins     a record holds no CR, and is never taken for a closing record
 --     fits-record                     what words spell is a record
 --     report-same, correction-same, request-same     and reads as the value of these words
+use Rattle.layout.specs.declared.report.Report.{Report}
+use Rattle.std.specs.Prelude.{Option, Some, None}
 use Prim.Native.Nat.{ℕ}
 use mathlib.Core.Path.{◌≡◌, refl, sym, ap, ◌∙◌}
 use mathlib.Core.Bool.{true, false}
@@ -12,9 +14,6 @@ use Rattle.laws.specs.Digits.{is_digit}
 use Rattle.laws.proofs.Split.{lacks-by}
 use Rattle.fields.specs.Bytes.{field_byte, record_byte}
 use Rattle.laws.proofs.Tests.{never}
-use Rattle.layout.specs.declared.report.ReportRead.{ReportRead}
-use Rattle.layout.specs.declared.correction.CorrectionRead.{CorrectionRead}
-use Rattle.layout.specs.declared.request.RequestRead.{RequestRead}
 use Rattle.layout.specs.Report.{report_of, report_of_words, report_part}
 use Rattle.layout.specs.Correction.{correction_of, correction_of_words, is_report}
 use Rattle.layout.specs.Request.{request_of, request_of_words}
@@ -32,23 +31,23 @@ use Rattle.records.specs.Record.{is_correction, is_request, is_record, report_sp
 report-record : (l : List ℕ) → is_report (report_of l) ≡ true → all record_byte l ≡ true
 report-record l e = go (report_of l) refl e
   where
-    go : (r : ReportRead) → report_of l ≡ r → is_report r ≡ true → all record_byte l ≡ true
-    go (ReportRead.Report x) q e = ap (all record_byte) (sym (report-back l x q).0) ∙ part-record-bytes (report_part x)
-    go ReportRead.Fault q e = never e
+    go : (r : Option Report) → report_of l ≡ r → is_report r ≡ true → all record_byte l ≡ true
+    go (Some x) q e = ap (all record_byte) (sym (report-back l x q).0) ∙ part-record-bytes (report_part x)
+    go None q e = never e
 
 correction-record : (l : List ℕ) → is_correction (correction_of l) ≡ true → all record_byte l ≡ true
 correction-record l e = go (correction_of l) refl e
   where
-    go : (r : CorrectionRead) → correction_of l ≡ r → is_correction r ≡ true → all record_byte l ≡ true
-    go (CorrectionRead.Correction x) q e = ap (all record_byte) (sym (correction-back l x q).0) ∙ correction-bytes x
-    go CorrectionRead.Fault q e = never e
+    go : (r : Option Correction) → correction_of l ≡ r → is_correction r ≡ true → all record_byte l ≡ true
+    go (Some x) q e = ap (all record_byte) (sym (correction-back l x q).0) ∙ correction-bytes x
+    go None q e = never e
 
 request-record : (l : List ℕ) → is_request (request_of l) ≡ true → all record_byte l ≡ true
 request-record l e = go (request_of l) refl e
   where
-    go : (r : RequestRead) → request_of l ≡ r → is_request r ≡ true → all record_byte l ≡ true
-    go (RequestRead.Request x) q e = ap (all record_byte) (sym (request-back l x q).0) ∙ request-bytes x
-    go RequestRead.Fault q e = never e
+    go : (r : Option Request) → request_of l ≡ r → is_request r ≡ true → all record_byte l ≡ true
+    go (Some x) q e = ap (all record_byte) (sym (request-back l x q).0) ∙ request-bytes x
+    go None q e = never e
 
 record-bytes : (k : FileKind) (l : List ℕ) → is_record k l ≡ true → all record_byte l ≡ true
 unfolding is_record
@@ -68,23 +67,23 @@ record-begins k l e = begins-not l (lacks-by record_byte 101 refl l (record-byte
 pub report-same : (w : List ℕ) → is_report (report_of_words w) ≡ true → report_of (report_spelt (report_of_words w)) ≡ report_of_words w
 report-same w e = go (report_of_words w) refl e
   where
-    go : (r : ReportRead) → report_of_words w ≡ r → is_report r ≡ true → report_of (report_spelt r) ≡ r
-    go (ReportRead.Report x) q e = report-trip x (report-words w x q)
-    go ReportRead.Fault q e = never e
+    go : (r : Option Report) → report_of_words w ≡ r → is_report r ≡ true → report_of (report_spelt r) ≡ r
+    go (Some x) q e = report-trip x (report-words w x q)
+    go None q e = never e
 
 pub correction-same : (w : List ℕ) → is_correction (correction_of_words w) ≡ true → correction_of (correction_spelt (correction_of_words w)) ≡ correction_of_words w
 correction-same w e = go (correction_of_words w) refl e
   where
-    go : (r : CorrectionRead) → correction_of_words w ≡ r → is_correction r ≡ true → correction_of (correction_spelt r) ≡ r
-    go (CorrectionRead.Correction x) q e = correction-trip x (correction-words w x q)
-    go CorrectionRead.Fault q e = never e
+    go : (r : Option Correction) → correction_of_words w ≡ r → is_correction r ≡ true → correction_of (correction_spelt r) ≡ r
+    go (Some x) q e = correction-trip x (correction-words w x q)
+    go None q e = never e
 
 pub request-same : (w : List ℕ) → is_request (request_of_words w) ≡ true → request_of (request_spelt (request_of_words w)) ≡ request_of_words w
 request-same w e = go (request_of_words w) refl e
   where
-    go : (r : RequestRead) → request_of_words w ≡ r → is_request r ≡ true → request_of (request_spelt r) ≡ r
-    go (RequestRead.Request x) q e = request-trip x (request-words w x q)
-    go RequestRead.Fault q e = never e
+    go : (r : Option Request) → request_of_words w ≡ r → is_request r ≡ true → request_of (request_spelt r) ≡ r
+    go (Some x) q e = request-trip x (request-words w x q)
+    go None q e = never e
 
 pub fits-record : (k : FileKind) (w : List ℕ) → fits k w ≡ true → is_record k (text_of k w) ≡ true
 unfolding fits is_record text_of

@@ -1,22 +1,21 @@
 -- The records of files of each kind: which lines are records, which words are the values of one, and how it is spelt.
 -- Assumes nothing: these are definitions.
+use Rattle.layout.specs.declared.report.Report.{Report}
+use Rattle.std.specs.Prelude.{Option, Some, None}
 use Rattle.std.specs.Prelude.{ℕ, Bool, true, false, List, []}
-use Rattle.layout.specs.declared.report.ReportRead.{ReportRead}
-use Rattle.layout.specs.declared.correction.CorrectionRead.{CorrectionRead}
-use Rattle.layout.specs.declared.request.RequestRead.{RequestRead}
 use Rattle.layout.specs.Report.{report_of, report_of_words, report_text}
 use Rattle.layout.specs.Correction.{correction_of, correction_of_words, correction_text, is_report}
 use Rattle.layout.specs.Request.{request_of, request_of_words, request_text}
 use Rattle.records.specs.declared.names.kind.FileKind.{FileKind}
 use Rattle.records.specs.declared.names.kind.FileKind.TheVariants.{Default, Correction, Request, Response}
 
-abbrev pub is_correction : CorrectionRead → Bool
-is_correction (CorrectionRead.Correction c) = true
-is_correction CorrectionRead.Fault = false
+abbrev pub is_correction : Option Correction → Bool
+is_correction (Some c) = true
+is_correction None = false
 
-abbrev pub is_request : RequestRead → Bool
-is_request (RequestRead.Request q) = true
-is_request RequestRead.Fault = false
+abbrev pub is_request : Option Request → Bool
+is_request (Some q) = true
+is_request None = false
 
 -- whether a line is a record of a file of this kind
 unfoldable pub is_record : FileKind → List ℕ → Bool
@@ -40,17 +39,17 @@ fits Request w = is_request (request_of_words w)
 fits Response w = is_report (report_of_words w)
 
 -- how the record is spelt; nothing where there is none
-abbrev pub report_spelt : ReportRead → List ℕ
-report_spelt (ReportRead.Report r) = report_text r
-report_spelt ReportRead.Fault = []
+abbrev pub report_spelt : Option Report → List ℕ
+report_spelt (Some r) = report_text r
+report_spelt None = []
 
-abbrev pub correction_spelt : CorrectionRead → List ℕ
-correction_spelt (CorrectionRead.Correction c) = correction_text c
-correction_spelt CorrectionRead.Fault = []
+abbrev pub correction_spelt : Option Correction → List ℕ
+correction_spelt (Some c) = correction_text c
+correction_spelt None = []
 
-abbrev pub request_spelt : RequestRead → List ℕ
-request_spelt (RequestRead.Request q) = request_text q
-request_spelt RequestRead.Fault = []
+abbrev pub request_spelt : Option Request → List ℕ
+request_spelt (Some q) = request_text q
+request_spelt None = []
 
 unfoldable pub text_of : FileKind → List ℕ → List ℕ
 text_of Default w = report_spelt (report_of_words w)

@@ -6,16 +6,16 @@ ghost use Rattle.layout.specs.Request.{request_of};
 ghost use Rattle.records.specs.Record.{is_correction, is_request, is_record};
 
 use crate::names::kind::FileKind;
-use layout::correction::{Correction, CorrectionRead};
-use layout::report::{Report, ReportRead};
-use layout::request::{Request, RequestRead};
+use layout::correction::Correction;
+use layout::report::Report;
+use layout::request::Request;
 
 fn is_report(line: &[u8]) -> bool
     ensures { result ≡ is_report (report_of line.now) }
 {
     match Report::read(line) {
-        ReportRead::Report(_) => true,
-        ReportRead::Fault => false,
+        Some(_) => true,
+        None => false,
     }
 }
 
@@ -23,8 +23,8 @@ fn is_correction(line: &[u8]) -> bool
     ensures { result ≡ is_correction (correction_of line.now) }
 {
     match Correction::read(line) {
-        CorrectionRead::Correction(_) => true,
-        CorrectionRead::Fault => false,
+        Some(_) => true,
+        None => false,
     }
 }
 
@@ -32,8 +32,8 @@ fn is_request(line: &[u8]) -> bool
     ensures { result ≡ is_request (request_of line.now) }
 {
     match Request::read(line) {
-        RequestRead::Request(_) => true,
-        RequestRead::Fault => false,
+        Some(_) => true,
+        None => false,
     }
 }
 

@@ -7,9 +7,9 @@ ghost use Rattle.layout.specs.Request.{request_of_words};
 ghost use Rattle.records.specs.Record.{is_correction, is_request, report_spelt, correction_spelt, request_spelt, width_of, fits, text_of};
 
 use crate::names::kind::FileKind;
-use layout::correction::{Correction, CorrectionRead};
-use layout::report::{Report, ReportRead};
-use layout::request::{Request, RequestRead};
+use layout::correction::Correction;
+use layout::report::Report;
+use layout::request::Request;
 
 // How many words a record of this kind is given by.
 pub fn width(kind: FileKind) -> usize
@@ -27,8 +27,8 @@ fn fits_report(words: &[u64]) -> bool
     ensures { result ≡ is_report (report_of_words words.now) }
 {
     match Report::of_words(words) {
-        ReportRead::Report(_) => true,
-        ReportRead::Fault => false,
+        Some(_) => true,
+        None => false,
     }
 }
 
@@ -36,8 +36,8 @@ fn fits_correction(words: &[u64]) -> bool
     ensures { result ≡ is_correction (correction_of_words words.now) }
 {
     match Correction::of_words(words) {
-        CorrectionRead::Correction(_) => true,
-        CorrectionRead::Fault => false,
+        Some(_) => true,
+        None => false,
     }
 }
 
@@ -45,8 +45,8 @@ fn fits_request(words: &[u64]) -> bool
     ensures { result ≡ is_request (request_of_words words.now) }
 {
     match Request::of_words(words) {
-        RequestRead::Request(_) => true,
-        RequestRead::Fault => false,
+        Some(_) => true,
+        None => false,
     }
 }
 
@@ -66,8 +66,8 @@ fn report_len(words: &[u64]) -> usize
     ensures { result ≡ length (report_spelt (report_of_words words.now)) }
 {
     match Report::of_words(words) {
-        ReportRead::Report(r) => r.len(),
-        ReportRead::Fault => 0,
+        Some(r) => r.len(),
+        None => 0,
     }
 }
 
@@ -75,8 +75,8 @@ fn correction_len(words: &[u64]) -> usize
     ensures { result ≡ length (correction_spelt (correction_of_words words.now)) }
 {
     match Correction::of_words(words) {
-        CorrectionRead::Correction(c) => c.len(),
-        CorrectionRead::Fault => 0,
+        Some(c) => c.len(),
+        None => 0,
     }
 }
 
@@ -84,8 +84,8 @@ fn request_len(words: &[u64]) -> usize
     ensures { result ≡ length (request_spelt (request_of_words words.now)) }
 {
     match Request::of_words(words) {
-        RequestRead::Request(q) => q.len(),
-        RequestRead::Fault => 0,
+        Some(q) => q.len(),
+        None => 0,
     }
 }
 
@@ -106,8 +106,8 @@ fn put_report(words: &[u64], out: &mut [u8], at: usize) -> usize
     ensures { Laid out.old at (report_spelt (report_of_words words.now)) out.new result }
 {
     match Report::of_words(words) {
-        ReportRead::Report(r) => r.write(out, at),
-        ReportRead::Fault => at,
+        Some(r) => r.write(out, at),
+        None => at,
     }
 }
 
@@ -116,8 +116,8 @@ fn put_correction(words: &[u64], out: &mut [u8], at: usize) -> usize
     ensures { Laid out.old at (correction_spelt (correction_of_words words.now)) out.new result }
 {
     match Correction::of_words(words) {
-        CorrectionRead::Correction(c) => c.write(out, at),
-        CorrectionRead::Fault => at,
+        Some(c) => c.write(out, at),
+        None => at,
     }
 }
 
@@ -126,8 +126,8 @@ fn put_request(words: &[u64], out: &mut [u8], at: usize) -> usize
     ensures { Laid out.old at (request_spelt (request_of_words words.now)) out.new result }
 {
     match Request::of_words(words) {
-        RequestRead::Request(q) => q.write(out, at),
-        RequestRead::Fault => at,
+        Some(q) => q.write(out, at),
+        None => at,
     }
 }
 

@@ -1,6 +1,7 @@
 -- The field before the first comma against the number that a record names, for any bytes. Assumes nothing.
 --     first-in     it is empty, or the record names no number, or it is the first field of the number
 --     not_named    so a record with another field there does not name the number
+use Rattle.std.specs.Prelude.{Option, Some, None}
 use mathlib.Core.Path.{◌≡◌, refl, sym, ap, ◌∙◌}
 use mathlib.Core.Logic.{◌⊎◌, inl, inr}
 use mathlib.Core.Bool.{Bool, true, false, cond, ◌&&◌}
@@ -24,9 +25,7 @@ use Rattle.fields.proofs.ByteLaws.{bytes-digits}
 use Rattle.fields.proofs.NumberLaws.{digits-trip, first_fits}
 use Rattle.layout.specs.declared.part.Part.{Part}
 use Rattle.layout.specs.declared.report.Report.{Report}
-use Rattle.layout.specs.declared.report.ReportRead.{ReportRead}
 use Rattle.layout.specs.declared.correction.Correction.{Correction}
-use Rattle.layout.specs.declared.correction.CorrectionRead.{CorrectionRead}
 use Rattle.layout.specs.Part.{part_fits, part_text}
 use Rattle.layout.specs.Report.{report_of, report_part, report_fits, report_text}
 use Rattle.layout.specs.Correction.{correction_of, correction_fits, correction_text, named_number}
@@ -52,7 +51,7 @@ part_field p rest h =
     ∙ ap field_digits (digits-trip p.number.first (first_fits p.number (and_left (number_fits p.number) _ h)))
 
 -- ---- a report
-report-field : (s : List ℕ) (r : Report) → report_of s ≡ ReportRead.Report r → r.number.first.0 ≡ field_digits (digits_field_of (piece_of 44 s 0))
+report-field : (s : List ℕ) (r : Report) → report_of s ≡ Some r → r.number.first.0 ≡ field_digits (digits_field_of (piece_of 44 s 0))
 unfolding report_fits
 report-field s r e =
     let b = report-back s r e in
@@ -68,7 +67,7 @@ behind-head c =
     ap (λ (n : ℕ). drop n (correction_code_text c.code ++ (85 ∷ 58 ∷ rest))) six
     ∙ drop-append-add (correction_code_text c.code) (85 ∷ 58 ∷ rest) 2
 
-correction-field : (s : List ℕ) (c : Correction) → correction_of s ≡ CorrectionRead.Correction c → c.u.number.first.0 ≡ field_digits (digits_field_of (piece_of 44 (drop 6 s) 0))
+correction-field : (s : List ℕ) (c : Correction) → correction_of s ≡ Some c → c.u.number.first.0 ≡ field_digits (digits_field_of (piece_of 44 (drop 6 s) 0))
 unfolding correction_fits
 correction-field s c e =
     let b = correction-back s c e in
@@ -79,18 +78,18 @@ correction-field s c e =
 abbrev Agree : ℕ → ℕ → Type 0
 Agree v named = (v ≡ 1) ⊎ (named ≡ 1) ⊎ (named ≡ v)
 
-in-report : (s : List ℕ) (read : ReportRead) → report_of s ≡ read → Agree (field_digits (digits_field_of (piece_of 44 s 0))) (number_in_report read).first.0
-in-report s (ReportRead.Report r) e = inr (inr (report-field s r e))
-in-report s ReportRead.Fault e = inr (inl refl)
+in-report : (s : List ℕ) (read : Option Report) → report_of s ≡ read → Agree (field_digits (digits_field_of (piece_of 44 s 0))) (number_in_report read).first.0
+in-report s (Some r) e = inr (inr (report-field s r e))
+in-report s None e = inr (inl refl)
 
-in-correction : (s : List ℕ) (read : CorrectionRead) → correction_of s ≡ read → Agree (field_digits (digits_field_of (piece_of 44 (drop 6 s) 0))) (number_in_correction read).first.0
+in-correction : (s : List ℕ) (read : Option Correction) → correction_of s ≡ read → Agree (field_digits (digits_field_of (piece_of 44 (drop 6 s) 0))) (number_in_correction read).first.0
 unfolding named_number
-in-correction s (CorrectionRead.Correction c) e = go (is_empty c.u.number.first) refl
+in-correction s (Some c) e = go (is_empty c.u.number.first) refl
   where
     go : (t : Bool) → is_empty c.u.number.first ≡ t → Agree (field_digits (digits_field_of (piece_of 44 (drop 6 s) 0))) (cond t c.k.number c.u.number).first.0
     go true q = inl (sym (correction-field s c e) ∙ eqb-true c.u.number.first.0 1 q)
     go false q = inr (inr (correction-field s c e))
-in-correction s CorrectionRead.Fault e = inr (inl refl)
+in-correction s None e = inr (inl refl)
 
 pub first-in : (kind : ℕ) (bytes : List ℕ) → (first_in kind bytes ≡ 1) ⊎ ((number_in kind bytes).first.0 ≡ 1) ⊎ ((number_in kind bytes).first.0 ≡ first_in kind bytes)
 unfolding first_in number_in

@@ -3,6 +3,7 @@
 --     run_on               a digit: the run goes on behind it
 --     run-ended            a byte that is no digit ends it
 --     run-last, run_none   behind 11 digits only a comma ends it; no byte left
+use Rattle.std.specs.Prelude.{Some, None}
 use mathlib.Core.Path.{◌≡◌, refl, sym, ◌∙◌}
 use mathlib.Core.Logic.{⊎_elim}
 use mathlib.Core.Bool.{Bool, true, false, cond, ◌&&◌}
@@ -19,9 +20,7 @@ use Rattle.laws.specs.Digits.{is_digit, all_digits, spelt}
 use Rattle.laws.specs.Split.{before, split, piece_of}
 use Rattle.laws.proofs.Tests.{le-or-lt}
 use Rattle.laws.proofs.Digits.{digit_low}
-use Rattle.text.specs.declared.Spelt.TheVariants.{Value, Fault}
 use Rattle.text.specs.Spelt.{spells, digits_of}
-use Rattle.fields.specs.declared.number.DigitsRead.{DigitsRead}
 use Rattle.fields.specs.Number.{digits_from, digits_field_of}
 use Rattle.rules.specs.Records.{field_digits}
 
@@ -79,7 +78,7 @@ run-start s = go (leb (length (piece_of 44 s 0)) 11) (all_digits (piece_of 44 s 
     f : List ℕ
     f = piece_of 44 s 0
 
-    go : (t d : Bool) → leb (length f) 11 ≡ t → field_digits (cond t (digits_from (cond (leb (length f) 18) (cond d (Value (spelt 1 f)) Fault) Fault)) DigitsRead.Fault) ≡ cond (t && d) (spelt 1 f) 1
+    go : (t d : Bool) → leb (length f) 11 ≡ t → field_digits (cond t (digits_from (cond (leb (length f) 18) (cond d (Some (spelt 1 f)) None) None)) None) ≡ cond (t && d) (spelt 1 f) 1
     go true true e = unfold digits_from in rw (le-leb (length f) 18 (omega (arith, leb-true (length f) 11 e)))
     go true false e = unfold digits_from in rw (le-leb (length f) 18 (omega (arith, leb-true (length f) 11 e)))
     go false d e = refl

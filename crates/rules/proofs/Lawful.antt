@@ -1,4 +1,6 @@
 -- The rules are lawful: the numbers' test is equality, and no class holds records of two kinds. Assumes nothing.
+use Rattle.layout.specs.declared.report.Report.{Report}
+use Rattle.std.specs.Prelude.{Option, Some, None}
 use mathlib.Core.Path.{◌≡◌, refl}
 use mathlib.Core.Bool.{Bool, true, false, ◌&&◌}
 use mathlib.Core.List.{List}
@@ -10,7 +12,6 @@ use Rattle.fields.specs.declared.kind.Kind.{Kind}
 use Rattle.fields.specs.declared.kind.Kind.TheVariants.{P, L, Z}
 use Rattle.fields.specs.declared.number.Number.{Number}
 use Rattle.fields.specs.Number.{same_number}
-use Rattle.layout.specs.declared.report.ReportRead.{ReportRead}
 use Rattle.layout.specs.Report.{report_of}
 use Rattle.entries.specs.declared.entry.Line.{Line}
 use Rattle.entries.specs.declared.entry.Entry.{Entry}
@@ -35,23 +36,23 @@ unfolding same_number
 number-refl n = rw (eq-eqb n.first.0 n.first.0 refl, eq-eqb n.last.0 n.last.0 refl)
 
 -- reports have the classes from 8 to 11
-report-from : (r : ReportRead) → 8 ≤ class_of_report r
-report-from (ReportRead.Report r) = go r.kind
+report-from : (r : Option Report) → 8 ≤ class_of_report r
+report-from (Some r) = go r.kind
   where
     go : (k : Kind) → 8 ≤ class_of_kind k
     go P = omega arith
     go L = omega arith
     go Z = omega arith
-report-from ReportRead.Fault = omega arith
+report-from None = omega arith
 
-report-to : (r : ReportRead) → class_of_report r ≤ 11
-report-to (ReportRead.Report r) = go r.kind
+report-to : (r : Option Report) → class_of_report r ≤ 11
+report-to (Some r) = go r.kind
   where
     go : (k : Kind) → class_of_kind k ≤ 11
     go P = omega arith
     go L = omega arith
     go Z = omega arith
-report-to ReportRead.Fault = omega arith
+report-to None = omega arith
 
 class-kind : (k l : ℕ) (r s : List ℕ) → class_in k r ≡ class_in l s → k ≡ l
 unfolding class_in

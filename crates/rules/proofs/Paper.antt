@@ -1,5 +1,6 @@
 -- The paper's worked days and reports hold of the definitions: antt computes each line, and the calendar's `kth` says which day a count of working
 -- days leads to. Assumes nothing.
+use Rattle.std.specs.Prelude.{Some, None}
 use mathlib.Core.Path.{◌≡◌, refl, ap}
 use mathlib.Core.Bool.{false}
 use mathlib.Core.List.{[], ◌∷◌, flat_map, zip_with}
@@ -10,7 +11,6 @@ use Rattle.laws.specs.Lists.{any, all, keep, table}
 use Rattle.laws.specs.Order.{put, in_order, not_after}
 use Rattle.laws.specs.Split.{before, split}
 use Rattle.laws.specs.Digits.{is_digit, spelt, digits}
-use Rattle.calendar.specs.declared.working_days.Later.TheVariants.{On, Ends}
 use Rattle.calendar.specs.Dates.{leap, month_days, year_start, month_start, day_number, valid, weekday}
 use Rattle.calendar.specs.Holidays.{easter, nine_of, holidays_of, years, holidays, working}
 use Rattle.calendar.specs.Former.{former_holidays, formerly_working}
@@ -35,7 +35,7 @@ use Rattle.rules.specs.Records.{number_in, class_in, says_in}
 use Rattle.rules.specs.Paper.{on, on_date, after_date, last_of, WorkedThrough}
 
 -- five working days after 2024-04-03 is 2024-04-10
-fifth : working_day_after 9589 return_period ≡ On (on 9596)
+fifth : working_day_after 9589 return_period ≡ Some (on 9596)
 unfolding sum_to table any keep flat_map put leap month_days year_start month_start day_number weekday easter nine_of holidays_of years holidays working days_after working_after
 fifth = kth 9589 5 9596 (lit≤ tt) (lit≤ tt) refl refl
 
@@ -60,16 +60,16 @@ now-five : keep working (days_after 7237 7245) ≡ 7238 ∷ 7239 ∷ 7242 ∷ 72
 unfolding sum_to table any keep flat_map put leap month_days year_start month_start day_number weekday easter nine_of holidays_of years holidays working days_after
 now-five = refl
 
-not-too-soon : not_yet (on 7244) (On (on (last_of (keep formerly_working (days_after 7237 7244))))) ≡ false
+not-too-soon : not_yet (on 7244) (Some (on (last_of (keep formerly_working (days_after 7237 7244))))) ≡ false
 unfolding last_of
 not-too-soon = rw formerly-five
 
-five-in-2017 : working_day_after 7237 return_period ≡ On (on 7245)
+five-in-2017 : working_day_after 7237 return_period ≡ Some (on 7245)
 unfolding sum_to table any keep flat_map put leap month_days year_start month_start day_number weekday easter nine_of holidays_of years holidays working days_after working_after
 five-in-2017 = kth 7237 5 7245 (lit≤ tt) (lit≤ tt) refl (ap length now-five)
 
 -- one day beyond the last
-none_after : working_day_after 18992 1 ≡ Ends
+none_after : working_day_after 18992 1 ≡ None
 unfolding sum_to table any keep flat_map put leap month_days year_start month_start day_number weekday easter nine_of holidays_of years holidays working days_after working_after smallest working_day_after
 none_after = refl
 

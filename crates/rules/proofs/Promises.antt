@@ -7,6 +7,7 @@
 --     count-is-what-is-folded                      the count of answer 0 is that of the records that working out goes through
 --     same-history, standing-entry                 where a number stands, with the pair that confirmed last, has the store's entry
 --     unknown-number                               a record whose number is not in the table gets 12, whatever it says
+use Rattle.std.specs.Prelude.{Option, None}
 use mathlib.Core.Path.{◌≡◌, refl, ap, ◌∙◌}
 use mathlib.Core.Bool.{false}
 use mathlib.Core.List.{List, [], ◌∷◌, map, foldl, Perm}
@@ -21,7 +22,6 @@ use Rattle.entries.specs.declared.entry.Entry.{Entry}
 use Rattle.entries.specs.declared.entry.Line.{Line}
 use Rattle.entries.specs.Entry.{first_entry}
 use Rattle.verdict.specs.declared.step.Standing.{Standing}
-use Rattle.entries.specs.declared.entry.Listed.TheVariants.{Missing}
 use Rattle.verdict.specs.declared.step.Says.{Says}
 use Rattle.verdict.specs.declared.step.Says.TheVariants.{Reported, Objected, Other}
 use Rattle.verdict.specs.verdicts.Numbers.{number_of}
@@ -76,10 +76,10 @@ standing-entry files line =
     ∙ ap (foldl (λ (t : Entry) (e : Event). entry_after (line_by line) t (record_of e)) (first_entry (line_by line))) (same-history files line.number)
 
 -- 12 is what the verdicts themselves give where the number has no line, on any entry
-pub unknown-number : (entry : Entry) (e : Event) → number_of (verdict_on Missing entry (record_of e)) ≡ rules.unknown e
+pub unknown-number : (entry : Entry) (e : Event) → number_of (verdict_on None entry (record_of e)) ≡ rules.unknown e
 unknown-number entry e = go (says_in e.kind e.bytes)
   where
-    go : (says : Says) → number_of (verdict_by Missing entry (record { 0 = e.publisher }) (record { 0 = e.day }) says) ≡ 12
+    go : (says : Says) → number_of (verdict_by None entry (record { 0 = e.publisher }) (record { 0 = e.day }) says) ≡ 12
     go (Reported p) = refl
     go (Objected o) = refl
     go Other = refl

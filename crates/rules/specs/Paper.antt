@@ -2,16 +2,14 @@
 -- the calendar; the reports are files with their records' bytes as published, filed one after the other in the order in which they arrive into
 -- a store whose table has the one number 3055501. Behind them the return that moved when 31 October 2017 came to the holiday list. Assumes
 -- nothing: these are definitions.
+use Rattle.std.specs.Prelude.{Option, Some, None}
 use Rattle.std.specs.Prelude.{◌≡◌, true, false, ℕ, get_or}
 use mathlib.Core.List.{List, [], ◌∷◌, ◌++◌, map, foldl}
 use Rattle.laws.specs.Lists.{keep}
 use Rattle.laws.specs.Split.{joined}
 use Rattle.laws.specs.Digits.{digits}
 use Rattle.calendar.specs.declared.dates.CalendarDays.{CalendarDays}
-use Rattle.calendar.specs.declared.dates.Found.TheVariants.{Fault}
 use Rattle.calendar.specs.declared.dates.Weekday.TheVariants.{Monday}
-use Rattle.calendar.specs.declared.working_days.Later.{Later}
-use Rattle.calendar.specs.declared.working_days.Later.TheVariants.{On as OnDay, Ends}
 use Rattle.calendar.specs.Dates.{day_number}
 use Rattle.calendar.specs.Holidays.{holidays, working}
 use Rattle.calendar.specs.Former.{formerly_working}
@@ -23,8 +21,6 @@ use Rattle.fields.specs.declared.kind.Kind.{Kind}
 use Rattle.fields.specs.declared.kind.Kind.TheVariants.{P, L, Z}
 use Rattle.entries.specs.declared.entry.Place.{Place}
 use Rattle.entries.specs.declared.entry.Entry.{Entry}
-use Rattle.entries.specs.declared.entry.Last.{Last}
-use Rattle.entries.specs.declared.entry.Last.TheVariants.{Never, On}
 use Rattle.entries.specs.Entry.{first_entry}
 use Rattle.verdict.specs.report_tests.Tests.{return_period, not_yet}
 use Rattle.verdict.specs.declared.step.Why.{Why}
@@ -36,11 +32,11 @@ use Rattle.rules.specs.Rules.{rules, standings, line_by}
 -- ---- days
 
 -- the k-th working day after a date
-abbrev pub after_date : ℕ → ℕ → ℕ → ℕ → Later
+abbrev pub after_date : ℕ → ℕ → ℕ → ℕ → Option CalendarDays
 after_date k y m d = working_day_after (day_number y m d) k
 
-abbrev pub on_date : ℕ → ℕ → ℕ → Later
-on_date y m d = OnDay (record { 0 = day_number y m d })
+abbrev pub on_date : ℕ → ℕ → ℕ → Option CalendarDays
+on_date y m d = Some (record { 0 = day_number y m d })
 
 -- the last entry of a list
 unfoldable pub last_of : List ℕ → ℕ
@@ -110,10 +106,10 @@ store_of set_up files = foldl (filed rules) (started rules (line set_up ∷ []))
 pub record Shown : Type 0 where
   pub verdicts : List ℕ
   pub holder : ℕ
-  pub last : Last
+  pub last : Option CalendarDays
   pub why : Why
 
-abbrev pub shown : List ℕ → ℕ → Last → Why → Shown
+abbrev pub shown : List ℕ → ℕ → Option CalendarDays → Why → Shown
 shown verdicts holder last why = record { verdicts = verdicts; holder = holder; last = last; why = why }
 
 abbrev pub entry_in : ℕ → Store rules → Entry
@@ -170,7 +166,7 @@ abbrev pub WorkedThrough : Type 0
 WorkedThrough =
     -- 2000-02-29 is day 789; 2001-02-29 is a fault; 2024-03-04 is day 9559, a Monday; 2049-12-26 is day 18987, the last in the list
     (day_of (date 2000 2 29) ≡ day 789) ×
-    (day_of (date 2001 2 29) ≡ Fault) ×
+    (day_of (date 2001 2 29) ≡ None) ×
     (day_of (date 2024 3 4) ≡ day 9559) ×
     (weekday_of 9559 ≡ Monday) ×
     (day_of (date 2049 12 26) ≡ day 18987) ×
@@ -179,27 +175,27 @@ WorkedThrough =
     (after_date 2 2014 5 22 ≡ on_date 2014 5 26) ×
     (after_date 20 2008 6 16 ≡ on_date 2008 7 14) ×
     (after_date 5 2017 4 13 ≡ on_date 2017 4 24) ×
-    (after_date 1 2049 12 31 ≡ Ends) ×
+    (after_date 1 2049 12 31 ≡ None) ×
     -- P and L, both published 03-05: P gets 10, L gets 11, holder D002
-    (come_to (ported 9560 9560 []) ≡ shown (10 ∷ 11 ∷ []) 2 (On (on 9559)) (pair12 9560 9560)) ×
+    (come_to (ported 9560 9560 []) ≡ shown (10 ∷ 11 ∷ []) 2 (Some (on 9559)) (pair12 9560 9560)) ×
     -- after that, published 03-06, P from D002 to D003 dated 03-04 gets 18, dated 03-03 gets 17, on its own porting date it gets 15
-    (come_to (ported 9560 9560 (default 3 9561 (P23 4032024) ∷ [])) ≡ shown (10 ∷ 11 ∷ 18 ∷ []) 2 (On (on 9559)) (pair12 9560 9560)) ×
-    (come_to (ported 9560 9560 (default 3 9561 (P23 3032024) ∷ [])) ≡ shown (10 ∷ 11 ∷ 17 ∷ []) 2 (On (on 9559)) (pair12 9560 9560)) ×
-    (come_to (ported 9560 9560 (default 3 9561 (P23 6032024) ∷ [])) ≡ shown (10 ∷ 11 ∷ 15 ∷ []) 2 (On (on 9559)) (pair12 9560 9560)) ×
+    (come_to (ported 9560 9560 (default 3 9561 (P23 4032024) ∷ [])) ≡ shown (10 ∷ 11 ∷ 18 ∷ []) 2 (Some (on 9559)) (pair12 9560 9560)) ×
+    (come_to (ported 9560 9560 (default 3 9561 (P23 3032024) ∷ [])) ≡ shown (10 ∷ 11 ∷ 17 ∷ []) 2 (Some (on 9559)) (pair12 9560 9560)) ×
+    (come_to (ported 9560 9560 (default 3 9561 (P23 6032024) ∷ [])) ≡ shown (10 ∷ 11 ∷ 15 ∷ []) 2 (Some (on 9559)) (pair12 9560 9560)) ×
     -- Z from D002 to D001 dated 2024-04-02, published 04-03: the P published 04-09 gets 21, published 04-10 it gets 11 and the holder is D001
-    (come_to (ported 9560 9560 (default 2 9589 Z21 ∷ default 1 9595 P21 ∷ [])) ≡ shown (10 ∷ 11 ∷ 10 ∷ 21 ∷ []) 2 (On (on 9559)) (pair12 9560 9560)) ×
-    (come_to (ported 9560 9560 (default 2 9589 Z21 ∷ default 1 9596 P21 ∷ [])) ≡ shown (10 ∷ 11 ∷ 10 ∷ 11 ∷ []) 1 (On (on 9588)) (pair21 9589 9596)) ×
+    (come_to (ported 9560 9560 (default 2 9589 Z21 ∷ default 1 9595 P21 ∷ [])) ≡ shown (10 ∷ 11 ∷ 10 ∷ 21 ∷ []) 2 (Some (on 9559)) (pair12 9560 9560)) ×
+    (come_to (ported 9560 9560 (default 2 9589 Z21 ∷ default 1 9596 P21 ∷ [])) ≡ shown (10 ∷ 11 ∷ 10 ∷ 11 ∷ []) 1 (Some (on 9588)) (pair21 9589 9596)) ×
     -- P published 03-05, L published 03-06: holder D002
-    (come_to (ported 9560 9561 []) ≡ shown (10 ∷ 11 ∷ []) 2 (On (on 9559)) (pair12 9560 9561)) ×
+    (come_to (ported 9560 9561 []) ≡ shown (10 ∷ 11 ∷ []) 2 (Some (on 9559)) (pair12 9560 9561)) ×
     -- then D001's objection 2500 against P, published 03-06, arrives last: it gets 30, L gets 10, the holder is D001 again, and no pair is shown
-    (come_to (ported 9560 9561 (correction 1 9561 (objection P12) ∷ [])) ≡ shown (10 ∷ 10 ∷ 30 ∷ []) 1 Never Nothing) ×
+    (come_to (ported 9560 9561 (correction 1 9561 (objection P12) ∷ [])) ≡ shown (10 ∷ 10 ∷ 30 ∷ []) 1 None Nothing) ×
     -- the five working days after 2017-10-25: by the list without 31 October they were 10-26, 27, 30, 31 and 11-01, and now the fifth is 11-02
     (keep formerly_working (days_after 7237 7244) ≡ 7238 ∷ 7239 ∷ 7242 ∷ 7243 ∷ 7244 ∷ []) ×
     (keep working (days_after 7237 7245) ≡ 7238 ∷ 7239 ∷ 7242 ∷ 7244 ∷ 7245 ∷ []) ×
     (after_date 5 2017 10 25 ≡ on_date 2017 11 2) ×
     -- so the P published 11-01 did not come before the fifth working day after its Z, and was confirmed; now it does
-    (not_yet (on 7244) (OnDay (on (last_of (keep formerly_working (days_after 7237 7244))))) ≡ false) ×
+    (not_yet (on 7244) (Some (on (last_of (keep formerly_working (days_after 7237 7244))))) ≡ false) ×
     (not_yet (on 7244) (working_day_after 7237 return_period) ≡ true) ×
     -- it gets 21 and the holder stays D002; published 11-02 it gets 11 and the holder is D001
-    (come_to_in2017 (returned_in2017 7244) ≡ shown (10 ∷ 11 ∷ 10 ∷ 21 ∷ []) 2 (On (on 7004)) pair12in2017) ×
-    (come_to_in2017 (returned_in2017 7245) ≡ shown (10 ∷ 11 ∷ 10 ∷ 11 ∷ []) 1 (On (on 7236)) pair21in2017)
+    (come_to_in2017 (returned_in2017 7244) ≡ shown (10 ∷ 11 ∷ 10 ∷ 21 ∷ []) 2 (Some (on 7004)) pair12in2017) ×
+    (come_to_in2017 (returned_in2017 7245) ≡ shown (10 ∷ 11 ∷ 10 ∷ 11 ∷ []) 1 (Some (on 7236)) pair21in2017)

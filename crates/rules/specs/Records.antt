@@ -1,15 +1,15 @@
 -- What the bytes of a record say: the number that it names, its class within a day, and what the verdicts take. Each is total: bytes that
 -- are no record of their kind name no number, come behind the others of their kind, and say what no rule knows. Assumes nothing: these are definitions.
+use Rattle.layout.specs.declared.correction.Correction.{Correction}
+use Rattle.fields.specs.declared.number.Digits.{Digits}
+use Rattle.std.specs.Prelude.{Option, Some, None}
 use Rattle.std.specs.Prelude.{ℕ, zero, suc, ◌+◌, cond, List, drop}
 use Rattle.laws.specs.Split.{piece_of}
 use Rattle.fields.specs.declared.kind.Kind.{Kind}
-use Rattle.fields.specs.declared.number.DigitsRead.{DigitsRead}
 use Rattle.fields.specs.declared.number.Number.{Number}
 use Rattle.fields.specs.Number.{digits_field_of}
 use Rattle.fields.specs.CorrectionCode.{is_objection}
 use Rattle.layout.specs.declared.report.Report.{Report}
-use Rattle.layout.specs.declared.report.ReportRead.{ReportRead}
-use Rattle.layout.specs.declared.correction.CorrectionRead.{CorrectionRead}
 use Rattle.layout.specs.Report.{report_of, whole_of}
 use Rattle.layout.specs.Correction.{correction_of, named_number}
 use Rattle.entries.specs.declared.report.Published.{Published}
@@ -23,13 +23,13 @@ use Rattle.verdict.specs.declared.step.Says.TheVariants.{Reported, Objected, Oth
 abbrev pub no_number : Number
 no_number = record { first = record { 0 = 1 }; last = record { 0 = 1 } }
 
-abbrev pub number_in_report : ReportRead → Number
-number_in_report (ReportRead.Report r) = r.number
-number_in_report ReportRead.Fault = no_number
+abbrev pub number_in_report : Option Report → Number
+number_in_report (Some r) = r.number
+number_in_report None = no_number
 
-abbrev pub number_in_correction : CorrectionRead → Number
-number_in_correction (CorrectionRead.Correction c) = named_number c
-number_in_correction CorrectionRead.Fault = no_number
+abbrev pub number_in_correction : Option Correction → Number
+number_in_correction (Some c) = named_number c
+number_in_correction None = no_number
 
 -- the number that a record names. The kinds of file: 0 default, 1 correction
 unfoldable pub number_in : ℕ → List ℕ → Number
@@ -38,9 +38,9 @@ number_in (suc zero) bytes = number_in_correction (correction_of bytes)
 number_in (suc (suc kind)) bytes = no_number
 
 -- the digits of a number field behind a leading 1; 1 where it is empty, or is no number field
-abbrev pub field_digits : DigitsRead → ℕ
-field_digits (DigitsRead.Digits d) = d.0
-field_digits DigitsRead.Fault = 1
+abbrev pub field_digits : Option Digits → ℕ
+field_digits (Some d) = d.0
+field_digits None = 1
 
 -- the field before the first comma (44) of a report; of a correction that of its U part, behind the code and "U:"
 unfoldable pub first_in : ℕ → List ℕ → ℕ
@@ -53,9 +53,9 @@ first_in (suc (suc kind)) bytes = 1
 abbrev pub class_of_kind : Kind → ℕ
 class_of_kind kind = by_kind kind 8 9 10
 
-abbrev pub class_of_report : ReportRead → ℕ
-class_of_report (ReportRead.Report r) = class_of_kind r.kind
-class_of_report ReportRead.Fault = 11
+abbrev pub class_of_report : Option Report → ℕ
+class_of_report (Some r) = class_of_kind r.kind
+class_of_report None = 11
 
 abbrev pub correction_class : ℕ
 correction_class = 2
@@ -71,19 +71,19 @@ class_in (suc (suc kind)) bytes = 100 + kind
 abbrev pub published_by : Report → Published
 published_by r = record { kind = r.kind; date = r.date; losing = r.losing; gaining = r.gaining }
 
-abbrev pub reported : ReportRead → Says
-reported (ReportRead.Report r) = Reported (published_by r)
-reported ReportRead.Fault = Other
+abbrev pub reported : Option Report → Says
+reported (Some r) = Reported (published_by r)
+reported None = Other
 
 -- an objection with this code, against the report of its U part
-abbrev pub objected : ℕ → ReportRead → Says
-objected code (ReportRead.Report r) = Objected (record { code = code; named = published_by r })
-objected code ReportRead.Fault = Other
+abbrev pub objected : ℕ → Option Report → Says
+objected code (Some r) = Objected (record { code = code; named = published_by r })
+objected code None = Other
 
 -- a correction: 25XX is an objection
-abbrev pub corrected : CorrectionRead → Says
-corrected (CorrectionRead.Correction c) = cond (is_objection c.code) (objected c.code.0 (whole_of c.u)) Other
-corrected CorrectionRead.Fault = Other
+abbrev pub corrected : Option Correction → Says
+corrected (Some c) = cond (is_objection c.code) (objected c.code.0 (whole_of c.u)) Other
+corrected None = Other
 
 unfoldable pub says_in : ℕ → List ℕ → Says
 says_in zero bytes = reported (report_of bytes)

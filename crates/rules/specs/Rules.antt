@@ -1,10 +1,10 @@
 -- The rules of the paper, put into the model: with these the model's store is the paper's, and the model's theorems are its promises.
 -- Assumes nothing: these are definitions.
+use Rattle.std.specs.Prelude.{Some}
 use Rattle.fields.specs.declared.number.Number.{Number}
 use Rattle.fields.specs.Number.{same_number}
 use Rattle.entries.specs.declared.entry.Line.{Line}
 use Rattle.entries.specs.declared.entry.Entry.{Entry}
-use Rattle.entries.specs.declared.entry.Listed.TheVariants.{With}
 use Rattle.entries.specs.Entry.{first_entry}
 use Rattle.verdict.specs.declared.verdicts.Verdict.TheVariants.{UnknownNumber}
 use Rattle.verdict.specs.declared.step.Record.{Record}
@@ -32,7 +32,7 @@ keeping A first after entry = record {
   Entry = A;
   first = λ line. first (line_by line);
   step = λ line a e. after (line_by line) a (record_of e);
-  verdict = λ line a e. number_of (verdict_on (With (line_by line)) (entry a) (record_of e));
+  verdict = λ line a e. number_of (verdict_on (Some (line_by line)) (entry a) (record_of e));
   unknown = λ e. number_of UnknownNumber;
 }
 

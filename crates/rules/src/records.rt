@@ -10,8 +10,7 @@ ghost use Rattle.rules.specs.Records.{no_number, number_in_report, number_in_cor
 use entries::report::Published;
 use fields::kind::Kind;
 use fields::number::{Digits, Number};
-use layout::correction::CorrectionRead;
-use layout::report::{Report, ReportRead};
+use layout::report::Report;
 use verdict::correction_rules::Objection;
 use verdict::step::Says;
 
@@ -31,8 +30,8 @@ fn number_in_report(bytes: &[u8]) -> Number
 {
     let read = Report::read(bytes);
     match read {
-        ReportRead::Report(r) => r.number,
-        ReportRead::Fault => no_number(),
+        Some(r) => r.number,
+        None => no_number(),
     }
 }
 
@@ -41,8 +40,8 @@ fn number_in_correction(bytes: &[u8]) -> Number
 {
     let read = layout::correction::Correction::read(bytes);
     match read {
-        CorrectionRead::Correction(c) => c.named_number(),
-        CorrectionRead::Fault => no_number(),
+        Some(c) => c.named_number(),
+        None => no_number(),
     }
 }
 
@@ -144,11 +143,11 @@ fn class_of_report(bytes: &[u8]) -> u64
 {
     let read = Report::read(bytes);
     match read {
-        ReportRead::Report(r) => {
+        Some(r) => {
             let kind = r.kind;
             class_of(kind)
         }
-        ReportRead::Fault => 11,
+        None => 11,
     }
 }
 
@@ -186,17 +185,17 @@ fn says_report(bytes: &[u8]) -> Says
 {
     let read = Report::read(bytes);
     match read {
-        ReportRead::Report(r) => Says::Reported(published(r)),
-        ReportRead::Fault => Says::Other,
+        Some(r) => Says::Reported(published(r)),
+        None => Says::Other,
     }
 }
 
 // What an objection with this code says against the report of its U part.
-fn says_objection(code: u16, read: ReportRead) -> Says
+fn says_objection(code: u16, read: Option<Report>) -> Says
     ensures { result ≡ objected code read }
 {
     match read {
-        ReportRead::Report(r) => {
+        Some(r) => {
             let named = published(r);
             let o = Objection {
                 code: code,
@@ -204,7 +203,7 @@ fn says_objection(code: u16, read: ReportRead) -> Says
             };
             Says::Objected(o)
         }
-        ReportRead::Fault => Says::Other,
+        None => Says::Other,
     }
 }
 
@@ -213,14 +212,14 @@ fn says_correction(bytes: &[u8]) -> Says
 {
     let read = layout::correction::Correction::read(bytes);
     match read {
-        CorrectionRead::Correction(c) => {
+        Some(c) => {
             let code = c.code;
             if code.is_objection() {
                 return says_objection(code.0, c.named_report());
             }
             Says::Other
         }
-        CorrectionRead::Fault => Says::Other,
+        None => Says::Other,
     }
 }
 

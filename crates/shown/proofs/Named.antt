@@ -1,4 +1,5 @@
 -- Which way `named_at` goes, by where the first dash stands. Assumes nothing.
+use Rattle.std.specs.Prelude.{None}
 use mathlib.Core.Path.{◌≡◌}
 use mathlib.Core.List.{List, []}
 use Prim.Native.Nat.{ℕ, ◌+◌, ◌-◌, ◌≤◌, ◌<◌}
@@ -8,7 +9,6 @@ use native.Mathlib.Nat.{sub-zero}
 use native.Mathlib.Omega.{arith}
 use borrow.Author.Tests.{le-leb, lt-leb}
 use Rattle.fields.specs.Number.{digits_field_of}
-use Rattle.fields.specs.declared.number.NumberRead.{NumberRead}
 use Rattle.shown.specs.Named.{beside_first, named_at}
 
 module _ (w : List ℕ) (dash : ℕ) where
@@ -16,7 +16,7 @@ module _ (w : List ℕ) (dash : ℕ) where
   unfolding named_at
   named-whole h = simp (le-leb _ _ h)
 
-  pub named_none : dash < length w → length w ≤ dash + 1 → NumberRead.Fault ≡ named_at w dash
+  pub named_none : dash < length w → length w ≤ dash + 1 → None ≡ named_at w dash
   unfolding named_at
   named_none h i = simp (lt-leb _ _ h, le-leb _ _ i)
 

@@ -1,13 +1,13 @@
 // An entry on a page: HOLDER, LAST, OPEN.
 use crate::piece;
 use desk::{Host, page};
-use entries::entry::{Entry, Last, PLACES, Place};
+use entries::entry::{Entry, PLACES, Place};
 use page::{Page, ROOM};
 
-fn last(rt: &impl Host, p: Page, room: &mut [u8; ROOM], l: Last) -> Page {
+fn last(rt: &impl Host, p: Page, room: &mut [u8; ROOM], l: Option<CalendarDays>) -> Page {
     match l {
-        Last::Never => page::text(rt, p, room, b"-"),
-        Last::On(d) => piece::date(rt, p, room, d),
+        None => page::text(rt, p, room, b"-"),
+        Some(d) => piece::date(rt, p, room, d),
     }
 }
 

@@ -4,7 +4,7 @@ ghost use Rattle.fields.specs.Number.{digits_field_of};
 ghost use Rattle.shown.specs.Named.{beside_first, number_named};
 
 use desk::{Host, page};
-use fields::number::{Digits, DigitsRead, Number, NumberRead};
+use fields::number::{Digits, Number};
 use page::{Page, ROOM};
 
 // All bytes but the first.
@@ -34,20 +34,20 @@ pub fn number(rt: &impl Host, p: Page, room: &mut [u8; ROOM], n: Number) -> Page
 }
 
 // Two fields as a number; a first field of no digits is none.
-fn of_fields(first: &[u8], last: &[u8]) -> NumberRead
+fn of_fields(first: &[u8], last: &[u8]) -> Option<Number>
     ensures { result ≡ beside_first (digits_field_of first.now) last.now }
 {
-    let DigitsRead::Digits(d) = Digits::read(first) else {
-        return NumberRead::Fault;
+    let Some(d) = Digits::read(first) else {
+        return None;
     };
     if d.is_empty() {
-        return NumberRead::Fault;
+        return None;
     }
     Number::read(d, last)
 }
 
 // The number that a word of the command line names.
-pub fn read(word: &[u8]) -> NumberRead
+pub fn read(word: &[u8]) -> Option<Number>
     ensures { result ≡ number_named word.now }
 {
     let end = text::field_end(word, 0, b'-');
@@ -56,7 +56,7 @@ pub fn read(word: &[u8]) -> NumberRead
     }
     let behind = end + 1;
     if word.len() <= behind {
-        return NumberRead::Fault;
+        return None;
     }
     of_fields(&word[0..end], &word[behind..])
 }

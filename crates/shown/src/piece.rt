@@ -1,5 +1,5 @@
 // Dates and network codes on a page.
-use calendar::dates::{CalendarDays, Dated, date_of};
+use calendar::dates::{CalendarDays, date_of};
 use desk::{Host, page};
 use fields::code::Code;
 use fields::kind::Kind;
@@ -16,7 +16,7 @@ fn two(rt: &impl Host, p: Page, room: &mut [u8; ROOM], n: u8) -> Page {
 
 // yyyy-mm-dd
 pub fn date(rt: &impl Host, p: Page, room: &mut [u8; ROOM], day: CalendarDays) -> Page {
-    let Dated::At(d) = date_of(day) else {
+    let Some(d) = date_of(day) else {
         return page::text(rt, p, room, b"-");
     };
     let q = page::number(rt, p, room, d.year as u64);

@@ -1,4 +1,5 @@
 -- Whatever answer 0 leaves reads as the given table, no file, and the first entries; a refusal leaves the buffers as they were. Assumes nothing.
+use Rattle.std.specs.Prelude.{Option, Some, None}
 use mathlib.Core.Path.{◌≡◌, refl, sym, ap, ◌∙◌}
 use mathlib.Core.Bool.{Bool, true, false, cond, ◌&&◌}
 use mathlib.Core.List.{List, [], ◌∷◌, ◌++◌, map, flat_map, append_assoc}
@@ -30,8 +31,6 @@ use Rattle.store.proofs.entry_slots.Back.{first_fine, entry-back, entry-fine}
 use Rattle.store.specs.journals.Reads.{records_at, filed_in, first_files, read_files}
 use Rattle.store.specs.Reads.{Buffers, table_line, held, long_enough, good_table, good_files, good_records, is_readable, reads}
 use Rattle.store.proofs.Checks.{Long, long, reads-some}
-use Rattle.starting.specs.declared.tables.given.LineRead.{LineRead}
-use Rattle.starting.specs.declared.tables.given.LineRead.TheVariants.{Fault}
 use Rattle.starting.specs.tables.Given.{line_given, end_given, with_line, lines_given, number_of_line, checked, table_of}
 use Rattle.starting.specs.Start.{first_of, first_slot, answer_of, start_answer, with_table, start_buffers, Starts, started_with}
 use Rattle.starting.specs.declared.start.Started.{Started}
@@ -54,13 +53,13 @@ given-good (l ∷ []) ls e = go l e
     go (b ∷ bs) q = absurd (not_some ls q)
 given-good (l ∷ m ∷ more) ls e = go (line_given l) (lines_given (m ∷ more)) refl refl e (given-good (m ∷ more))
   where
-    go : (r : LineRead) (o : Option (List Line)) → line_given l ≡ r → lines_given (m ∷ more) ≡ o → with_line r o ≡ some ls
+    go : (r : Option Line) (o : Option (List Line)) → line_given l ≡ r → lines_given (m ∷ more) ≡ o → with_line r o ≡ some ls
         → ((ks : List Line) → lines_given (m ∷ more) ≡ some ks → all good_line ks ≡ true) → all good_line ls ≡ true
-    go (LineRead.Line x) (some ks) p q h ih =
+    go (Some x) (some ks) p q h ih =
         let both : x ∷ ks ≡ ls = cc in
         rw (← both, line-good x l p, ih ks q)
-    go (LineRead.Line x) none p q h ih = absurd (not_some ls h)
-    go Fault o p q h ih = absurd (not_some ls h)
+    go (Some x) none p q h ih = absurd (not_some ls h)
+    go None o p q h ih = absurd (not_some ls h)
 
 -- the lines are well formed, at most 1,024, with no number twice
 pub record Table (ls : List Line) : Type 0 where

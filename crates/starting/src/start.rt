@@ -6,7 +6,6 @@ ghost use Rattle.store.specs.Reads.{lent};
 ghost use Rattle.starting.specs.Start.{first_of, table_with, entries_with, Entered, Begun, Starts};
 
 use crate::tables::scratch;
-use crate::tables::scratch::Counted;
 use entries::entry::{Entry, Line};
 use store::entry_slots::entry;
 use store::journals::files;
@@ -77,7 +76,7 @@ fn begin(
     requires { (14338 ≤ length room.old) × (14338 ≤ length table.old) × (8194 ≤ length files.old) × (102400 ≤ length entries.old) }
     ensures { Begun text.now table.old files.old entries.old result table.new files.new entries.new }
 {
-    let Counted::Lines(n) = scratch::judge(text, room) else {
+    let Some(n) = scratch::judge(text, room) else {
         return Started::BadTable;
     };
     enter(room, n, table, files, entries);

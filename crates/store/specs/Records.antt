@@ -1,13 +1,14 @@
 -- When a slot of a journal holds a record in its layout. Assumes nothing: these are definitions.
+use Rattle.layout.specs.declared.correction.Correction.{Correction}
+use Rattle.std.specs.Prelude.{Option, Some, None}
 use Rattle.std.specs.Prelude.{Bool, true, false, ◌&&◌, List, ℕ}
 use Rattle.laws.specs.Slots.{held_in, is_held}
 use Rattle.layout.specs.Correction.{correction_of, is_report}
 use Rattle.layout.specs.Report.{report_of}
-use Rattle.layout.specs.declared.correction.CorrectionRead.{CorrectionRead}
 
-abbrev pub is_correction : CorrectionRead → Bool
-is_correction (CorrectionRead.Correction c) = true
-is_correction CorrectionRead.Fault = false
+abbrev pub is_correction : Option Correction → Bool
+is_correction (Some c) = true
+is_correction None = false
 
 -- a slot of 1 + 44 bytes that holds a report, with zeros behind it
 unfoldable pub good_report : List ℕ → Bool

@@ -8,14 +8,14 @@ ghost use Rattle.store.specs.Records.{is_correction, good_report, good_correctio
 
 use crate::journals::records::{CORRECTION_SLOT, REPORT_SLOT};
 use crate::slots::record;
-use layout::correction::{Correction, CorrectionRead};
-use layout::report::{Report, ReportRead};
+use layout::correction::Correction;
+use layout::report::Report;
 
 // Whether bytes are a report.
 fn is_report(bytes: &[u8]) -> bool
     ensures { result ≡ is_report (report_of bytes.now) }
 {
-    let ReportRead::Report(_) = Report::read(bytes) else {
+    let Some(_) = Report::read(bytes) else {
         return false;
     };
     true
@@ -25,7 +25,7 @@ fn is_report(bytes: &[u8]) -> bool
 fn is_correction(bytes: &[u8]) -> bool
     ensures { result ≡ is_correction (correction_of bytes.now) }
 {
-    let CorrectionRead::Correction(_) = Correction::read(bytes) else {
+    let Some(_) = Correction::read(bytes) else {
         return false;
     };
     true

@@ -7,7 +7,6 @@ use asking::pairs::{Stored, WhyAnswer};
 use asking::record::Asked;
 use asking::{record, stand, why};
 use desk::Host;
-use entries::entry::Last;
 use fields::number::Number;
 use reworking::rework::ALL_FILES;
 use store::journals::records::Journal;
@@ -64,8 +63,8 @@ fn standing<'a>(
     let last = e.last;
     print::count(rt, w, print::HELD_BY, e.holder.0 as usize);
     match last {
-        Last::Never => print::word(rt, w, print::NEVER),
-        Last::On(d) => print::count(rt, w, print::ON, d.0 as usize),
+        None => print::word(rt, w, print::NEVER),
+        Some(d) => print::count(rt, w, print::ON, d.0 as usize),
     }
 }
 

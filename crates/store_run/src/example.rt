@@ -1,7 +1,7 @@
 // Examples of verdicts, over the first line of the table and its entry; where the table has no line, the number is not in it.
 use crate::{line, print};
 use desk::Host;
-use entries::entry::{Line, Listed};
+use entries::entry::Line;
 use entries::report;
 use fields::code::Code;
 use store::entry_slots::entry;
@@ -24,12 +24,12 @@ fn record(line: &[u8]) -> Record {
 }
 
 // The first line of the table.
-fn listed(t: &[u8]) -> Listed {
+fn listed(t: &[u8]) -> Option<Line> {
     if t.len() < 14338 {
-        return Listed::Missing;
+        return None;
     }
     if lines::line_count(t) == 0 {
-        return Listed::Missing;
+        return None;
     }
     let l = lines::line_at(t, 0);
     let owner = l.owner;
@@ -38,17 +38,17 @@ fn listed(t: &[u8]) -> Listed {
         owner: owner,
         setup: setup,
     };
-    Listed::With(line)
+    Some(line)
 }
 
 // The verdict on the record; the entry is then the one after it.
-fn judged(line: &[u8], n: Listed, e: &mut [u8]) -> u8 {
+fn judged(line: &[u8], n: Option<Line>, e: &mut [u8]) -> u8 {
     if e.len() < 102400 {
         return 0;
     }
     let rec = record(line);
     let x = entry::entry_at(e, 0);
-    let Listed::With(l) = n else {
+    let Some(l) = n else {
         return verdicts::number(step::verdict(n, x, rec));
     };
     let o = step::step(l, x, rec);

@@ -3,8 +3,6 @@ ghost use Rattle.std.specs.Prelude.{◌<◌};
 
 use calendar::dates::CalendarDays;
 use fields::date;
-use fields::date::DateRead;
-use text::Spelt;
 
 pub fn byte(s: &[u8], i: usize) -> u8 {
     if i < s.len() {
@@ -28,7 +26,7 @@ pub fn field(line: &[u8], k: usize) -> &[u8] {
 pub fn number(line: &[u8], k: usize) -> usize
     ensures { result < 1000000 }
 {
-    let Spelt::Value(n) = text::read_digits(field(line, k), false) else {
+    let Some(n) = text::read_digits(field(line, k), false) else {
         return 0;
     };
     (n % 1000000) as usize
@@ -37,7 +35,7 @@ pub fn number(line: &[u8], k: usize) -> usize
 // A day as its date, ddmmyyyy; or as its number, so that days outside the calendar can be tried too.
 pub fn day(line: &[u8], k: usize) -> CalendarDays {
     match date::read(field(line, k)) {
-        DateRead::Date(d) => d,
-        DateRead::Fault => CalendarDays((number(line, k) % 65536) as u16),
+        Some(d) => d,
+        None => CalendarDays((number(line, k) % 65536) as u16),
     }
 }

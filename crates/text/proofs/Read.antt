@@ -1,4 +1,5 @@
 -- A turn of `spell`, on lists. Assumes nothing.
+use Rattle.std.specs.Prelude.{Some, None}
 use Prim.Native.Nat.{ℕ, ◌+◌, ◌-◌, ◌*◌, ◌^◌, ◌<◌, ◌≤◌}
 use native.Mathlib.Nat.{pow-suc, pow-le-pow_right}
 use native.Mathlib.Numerals.{add-one}
@@ -8,7 +9,6 @@ use mathlib.Core.List.{List}
 use lib.ListN.{length, get_or, drop, drop_of_length-le}
 use lib.Seq.{drop-cons}
 use borrow.Author.Tests.{le-leb, lt-leb}
-use Rattle.text.specs.declared.Spelt.TheVariants.{Value, Fault}
 use Rattle.laws.specs.Lists.{all}
 use Rattle.laws.specs.Digits.{is_digit, spelt}
 use Rattle.text.specs.Spelt.{spells}
@@ -18,15 +18,15 @@ module _ (f : List ℕ) (n i : ℕ) (h : i < length f) where
   unfolding spells all is_digit spelt
   turn low high = rw (add-one, drop-cons f i 0) (simp (le-leb 48 (get_or f i 0), le-leb (get_or f i 0) 57))
 
-  pub too-low : get_or f i 0 < 48 → spells n (drop i f) ≡ Fault
+  pub too-low : get_or f i 0 < 48 → spells n (drop i f) ≡ None
   unfolding spells all is_digit spelt
   too-low low = rw (drop-cons f i 0) (simp (lt-leb 48 (get_or f i 0)))
 
-  pub too-high : 48 ≤ get_or f i 0 → 57 < get_or f i 0 → spells n (drop i f) ≡ Fault
+  pub too-high : 48 ≤ get_or f i 0 → 57 < get_or f i 0 → spells n (drop i f) ≡ None
   unfolding spells all is_digit spelt
   too-high low high = rw (drop-cons f i 0) (simp (le-leb 48 (get_or f i 0), lt-leb (get_or f i 0) 57))
 
-pub done : (f : List ℕ) (n i : ℕ) → length f ≤ i → spells n (drop i f) ≡ Value n
+pub done : (f : List ℕ) (n i : ℕ) → length f ≤ i → spells n (drop i f) ≡ Some n
 unfolding spells all is_digit spelt
 done f n i h = rw (drop_of_length-le f)
 

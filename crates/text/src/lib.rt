@@ -8,13 +8,6 @@ ghost use Rattle.laws.specs.Digits.{digits, down, size_of};
 ghost use Rattle.laws.specs.Overlay.{Laid};
 ghost use Rattle.text.specs.Spelt.{spells, digits_of};
 
-// What a run of decimal digits spells.
-#[derive(Drop)]
-pub enum Spelt {
-    Value(u64),
-    Fault,
-}
-
 // Where the piece of `s` that starts at `at` ends: at the next separator, or with `s`.
 pub fn field_end(s: &[u8], at: usize, sep: u8) -> usize
     ensures { result ≡ end_of sep s.now at }
@@ -69,7 +62,7 @@ fn wide(b: u8) -> u64
 }
 
 // The number that the digits of `f` spell when they follow `start`.
-fn spell(f: &[u8], start: u64) -> Spelt
+fn spell(f: &[u8], start: u64) -> Option<u64>
     requires { (start ≤ 1) × (length f.now ≤ 18) }
     ensures { result ≡ spells start f.now }
 {
@@ -78,23 +71,23 @@ fn spell(f: &[u8], start: u64) -> Spelt
     while i < f.len() {
         let b = f[i];
         if b < 48 {
-            return Spelt::Fault;
+            return None;
         }
         if 57 < b {
-            return Spelt::Fault;
+            return None;
         }
         n = n * 10 + (wide(b) - 48);
         i += 1;
     }
-    Spelt::Value(n)
+    Some(n)
 }
 
 // The number that at most 18 digits spell, behind a leading 1 where `lead` asks for one.
-pub fn read_digits(f: &[u8], lead: bool) -> Spelt
+pub fn read_digits(f: &[u8], lead: bool) -> Option<u64>
     ensures { result ≡ digits_of lead f.now }
 {
     if 18 < f.len() {
-        return Spelt::Fault;
+        return None;
     }
     if lead {
         return spell(f, 1);

@@ -9,6 +9,8 @@
 --     explained                   the pair shown is why the holder and the last date are what they are;
 --     pair-exactly-if-confirmed   there is one exactly if the last confirmed date is not none,
 --     holder-owner-or-gained      and the holder is the owner, or the gaining network of the pair
+use Rattle.calendar.specs.declared.dates.CalendarDays.{CalendarDays}
+use Rattle.std.specs.Prelude.{Option, Some, None}
 use mathlib.Core.Path.{◌≡◌, refl, sym, ap, ◌∙◌}
 use mathlib.Core.Logic.{◌⊎◌, inl, inr}
 use mathlib.Core.Bool.{true, false}
@@ -22,10 +24,7 @@ use Rattle.laws.proofs.Lists.{keep-at-most}
 use Rattle.verdict.specs.declared.verdicts.Verdict.{Verdict}
 use Rattle.entries.specs.declared.entry.Place.{Place}
 use Rattle.entries.specs.declared.entry.Entry.{Entry}
-use Rattle.entries.specs.declared.entry.Last.{Last}
-use Rattle.entries.specs.declared.entry.Last.TheVariants.{Never, On}
 use Rattle.entries.specs.declared.entry.Line.{Line}
-use Rattle.entries.specs.declared.entry.Listed.TheVariants.{With}
 use Rattle.verdict.specs.declared.step.Record.{Record}
 use Rattle.verdict.specs.declared.step.Why.{Why}
 use Rattle.verdict.specs.declared.step.Why.TheVariants.{Nothing, Pair}
@@ -46,17 +45,17 @@ entry-stands line s (rec ∷ recs) = entry-stands line (stand_on line s rec) rec
 pub worked-on : (line : Line) (e : Entry) (recs more : List Record) → worked line e (recs ++ more) ≡ worked line (worked line e recs) more
 worked-on line e recs more = foldl-append (entry_after line) e recs more
 
-pub verdict-at : (line : Line) (e : Entry) (recs : List Record) (rec : Record) (more : List Record) (other : Verdict) → get_or (verdicts line e (recs ++ (rec ∷ more))) (length recs) other ≡ verdict_on (With line) (worked line e recs) rec
+pub verdict-at : (line : Line) (e : Entry) (recs : List Record) (rec : Record) (more : List Record) (other : Verdict) → get_or (verdicts line e (recs ++ (rec ∷ more))) (length recs) other ≡ verdict_on (Some line) (worked line e recs) rec
 unfolding verdicts
 verdict-at line e [] rec more other = refl
 verdict-at line e (r ∷ recs) rec more other = verdict-at line (entry_after line e r) recs rec more other
 
 -- ---- the last confirmed date
-not-after-trans : (k l m : Last) → NotAfter k l → NotAfter l m → NotAfter k m
-not-after-trans Never l m p q = tt
-not-after-trans (On d) Never m p q = absurd p
-not-after-trans (On d) (On t) Never p q = absurd q
-not-after-trans (On d) (On t) (On u) p q = le_trans p q
+not-after-trans : (k l m : Option CalendarDays) → NotAfter k l → NotAfter l m → NotAfter k m
+not-after-trans None l m p q = tt
+not-after-trans (Some d) None m p q = absurd p
+not-after-trans (Some d) (Some t) None p q = absurd q
+not-after-trans (Some d) (Some t) (Some u) p q = le_trans p q
 
 pub last-never-falls : (line : Line) (e : Entry) (recs : List Record) → NotAfter e.last (worked line e recs).last
 last-never-falls line e [] = not-after-refl e.last
@@ -93,10 +92,10 @@ explained-along line s (rec ∷ recs) h = explained-along line (stand_on line s 
 pub explained : (line : Line) (recs : List Record) → Explained line (standing line (first_standing line) recs)
 explained line recs = explained-along line (first_standing line) recs (explained-first line)
 
-pub pair-exactly-if-confirmed : (line : Line) (s : Standing) → Explained line s → (s.why ≡ Nothing → s.entry.last ≡ Never) × (s.entry.last ≡ Never → s.why ≡ Nothing)
+pub pair-exactly-if-confirmed : (line : Line) (s : Standing) → Explained line s → (s.why ≡ Nothing → s.entry.last ≡ None) × (s.entry.last ≡ None → s.why ≡ Nothing)
 pair-exactly-if-confirmed line s h = (λ e. h.last ∙ ap last_by e, λ e. go s.why (sym h.last ∙ e))
   where
-    go : (w : Why) → last_by w ≡ Never → w ≡ Nothing
+    go : (w : Why) → last_by w ≡ None → w ≡ Nothing
     go Nothing e = refl
     go (Pair a b) e = cc
 
@@ -107,7 +106,7 @@ pub record Gained (s : Standing) : Type 0 where
   pub shown : s.why ≡ Pair a b
   pub pairing : Pairing a b
   pub holder : s.entry.holder ≡ b.report.gaining
-  pub last : s.entry.last ≡ On b.report.date
+  pub last : s.entry.last ≡ Some b.report.date
 
 pub holder-owner-or-gained : (line : Line) (s : Standing) → Explained line s → ((s.entry.holder ≡ line.owner) × (s.why ≡ Nothing)) ⊎ Gained s
 holder-owner-or-gained line s h = go s.why refl

@@ -3,6 +3,7 @@
 --     last-stays          the last confirmed date does not fall
 --     tidy-stays          eight places, and no two open reports are equal
 --     explained-stays     the pair is one, and says who the holder is and what the last confirmed date is
+use Rattle.std.specs.Prelude.{Option, Some, None}
 use mathlib.Core.Path.{◌≡◌, refl, ap, ◌∙◌}
 use mathlib.Core.Bool.{Bool, true, false, cond, ◌||◌}
 use native.Mathlib.Nat.{le_refl}
@@ -19,11 +20,7 @@ use Rattle.verdict.specs.declared.verdicts.Verdict.TheVariants.{Kept}
 use Rattle.entries.specs.declared.report.Report.{Report}
 use Rattle.entries.specs.declared.entry.Place.{Place}
 use Rattle.entries.specs.declared.entry.Entry.{Entry}
-use Rattle.entries.specs.declared.entry.Last.{Last}
-use Rattle.entries.specs.declared.entry.Last.TheVariants.{Never, On}
 use Rattle.entries.specs.declared.entry.Line.{Line}
-use Rattle.entries.specs.declared.entry.Listed.{Listed}
-use Rattle.entries.specs.declared.entry.Listed.TheVariants.{With}
 use Rattle.entries.specs.declared.report.Published.{Published}
 use Rattle.verdict.specs.declared.step.Says.{Says}
 use Rattle.verdict.specs.declared.step.Says.TheVariants.{Reported, Objected, Other}
@@ -70,7 +67,7 @@ confirmed-does v h =
     rw (other, h)
 
 -- ---- what the table of reports says of a report that is kept or confirmed
-module _ (n : Listed) (e : Entry) (from : Code) (day : CalendarDays) (r : Report) where
+module _ (n : Option Line) (e : Entry) (from : Code) (day : CalendarDays) (r : Report) where
   not-open : is_kept (report_verdict n e from day r) ≡ true → is_open r.kind r e.places ≡ false
   unfolding any
   not-open h = line-passed is_kept 8 (false, Kept) (report_table n e from day r) Kept (lit≤ tt) refl h
@@ -94,34 +91,34 @@ no-effect line e rec (Reported p) = refl
 no-effect line e rec (Objected o) = refl
 no-effect line e rec Other = refl
 
-pub discarded-stays : (line : Line) (e : Entry) (rec : Record) → Discarded (verdict_on (With line) e rec) → entry_after line e rec ≡ e
+pub discarded-stays : (line : Line) (e : Entry) (rec : Record) → Discarded (verdict_on (Some line) e rec) → entry_after line e rec ≡ e
 unfolding entry_after
 discarded-stays line e rec h = ap (λ (d : Doing). effect_on d line e rec) h ∙ no-effect line e rec rec.says
 
 -- ---- the last confirmed date
-pub not-after-refl : (l : Last) → NotAfter l l
-not-after-refl Never = tt
-not-after-refl (On d) = le_refl d.0
+pub not-after-refl : (l : Option CalendarDays) → NotAfter l l
+not-after-refl None = tt
+not-after-refl (Some d) = le_refl d.0
 
-date-not-after : (d : CalendarDays) (l : Last) → before_last d l ≡ false → NotAfter l (On d)
-date-not-after d Never h = tt
-date-not-after d (On l) h = ltb-false d.0 l.0 h
+date-not-after : (d : CalendarDays) (l : Option CalendarDays) → before_last d l ≡ false → NotAfter l (Some d)
+date-not-after d None h = tt
+date-not-after d (Some l) h = ltb-false d.0 l.0 h
 
-last-by : (line : Line) (e : Entry) (rec : Record) (says : Says) → NotAfter e.last (effect_by (does_by (verdict_by (With line) e rec.publisher rec.day says)) line e rec says).last
+last-by : (line : Line) (e : Entry) (rec : Record) (says : Says) → NotAfter e.last (effect_by (does_by (verdict_by (Some line) e rec.publisher rec.day says)) line e rec says).last
 last-by line e rec (Reported p) = go (does_by v) refl
   where
     r : Report
     r = meant_by line.owner p
 
     v : Verdict
-    v = report_verdict (With line) e rec.publisher rec.day r
+    v = report_verdict (Some line) e rec.publisher rec.day r
 
     go : (d : Doing) → does_by v ≡ d → NotAfter e.last (report_effect d e (placed_as rec r)).last
     go Doing.Keeps q = not-after-refl e.last
-    go Doing.Confirms q = date-not-after r.date e.last (not-before (With line) e rec.publisher rec.day r (confirmed-by v q))
+    go Doing.Confirms q = date-not-after r.date e.last (not-before (Some line) e rec.publisher rec.day r (confirmed-by v q))
     go Doing.Lapses q = not-after-refl e.last
     go Doing.Nothing q = not-after-refl e.last
-last-by line e rec (Objected o) = go (does_by (objection_verdict (With line) e rec.publisher o))
+last-by line e rec (Objected o) = go (does_by (objection_verdict (Some line) e rec.publisher o))
   where
     go : (d : Doing) → NotAfter e.last (objection_effect d e line.owner o.named).last
     go Doing.Keeps = not-after-refl e.last
@@ -153,21 +150,21 @@ without-tidy e owner named h = record {
   apart = apart-thinned (thinned-set e.places (named_at owner named e.places)) h.apart;
 }
 
-tidy-by : (line : Line) (e : Entry) (rec : Record) (says : Says) → Tidy e → Tidy (effect_by (does_by (verdict_by (With line) e rec.publisher rec.day says)) line e rec says)
+tidy-by : (line : Line) (e : Entry) (rec : Record) (says : Says) → Tidy e → Tidy (effect_by (does_by (verdict_by (Some line) e rec.publisher rec.day says)) line e rec says)
 tidy-by line e rec (Reported p) h = go (does_by v) refl
   where
     r : Report
     r = meant_by line.owner p
 
     v : Verdict
-    v = report_verdict (With line) e rec.publisher rec.day r
+    v = report_verdict (Some line) e rec.publisher rec.day r
 
     go : (d : Doing) → does_by v ≡ d → Tidy (report_effect d e (placed_as rec r))
-    go Doing.Keeps q = kept-tidy e (placed_as rec r) refl (not-open (With line) e rec.publisher rec.day r (kept_by v q)) h
+    go Doing.Keeps q = kept-tidy e (placed_as rec r) refl (not-open (Some line) e rec.publisher rec.day r (kept_by v q)) h
     go Doing.Confirms q = confirmed-tidy e r h
     go Doing.Lapses q = h
     go Doing.Nothing q = h
-tidy-by line e rec (Objected o) h = go (does_by (objection_verdict (With line) e rec.publisher o))
+tidy-by line e rec (Objected o) h = go (does_by (objection_verdict (Some line) e rec.publisher o))
   where
     go : (d : Doing) → Tidy (objection_effect d e line.owner o.named)
     go Doing.Keeps = h
@@ -182,7 +179,7 @@ tidy-stays line e rec h = tidy-by line e rec rec.says h
 
 -- ---- the pair
 explained-by : (line : Line) (s : Standing) (rec : Record) (says : Says) → Explained line s
-    → Explained line (record { entry = effect_by (does_by (verdict_by (With line) s.entry rec.publisher rec.day says)) line s.entry rec says; why = why_by (does_by (verdict_by (With line) s.entry rec.publisher rec.day says)) line.owner s.entry.places s.why rec says })
+    → Explained line (record { entry = effect_by (does_by (verdict_by (Some line) s.entry rec.publisher rec.day says)) line s.entry rec says; why = why_by (does_by (verdict_by (Some line) s.entry rec.publisher rec.day says)) line.owner s.entry.places s.why rec says })
 explained-by line s rec (Reported p) h = go (does_by v) refl
   where
     r : Report
@@ -192,16 +189,16 @@ explained-by line s rec (Reported p) h = go (does_by v) refl
     e = s.entry
 
     v : Verdict
-    v = report_verdict (With line) e rec.publisher rec.day r
+    v = report_verdict (Some line) e rec.publisher rec.day r
 
     go : (d : Doing) → does_by v ≡ d → Explained line (record { entry = report_effect d e (placed_as rec r); why = pair_after d e.places (placed_as rec r) s.why })
     go Doing.Keeps q = record { holder = h.holder; last = h.last; pair = h.pair }
     go Doing.Confirms q =
-        let m = partner-pairs r e.places (partnered (With line) e rec.publisher rec.day r (confirmed-by v q)) in
+        let m = partner-pairs r e.places (partnered (Some line) e rec.publisher rec.day r (confirmed-by v q)) in
         record { holder = refl; last = refl; pair = record { kinds = m.0; matching = m.1 } }
     go Doing.Lapses q = record { holder = h.holder; last = h.last; pair = h.pair }
     go Doing.Nothing q = record { holder = h.holder; last = h.last; pair = h.pair }
-explained-by line s rec (Objected o) h = go (does_by (objection_verdict (With line) s.entry rec.publisher o))
+explained-by line s rec (Objected o) h = go (does_by (objection_verdict (Some line) s.entry rec.publisher o))
   where
     go : (d : Doing) → Explained line (record { entry = objection_effect d s.entry line.owner o.named; why = s.why })
     go Doing.Keeps = record { holder = h.holder; last = h.last; pair = h.pair }

@@ -1,12 +1,12 @@
 -- What holds at every point of a number's history. Assumes nothing: these are definitions.
+use Rattle.calendar.specs.declared.dates.CalendarDays.{CalendarDays}
+use Rattle.std.specs.Prelude.{Option, Some, None}
 use Rattle.std.specs.Prelude.{◌≡◌, Bool, true, false, ◌≤◌, length}
 use Rattle.fields.specs.declared.code.Code.{Code}
 use Rattle.fields.specs.declared.kind.Kind.{Kind}
 use Rattle.verdict.specs.declared.verdicts.Verdict.{Verdict}
 use Rattle.entries.specs.declared.entry.Place.{Place}
 use Rattle.entries.specs.declared.entry.Entry.{Entry}
-use Rattle.entries.specs.declared.entry.Last.{Last}
-use Rattle.entries.specs.declared.entry.Last.TheVariants.{Never, On}
 use Rattle.entries.specs.declared.entry.Line.{Line}
 use Rattle.verdict.specs.declared.step.Why.{Why}
 use Rattle.verdict.specs.declared.step.Why.TheVariants.{Nothing, Pair}
@@ -22,19 +22,19 @@ abbrev pub Discarded : Verdict → Type 0
 Discarded v = does_by v ≡ Doing.Nothing
 
 -- the first date is not after the second; no date is before all
-abbrev pub NotAfter : Last → Last → Type 0
-NotAfter Never l = Unit {0}
-NotAfter (On d) Never = ⊥
-NotAfter (On d) (On l) = d.0 ≤ l.0
+abbrev pub NotAfter : Option CalendarDays → Option CalendarDays → Type 0
+NotAfter None l = Unit {0}
+NotAfter (Some d) None = ⊥
+NotAfter (Some d) (Some l) = d.0 ≤ l.0
 
 -- the holder and the last confirmed date that a pair leads to: its gaining network and its date; without one, the owner and none
 abbrev pub holder_by : Code → Why → Code
 holder_by owner Nothing = owner
 holder_by owner (Pair a b) = b.report.gaining
 
-abbrev pub last_by : Why → Last
-last_by Nothing = Never
-last_by (Pair a b) = On b.report.date
+abbrev pub last_by : Why → Option CalendarDays
+last_by Nothing = None
+last_by (Pair a b) = Some b.report.date
 
 -- one P and one L or Z: L and P in either order, or a Z and then its P
 abbrev pub pairs : Kind → Kind → Bool

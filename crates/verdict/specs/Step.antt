@@ -1,4 +1,5 @@
 -- One record of a number's history, and all of them one after the other in processing order. Assumes nothing: these are definitions.
+use Rattle.std.specs.Prelude.{Option, Some}
 use Rattle.std.specs.Prelude.{true, get_or}
 use mathlib.Core.List.{List, [], ◌∷◌, foldl}
 use Rattle.calendar.specs.declared.dates.CalendarDays.{CalendarDays}
@@ -8,8 +9,6 @@ use Rattle.entries.specs.declared.report.Report.{Report}
 use Rattle.entries.specs.declared.entry.Place.{Place}
 use Rattle.entries.specs.declared.entry.Entry.{Entry}
 use Rattle.entries.specs.declared.entry.Line.{Line}
-use Rattle.entries.specs.declared.entry.Listed.{Listed}
-use Rattle.entries.specs.declared.entry.Listed.TheVariants.{With}
 use Rattle.verdict.specs.declared.step.Says.{Says}
 use Rattle.verdict.specs.declared.step.Says.TheVariants.{Reported, Objected, Other}
 use Rattle.verdict.specs.declared.step.Record.{Record}
@@ -31,12 +30,12 @@ abbrev pub placed_as : Record → Report → Place
 placed_as rec r = record { taken = true; report = r; day = rec.day; at = rec.at }
 
 -- the verdict on a record
-abbrev pub verdict_by : Listed → Entry → Code → CalendarDays → Says → Verdict
+abbrev pub verdict_by : Option Line → Entry → Code → CalendarDays → Says → Verdict
 verdict_by n e from day (Reported p) = report_verdict n e from day (meant_by (line_in n).owner p)
 verdict_by n e from day (Objected o) = objection_verdict n e from o
 verdict_by n e from day Other = other_verdict n
 
-abbrev pub verdict_on : Listed → Entry → Record → Verdict
+abbrev pub verdict_on : Option Line → Entry → Record → Verdict
 verdict_on n e rec = verdict_by n e rec.publisher rec.day rec.says
 
 -- the entry after a record whose verdict does this
@@ -50,7 +49,7 @@ effect_on d line e rec = effect_by d line e rec rec.says
 
 -- the verdict on a record, and the next entry
 abbrev pub step_on : Line → Entry → Record → Outcome
-step_on line e rec = record { verdict = verdict_on (With line) e rec; entry = effect_on (does_by (verdict_on (With line) e rec)) line e rec }
+step_on line e rec = record { verdict = verdict_on (Some line) e rec; entry = effect_on (does_by (verdict_on (Some line) e rec)) line e rec }
 
 -- a confirmed report makes a pair with the open one that it matches, which was processed before it
 abbrev pub paired_in : List Place → Place → Why
@@ -85,7 +84,7 @@ worked line e recs = foldl (entry_after line) e recs
 
 unfoldable pub verdicts : Line → Entry → List Record → List Verdict
 verdicts line e [] = []
-verdicts line e (rec ∷ recs) = verdict_on (With line) e rec ∷ verdicts line (entry_after line e rec) recs
+verdicts line e (rec ∷ recs) = verdict_on (Some line) e rec ∷ verdicts line (entry_after line e rec) recs
 
 abbrev pub standing : Line → Standing → List Record → Standing
 standing line s recs = foldl (stand_on line) s recs

@@ -4,7 +4,7 @@ ghost use Rattle.verdict.specs.correction_rules.Corrections.{is_among, is_permit
 ghost use Rattle.verdict.specs.correction_rules.Code.{first_of};
 
 use crate::verdicts::Verdict;
-use entries::entry::{Entry, Listed, PLACES, Place};
+use entries::entry::{Entry, PLACES, Place};
 use entries::report::Published;
 use entries::{entry, report};
 use fields::code::Code;
@@ -86,7 +86,7 @@ fn first_of(unknown: bool, banned: bool, own: bool, absent: bool) -> Verdict
 }
 
 // The verdict on an objection of the network `by`.
-pub fn verdict(n: Listed, e: Entry, by: Code, o: Objection) -> Verdict
+pub fn verdict(n: Option<Line>, e: Entry, by: Code, o: Objection) -> Verdict
     ensures { result ≡ objection_verdict n e by o }
 {
     let line = entry::line_in(n);
@@ -103,7 +103,7 @@ pub fn verdict(n: Listed, e: Entry, by: Code, o: Objection) -> Verdict
 }
 
 // The verdict on any other correction.
-pub fn other(n: Listed) -> Verdict
+pub fn other(n: Option<Line>) -> Verdict
     ensures { result ≡ other_verdict n }
 {
     if entry::is_missing(n) {

@@ -6,7 +6,7 @@ ghost use Rattle.verdict.specs.report_rules.Code.{first_rule};
 
 use crate::verdicts::Verdict;
 use calendar::dates::CalendarDays;
-use entries::entry::{Entry, Listed};
+use entries::entry::Entry;
 use entries::report::Report;
 use entries::{entry, report};
 use fields::code::Code;
@@ -66,7 +66,7 @@ fn first_rule(
 
 // The lines 13 to the second 11 on a report that the network `from` published on `day`; `otherwise` where none applies.
 pub fn ruled(
-    n: Listed,
+    n: Option<Line>,
     e: Entry,
     from: Code,
     day: CalendarDays,
@@ -98,7 +98,7 @@ pub fn ruled(
 }
 
 // The verdict on it.
-pub fn verdict(n: Listed, e: Entry, from: Code, day: CalendarDays, r: Report) -> Verdict
+pub fn verdict(n: Option<Line>, e: Entry, from: Code, day: CalendarDays, r: Report) -> Verdict
     ensures { result ≡ report_verdict n e from day r }
 {
     if entry::is_missing(n) {

@@ -5,8 +5,8 @@ ghost use Rattle.verdict.specs.report_tests.Tests.{return_period, to_other, befo
 
 use calendar::dates::CalendarDays;
 use calendar::working_days;
-use calendar::working_days::{Later, WorkingDays};
-use entries::entry::{Last, PLACES, Place};
+use calendar::working_days::WorkingDays;
+use entries::entry::{PLACES, Place};
 use entries::report::Report;
 use fields::code::Code;
 use fields::kind::Kind;
@@ -26,21 +26,21 @@ pub fn to_other(owner: Code, r: Report) -> bool
     }
 }
 
-pub fn before_last(date: CalendarDays, last: Last) -> bool
+pub fn before_last(date: CalendarDays, last: Option<CalendarDays>) -> bool
     ensures { result ≡ before_last date last }
 {
     match last {
-        Last::Never => false,
-        Last::On(l) => date.0 < l.0,
+        None => false,
+        Some(l) => date.0 < l.0,
     }
 }
 
-pub fn equals_last(date: CalendarDays, last: Last) -> bool
+pub fn equals_last(date: CalendarDays, last: Option<CalendarDays>) -> bool
     ensures { result ≡ equals_last date last }
 {
     match last {
-        Last::Never => false,
-        Last::On(l) => date.0 == l.0,
+        None => false,
+        Some(l) => date.0 == l.0,
     }
 }
 
@@ -69,12 +69,12 @@ pub fn zed_open(places: [Place; PLACES], r: Report) -> bool
 }
 
 // The day is before this one, or the calendar ends first.
-fn not_yet(day: CalendarDays, earliest: Later) -> bool
+fn not_yet(day: CalendarDays, earliest: Option<CalendarDays>) -> bool
     ensures { result ≡ not_yet day earliest }
 {
     match earliest {
-        Later::On(d) => day.0 < d.0,
-        Later::Ends => true,
+        Some(d) => day.0 < d.0,
+        None => true,
     }
 }
 
@@ -87,7 +87,7 @@ fn zed_day(places: [Place; PLACES], r: Report) -> CalendarDays
 }
 
 // The day from which on a P may answer a Z that was published on this one.
-fn earliest(published: CalendarDays) -> Later
+fn earliest(published: CalendarDays) -> Option<CalendarDays>
     ensures { result ≡ working_day_after published.0 return_period }
 {
     working_days::working_day_after(published, RETURN_PERIOD)

@@ -6,7 +6,7 @@ use crate::correction_rules::Objection;
 use crate::verdicts;
 use crate::verdicts::{Doing, Verdict};
 use calendar::dates::CalendarDays;
-use entries::entry::{Entry, Line, Listed, PLACES, Place};
+use entries::entry::{Entry, Line, PLACES, Place};
 use entries::report::{Published, Report};
 use entries::{entry, report};
 use fields::code::Code;
@@ -63,7 +63,7 @@ fn placed(rec: Record, r: Report) -> Place
 }
 
 // The verdict on a record.
-pub fn verdict(n: Listed, e: Entry, rec: Record) -> Verdict
+pub fn verdict(n: Option<Line>, e: Entry, rec: Record) -> Verdict
     ensures { result ≡ verdict_on n e rec }
 {
     let says = rec.says;
@@ -100,7 +100,7 @@ pub fn effect(d: Doing, line: Line, e: Entry, rec: Record) -> Entry
 pub fn step(line: Line, e: Entry, rec: Record) -> Outcome
     ensures { result ≡ step_on line e rec }
 {
-    let v = verdict(Listed::With(line), e, rec);
+    let v = verdict(Some(line), e, rec);
     let next = effect(verdicts::does(v), line, e, rec);
     Outcome {
         verdict: v,

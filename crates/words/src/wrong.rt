@@ -3,7 +3,6 @@ use crate::field::Field;
 use crate::{number, text};
 use desk::Host;
 use faults::cause::Cause;
-use text::Spelt;
 
 fn characters(rt: &impl Host, n: usize) {
     number(rt, n);
@@ -44,8 +43,8 @@ fn length(rt: &impl Host, field: Field, n: usize) {
 
 fn is_number(found: &[u8]) -> bool {
     match text::read_digits(found, false) {
-        Spelt::Value(_) => true,
-        Spelt::Fault => false,
+        Some(_) => true,
+        None => false,
     }
 }
 

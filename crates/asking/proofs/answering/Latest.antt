@@ -1,4 +1,5 @@
 -- The pair that is shown is the one of the last record that was confirmed, and none is shown exactly if none was. Assumes nothing.
+use Rattle.std.specs.Prelude.{Some}
 use mathlib.Core.Path.{◌≡◌, refl, sym, ap, ◌∙◌}
 use mathlib.Core.Logic.{◌⊎◌, inl, inr, ⊎_elim}
 use mathlib.Core.Bool.{Bool, true, false, not, true≢false}
@@ -12,7 +13,6 @@ use Rattle.fields.specs.declared.code.Code.{Code}
 use Rattle.entries.specs.declared.entry.Place.{Place}
 use Rattle.entries.specs.declared.entry.Entry.{Entry}
 use Rattle.entries.specs.declared.entry.Line.{Line}
-use Rattle.entries.specs.declared.entry.Listed.TheVariants.{With}
 use Rattle.entries.specs.Report.{meant_by}
 use Rattle.verdict.specs.declared.verdicts.Verdict.{Verdict}
 use Rattle.verdict.specs.declared.verdicts.Doing.{Doing}
@@ -57,7 +57,7 @@ why-by v owner ps before rec Says.Other e = refl
 
 why-stays : (line : Line) (s : Standing) (e : Event) → confirms line s.entry e ≡ false → (stand_on line s (record_of e)).why ≡ s.why
 unfolding stand_on
-why-stays line s e h = why-by (verdict_on (With line) s.entry (record_of e)) line.owner s.entry.places s.why (record_of e) (record_of e).says h
+why-stays line s e h = why-by (verdict_on (Some line) s.entry (record_of e)) line.owner s.entry.places s.why (record_of e) (record_of e).says h
 
 none_more : (line : Line) (s : Standing) (e : Event) (es : List Event) → confirms line s.entry e ≡ false → none_confirms line (stand_on line s (record_of e)).entry es ≡ true → none_confirms line s.entry (e ∷ es) ≡ true
 unfolding stand_on entry_after none_confirms
@@ -85,16 +85,16 @@ latest line s (e ∷ es) =
     here false c w = inl (none_more line s e es c w.0, w.1 ∙ why-stays line s e c)
 
 -- ---- a confirmed record makes a pair
-never-11 : (line : Line) (entry : Entry) (from : Code) (o : Objection) → is_confirmed (objection_verdict (With line) entry from o) ≡ true → ⊥
+never-11 : (line : Line) (entry : Entry) (from : Code) (o : Objection) → is_confirmed (objection_verdict (Some line) entry from o) ≡ true → ⊥
 unfolding any
-never-11 line entry from o h = true≢false (sym (line-applied is_confirmed (objection_table (With line) entry from o) Verdict.Lapses refl h))
+never-11 line entry from o h = true≢false (sym (line-applied is_confirmed (objection_table (Some line) entry from o) Verdict.Lapses refl h))
 
-pair-by : (line : Line) (s : Standing) (e : Event) (says : Says) → is_confirmed (verdict_by (With line) s.entry (record_of e).publisher (record_of e).day says) ≡ true
-    → why_by (does_by (verdict_by (With line) s.entry (record_of e).publisher (record_of e).day says)) line.owner s.entry.places s.why (record_of e) says ≡ Why.Nothing → ⊥
+pair-by : (line : Line) (s : Standing) (e : Event) (says : Says) → is_confirmed (verdict_by (Some line) s.entry (record_of e).publisher (record_of e).day says) ≡ true
+    → why_by (does_by (verdict_by (Some line) s.entry (record_of e).publisher (record_of e).day says)) line.owner s.entry.places s.why (record_of e) says ≡ Why.Nothing → ⊥
 pair-by line s e (Says.Reported p) h k = apart _ _ (sym (ap (λ (d : Doing). pair_after d s.entry.places (placed_as (record_of e) (meant_by line.owner p)) s.why) (confirmed-does v h)) ∙ k)
   where
     v : Verdict
-    v = report_verdict (With line) s.entry (record_of e).publisher (record_of e).day (meant_by line.owner p)
+    v = report_verdict (Some line) s.entry (record_of e).publisher (record_of e).day (meant_by line.owner p)
 
     apart : (a b : Place) → Why.Pair a b ≡ Why.Nothing → ⊥
     apart a b q = let z : ◌≡◌ {A = ℕ} 0 1 = cc in absurd (omega arith)

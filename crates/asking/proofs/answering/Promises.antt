@@ -6,6 +6,7 @@
 --     verdict-promise        the verdict shown is the model's, at the record's own point of the history
 --     figure-promise         whatever was written over the entries, the figure is the number of those that were changed
 --     figure-of-changes, figure-nothing, changed-at (`Figures`), part-bytes, record-promise (`Parts`)
+use Rattle.std.specs.Prelude.{Option, Some, None}
 use mathlib.Core.Path.{◌≡◌, refl, sym, ap, subst, ◌∙◌}
 use mathlib.Core.Logic.{◌⊎◌, inl, inr, ⊎_elim}
 use mathlib.Core.Bool.{true, false, not, true≢false}
@@ -19,7 +20,6 @@ use Rattle.fields.specs.declared.number.Number.{Number}
 use Rattle.entries.specs.declared.entry.Place.{Place}
 use Rattle.entries.specs.declared.entry.Entry.{Entry}
 use Rattle.entries.specs.declared.entry.Line.{Line}
-use Rattle.entries.specs.declared.entry.Last.TheVariants.{Never, On}
 use Rattle.entries.specs.Entry.{first_entry}
 use Rattle.verdict.specs.declared.step.Why.{Why}
 use Rattle.verdict.specs.declared.step.Standing.{Standing}
@@ -74,7 +74,7 @@ pub record PairShown (s : Store rules) (number : Number) (line : TableLine Numbe
   pub entry : Entry
   pub held : entry_of rules s.lines s.entries number ≡ some entry
   pub holder : entry.holder ≡ second.report.gaining
-  pub last : entry.last ≡ On second.report.date
+  pub last : entry.last ≡ Some second.report.date
 
 -- none is shown
 pub record NoneShown (s : Store rules) (number : Number) (line : TableLine Number) : Type 0 where
@@ -83,7 +83,7 @@ pub record NoneShown (s : Store rules) (number : Number) (line : TableLine Numbe
   pub entry : Entry
   pub held : entry_of rules s.lines s.entries number ≡ some entry
   pub holder : entry.holder ≡ (line_by line).owner
-  pub last : entry.last ≡ Never
+  pub last : entry.last ≡ None
 
 -- ---- where a line stands, over its records
 explained-events : (line : Line) (s : Standing) (es : List Event) → Explained line s → Explained line (standing line s es)

@@ -1,4 +1,5 @@
 -- A store that reads can be shown from, and what a look shows of it is its answer. Assumes nothing.
+use Rattle.std.specs.Prelude.{Option, Some, None}
 use mathlib.Core.Path.{◌≡◌, refl, sym, ap, ◌∙◌}
 use mathlib.Core.Bool.{Bool, true, false, cond}
 use mathlib.Core.List.{List}
@@ -7,7 +8,6 @@ use Prim.Native.Nat.{ℕ, ◌≤◌}
 use borrow.Author.Tests.{le-leb}
 use Rattle.laws.specs.Lists.{table}
 use Rattle.fields.specs.declared.number.Number.{Number}
-use Rattle.fields.specs.declared.number.NumberRead.{NumberRead}
 use Rattle.store.specs.journals.Reads.{read_files}
 use Rattle.store.specs.declared.journals.records.Journal.{Journal}
 use Rattle.store.specs.numbers.Lines.{line_count}
@@ -89,23 +89,23 @@ module _ (t f r c e : List ℕ) where
     read = reads-some b whole
 
     -- ---- the answers of a store that reads
-    pub entry-asked : (x : Number) (l : LookedEntry) (a : EntryAnswer) → l ≡ entry_looked t e x → a ≡ entry_answer l → a ≡ entry_asked (reads b) (NumberRead.Number x)
+    pub entry-asked : (x : Number) (l : LookedEntry) (a : EntryAnswer) → l ≡ entry_looked t e x → a ≡ entry_answer l → a ≡ entry_asked (reads b) (Some x)
     unfolding held entry_looked
     entry-asked x l a q p =
         p ∙ ap entry_answer (q ∙ ap (λ (u : Bool). cond u (entry_look (entry_in (lines_in t) (table (line_count t) (entry_at e)) x)) (not_seen Look.Unshowable)) entries-too)
-        ∙ entry-back (entry_in (lines_in t) (table (line_count t) (entry_at e)) x) ∙ ap (λ (h : Option Held). entry_asked h (NumberRead.Number x)) (sym read)
+        ∙ entry-back (entry_in (lines_in t) (table (line_count t) (entry_at e)) x) ∙ ap (λ (h : Option Held). entry_asked h (Some x)) (sym read)
 
-    pub before-asked : (n : ℕ) (x : Number) (l : LookedEntry) (a : EntryAnswer) → l ≡ before_looked t f r c n x → a ≡ entry_answer l → a ≡ before_asked (reads b) n (NumberRead.Number x)
+    pub before-asked : (n : ℕ) (x : Number) (l : LookedEntry) (a : EntryAnswer) → l ≡ before_looked t f r c n x → a ≡ entry_answer l → a ≡ before_asked (reads b) n (Some x)
     unfolding held before_looked
     before-asked n x l a q p =
         p ∙ ap entry_answer (q ∙ ap (λ (u : Bool). cond u (entry_look (entry_before (lines_in t) (read_files f r c) n x)) (not_seen Look.Unshowable)) showing)
-        ∙ entry-back (entry_before (lines_in t) (read_files f r c) n x) ∙ ap (λ (h : Option Held). before_asked h n (NumberRead.Number x)) (sym read)
+        ∙ entry-back (entry_before (lines_in t) (read_files f r c) n x) ∙ ap (λ (h : Option Held). before_asked h n (Some x)) (sym read)
 
-    pub why-asked : (x : Number) (l : LookedWhy) (a : WhyAnswer) → l ≡ why_looked t f r c x → a ≡ why_answer l → a ≡ why_asked (reads b) (NumberRead.Number x)
+    pub why-asked : (x : Number) (l : LookedWhy) (a : WhyAnswer) → l ≡ why_looked t f r c x → a ≡ why_answer l → a ≡ why_asked (reads b) (Some x)
     unfolding held why_looked
     why-asked x l a q p =
         p ∙ ap why_answer (q ∙ ap (λ (u : Bool). cond u (why_look (why_in (lines_in t) (read_files f r c) x)) LookedWhy.Unshowable) showing)
-        ∙ why-back (why_in (lines_in t) (read_files f r c) x) ∙ ap (λ (h : Option Held). why_asked h (NumberRead.Number x)) (sym read)
+        ∙ why-back (why_in (lines_in t) (read_files f r c) x) ∙ ap (λ (h : Option Held). why_asked h (Some x)) (sym read)
 
     pub record-asked : (which : Journal) (place : ℕ) (l : LookedRecord) (a : Asked) → l ≡ record_looked t f r c which place → a ≡ record_answer l → a ≡ record_asked (reads b) which place
     unfolding held record_looked
@@ -114,27 +114,27 @@ module _ (t f r c e : List ℕ) where
         ∙ record-back (asked_in (lines_in t) (read_files f r c) which place) ∙ ap (λ (h : Option Held). record_asked h which place) (sym read)
 
     -- a malformed number
-    pub entry-fault : not_held Answer.UnknownNumber ≡ entry_asked (reads b) NumberRead.Fault
-    entry-fault = ap (λ (h : Option Held). entry_asked h NumberRead.Fault) (sym read)
+    pub entry-fault : not_held Answer.UnknownNumber ≡ entry_asked (reads b) None
+    entry-fault = ap (λ (h : Option Held). entry_asked h None) (sym read)
 
-    pub before-fault : (n : ℕ) → not_held Answer.UnknownNumber ≡ before_asked (reads b) n NumberRead.Fault
-    before-fault n = ap (λ (h : Option Held). before_asked h n NumberRead.Fault) (sym read)
+    pub before-fault : (n : ℕ) → not_held Answer.UnknownNumber ≡ before_asked (reads b) n None
+    before-fault n = ap (λ (h : Option Held). before_asked h n None) (sym read)
 
-    pub why-fault : WhyAnswer.UnknownNumber ≡ why_asked (reads b) NumberRead.Fault
-    why-fault = ap (λ (h : Option Held). why_asked h NumberRead.Fault) (sym read)
+    pub why-fault : WhyAnswer.UnknownNumber ≡ why_asked (reads b) None
+    why-fault = ap (λ (h : Option Held). why_asked h None) (sym read)
 
   -- ---- 44 before all else
   module _ (not : is_readable b ≡ false) where
     nothing : reads b ≡ none
     nothing = reads_none b not
 
-    pub entry-unread : (x : NumberRead) → not_held Answer.Unreadable ≡ entry_asked (reads b) x
+    pub entry-unread : (x : Option Number) → not_held Answer.Unreadable ≡ entry_asked (reads b) x
     entry-unread x = ap (λ (h : Option Held). entry_asked h x) (sym nothing)
 
-    pub before-unread : (n : ℕ) (x : NumberRead) → not_held Answer.Unreadable ≡ before_asked (reads b) n x
+    pub before-unread : (n : ℕ) (x : Option Number) → not_held Answer.Unreadable ≡ before_asked (reads b) n x
     before-unread n x = ap (λ (h : Option Held). before_asked h n x) (sym nothing)
 
-    pub why-unread : (x : NumberRead) → WhyAnswer.Unreadable ≡ why_asked (reads b) x
+    pub why-unread : (x : Option Number) → WhyAnswer.Unreadable ≡ why_asked (reads b) x
     why-unread x = ap (λ (h : Option Held). why_asked h x) (sym nothing)
 
     pub record-unread : (which : Journal) (place : ℕ) → Asked.Unreadable ≡ record_asked (reads b) which place

@@ -1,5 +1,6 @@
 -- Where the reports of a number's open places and of its last confirmed pair come from: each is a record of its history, published by the network that
 -- has to; of a pair, the first one stands before the second. Assumes nothing.
+use Rattle.std.specs.Prelude.{Some}
 use mathlib.Core.Path.{◌≡◌, refl, sym, ap, subst, ◌∙◌}
 use mathlib.Core.Logic.{◌⊎◌, inl, inr, ⊎_elim}
 use mathlib.Core.Bool.{Bool, true, false, cond, true≢false}
@@ -19,7 +20,6 @@ use Rattle.entries.specs.declared.report.Report.{Report}
 use Rattle.entries.specs.declared.entry.Place.{Place}
 use Rattle.entries.specs.declared.entry.Entry.{Entry}
 use Rattle.entries.specs.declared.entry.Line.{Line}
-use Rattle.entries.specs.declared.entry.Listed.TheVariants.{With}
 use Rattle.entries.specs.Entry.{free_place}
 use Rattle.entries.specs.Report.{meant_by, publisher_of, same_code, matches}
 use Rattle.entries.specs.places.Places.{lowest_free, lapsed}
@@ -129,19 +129,19 @@ pair-more owner es more (Why.Pair a b) h = record {
 -- ---- what the table of reports says of a report that is kept or confirmed
 module _ (line : Line) (e : Entry) (from : Code) (day : CalendarDays) (r : Report) where
   abbrev v : Verdict
-  v = report_verdict (With line) e from day r
+  v = report_verdict (Some line) e from day r
 
   from-kept : is_kept v ≡ true → from ≡ publisher_of r
   unfolding any
-  from-kept k = same_code_lem from (publisher_of r) (not-false _ (line-passed is_kept 1 (false, Kept) (report_table (With line) e from day r) Kept (lit≤ tt) refl k))
+  from-kept k = same_code_lem from (publisher_of r) (not-false _ (line-passed is_kept 1 (false, Kept) (report_table (Some line) e from day r) Kept (lit≤ tt) refl k))
 
   from-confirmed : is_confirmed v ≡ true → from ≡ publisher_of r
   unfolding any
-  from-confirmed k = same_code_lem from (publisher_of r) (not-false _ (line-passed is_confirmed 1 (false, Kept) (report_table (With line) e from day r) Kept (lit≤ tt) refl k))
+  from-confirmed k = same_code_lem from (publisher_of r) (not-false _ (line-passed is_confirmed 1 (false, Kept) (report_table (Some line) e from day r) Kept (lit≤ tt) refl k))
 
   networks-differ : is_confirmed v ≡ true → same_code r.losing r.gaining ≡ false
   unfolding any
-  networks-differ k = line-passed is_confirmed 2 (false, Kept) (report_table (With line) e from day r) Kept (lit≤ tt) refl k
+  networks-differ k = line-passed is_confirmed 2 (false, Kept) (report_table (Some line) e from day r) Kept (lit≤ tt) refl k
 
   -- a report that is confirmed makes no pair with a free place: that one has no two networks
   not_free : (p : Place) → is_confirmed v ≡ true → p ≡ free_place → matches p.report r ≡ true → ⊥
@@ -161,8 +161,8 @@ lapsed-or d p = go (leb p.report.date.0 d.0)
 -- ---- one record more
 abbrev after : Line → Standing → Event → Says → Standing
 after line s e says = record {
-  entry = effect_by (does_by (verdict_by (With line) s.entry (record_of e).publisher (record_of e).day says)) line s.entry (record_of e) says;
-  why = why_by (does_by (verdict_by (With line) s.entry (record_of e).publisher (record_of e).day says)) line.owner s.entry.places s.why (record_of e) says;
+  entry = effect_by (does_by (verdict_by (Some line) s.entry (record_of e).publisher (record_of e).day says)) line s.entry (record_of e) says;
+  why = why_by (does_by (verdict_by (Some line) s.entry (record_of e).publisher (record_of e).day says)) line.owner s.entry.places s.why (record_of e) says;
 }
 
 -- what it leaves as it is
@@ -180,7 +180,7 @@ root_by line es s e (Says.Reported p) q x h = go (does_by w) refl x
     r = meant_by line.owner p
 
     w : Verdict
-    w = report_verdict (With line) s.entry (record_of e).publisher (record_of e).day r
+    w = report_verdict (Some line) s.entry (record_of e).publisher (record_of e).day r
 
     second : Place
     second = placed_as (record_of e) r
@@ -222,7 +222,7 @@ root_by line es s e (Says.Reported p) q x h = go (does_by w) refl x
         }
     go Doing.Lapses g m = record { places = old; pair = pair-more line.owner es (e ∷ []) s.why h.pair }
     go Doing.Nothing g m = record { places = old; pair = pair-more line.owner es (e ∷ []) s.why h.pair }
-root_by line es s e (Says.Objected o) q x h = go (does_by (objection_verdict (With line) s.entry (record_of e).publisher o))
+root_by line es s e (Says.Objected o) q x h = go (does_by (objection_verdict (Some line) s.entry (record_of e).publisher o))
   where
     as_before : Rooted line.owner (es ++ (e ∷ [])) s
     as_before = rooted_more line es s e h

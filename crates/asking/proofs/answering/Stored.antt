@@ -1,4 +1,7 @@
 -- A report of a number's history stands in the regular journal at the place that is shown. Assumes nothing.
+use Rattle.layout.specs.declared.report.Report.{Report}
+use Rattle.layout.specs.declared.correction.Correction.{Correction}
+use Rattle.std.specs.Prelude.{Option, Some, None}
 use mathlib.Core.Path.{◌≡◌, refl, sym, ap, ◌∙◌}
 use mathlib.Core.Bool.{Bool, true, false, cond, ◌&&◌, true≢false}
 use mathlib.Core.List.Memᴰ
@@ -20,8 +23,6 @@ use Rattle.laws.proofs.Tests.{and_left, and_right}
 use Rattle.fields.specs.declared.code.Code.{Code}
 use Rattle.fields.specs.declared.number.Number.{Number}
 use Rattle.fields.specs.CorrectionCode.{is_objection}
-use Rattle.layout.specs.declared.correction.CorrectionRead.{CorrectionRead}
-use Rattle.layout.specs.declared.report.ReportRead.{ReportRead}
 use Rattle.layout.specs.Report.{whole_of}
 use Rattle.layout.specs.Correction.{correction_of}
 use Rattle.entries.specs.declared.report.Published.{Published}
@@ -39,20 +40,20 @@ use Rattle.asking.proofs.Lines.{item-at}
 use Rattle.asking.proofs.answering.Roots.{Root}
 
 -- ---- only a record of a default file is a report
-not-reported : (r : CorrectionRead) (p : Published) → corrected r ≡ Says.Reported p → ⊥
-not-reported (CorrectionRead.Correction c) p e = go (is_objection c.code) (whole_of c.u) e
+not-reported : (r : Option Correction) (p : Published) → corrected r ≡ Says.Reported p → ⊥
+not-reported (Some c) p e = go (is_objection c.code) (whole_of c.u) e
   where
-    go : (b : Bool) (t : ReportRead) → cond b (objected c.code.0 t) Says.Other ≡ Says.Reported p → ⊥
-    go true (ReportRead.Report r) q = let z : ◌≡◌ {A = ℕ} 0 1 = cc in absurd (omega arith)
-    go true ReportRead.Fault q = let z : ◌≡◌ {A = ℕ} 0 1 = cc in absurd (omega arith)
+    go : (b : Bool) (t : Option Report) → cond b (objected c.code.0 t) Says.Other ≡ Says.Reported p → ⊥
+    go true (Some r) q = let z : ◌≡◌ {A = ℕ} 0 1 = cc in absurd (omega arith)
+    go true None q = let z : ◌≡◌ {A = ℕ} 0 1 = cc in absurd (omega arith)
     go false t q = let z : ◌≡◌ {A = ℕ} 0 1 = cc in absurd (omega arith)
-not-reported CorrectionRead.Fault p e = let z : ◌≡◌ {A = ℕ} 0 1 = cc in absurd (omega arith)
+not-reported None p e = let z : ◌≡◌ {A = ℕ} 0 1 = cc in absurd (omega arith)
 
 kind-reported : (kind : ℕ) (bytes : List ℕ) (p : Published) → says_in kind bytes ≡ Says.Reported p → kind ≡ 0
 unfolding says_in
 kind-reported zero bytes p e = refl
 kind-reported (suc zero) bytes p e = absurd (not-reported (correction_of bytes) p e)
-kind-reported (suc (suc kind)) bytes p e = absurd (not-reported CorrectionRead.Fault p e)
+kind-reported (suc (suc kind)) bytes p e = absurd (not-reported None p e)
 
 -- ---- the regular journal, from its first file on
 journal-yes : (g : Filed) (fs : List Filed) → g.kind ≡ 0 → journal_of 0 (g ∷ fs) ≡ events g ++ journal_of 0 fs

@@ -1,8 +1,8 @@
 -- Which records of a number's history are confirmed, and which of two is processed first. Assumes nothing: these are definitions.
+use Rattle.std.specs.Prelude.{Some}
 use Rattle.std.specs.Prelude.{Bool, true, not, ◌&&◌, List, [], ◌∷◌}
 use Rattle.entries.specs.declared.entry.Entry.{Entry}
 use Rattle.entries.specs.declared.entry.Line.{Line}
-use Rattle.entries.specs.declared.entry.Listed.TheVariants.{With}
 use Rattle.verdict.specs.verdicts.Does.{is_confirmed}
 use Rattle.verdict.specs.Step.{verdict_on, entry_after}
 use Rattle.model.specs.Rules.{Event}
@@ -15,7 +15,7 @@ processed_before d e = not (not_later rules e d)
 
 -- a record is confirmed on an entry: it gets 11
 abbrev pub confirms : Line → Entry → Event → Bool
-confirms line entry e = is_confirmed (verdict_on (With line) entry (record_of e))
+confirms line entry e = is_confirmed (verdict_on (Some line) entry (record_of e))
 
 -- none of these records does, processed one after the other from an entry on
 unfoldable pub none_confirms : Line → Entry → List Event → Bool

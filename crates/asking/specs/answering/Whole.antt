@@ -1,9 +1,10 @@
 -- What a whole store answers: 44 before all else, then 12 for a number that is malformed or not in the table. Assumes nothing: these are definitions.
+use Rattle.fields.specs.declared.number.Number.{Number}
+use Rattle.fields.specs.declared.number.Digits.{Digits}
+use Rattle.std.specs.Prelude.{Option, Some, None}
 use Rattle.std.specs.Prelude.{List, ℕ}
 use Rattle.std.proofs.Math.Option.{Option, none, some}
 use Rattle.fields.specs.Number.{digits_field_of, number_of}
-use Rattle.fields.specs.declared.number.DigitsRead.{DigitsRead}
-use Rattle.fields.specs.declared.number.NumberRead.{NumberRead}
 use Rattle.store.specs.declared.journals.records.Journal.{Journal}
 use Rattle.store.specs.Reads.{Held}
 use Rattle.asking.specs.declared.answer.Answer.{Answer}
@@ -15,27 +16,27 @@ use Rattle.asking.specs.Why.{why_in}
 use Rattle.asking.specs.Record.{asked_in}
 
 -- the number that two fields give
-abbrev pub second_field : DigitsRead → List ℕ → NumberRead
-second_field (DigitsRead.Digits d) last = number_of d last
-second_field DigitsRead.Fault last = NumberRead.Fault
+abbrev pub second_field : Option Digits → List ℕ → Option Number
+second_field (Some d) last = number_of d last
+second_field None last = None
 
-abbrev pub number_given : List ℕ → List ℕ → NumberRead
+abbrev pub number_given : List ℕ → List ℕ → Option Number
 number_given first last = second_field (digits_field_of first) last
 
-abbrev pub entry_asked : Option Held → NumberRead → EntryAnswer
+abbrev pub entry_asked : Option Held → Option Number → EntryAnswer
 entry_asked none x = not_held Answer.Unreadable
-entry_asked (some h) (NumberRead.Number x) = entry_in h.lines h.entries x
-entry_asked (some h) NumberRead.Fault = not_held Answer.UnknownNumber
+entry_asked (some h) (Some x) = entry_in h.lines h.entries x
+entry_asked (some h) None = not_held Answer.UnknownNumber
 
-abbrev pub before_asked : Option Held → ℕ → NumberRead → EntryAnswer
+abbrev pub before_asked : Option Held → ℕ → Option Number → EntryAnswer
 before_asked none n x = not_held Answer.Unreadable
-before_asked (some h) n (NumberRead.Number x) = entry_before h.lines h.files n x
-before_asked (some h) n NumberRead.Fault = not_held Answer.UnknownNumber
+before_asked (some h) n (Some x) = entry_before h.lines h.files n x
+before_asked (some h) n None = not_held Answer.UnknownNumber
 
-abbrev pub why_asked : Option Held → NumberRead → WhyAnswer
+abbrev pub why_asked : Option Held → Option Number → WhyAnswer
 why_asked none x = WhyAnswer.Unreadable
-why_asked (some h) (NumberRead.Number x) = why_in h.lines h.files x
-why_asked (some h) NumberRead.Fault = WhyAnswer.UnknownNumber
+why_asked (some h) (Some x) = why_in h.lines h.files x
+why_asked (some h) None = WhyAnswer.UnknownNumber
 
 abbrev pub record_asked : Option Held → Journal → ℕ → Asked
 record_asked none which place = Asked.Unreadable

@@ -10,18 +10,18 @@ use crate::looks::{Look, LookedEntry, LookedRecord, LookedWhy};
 use crate::pairs::WhyAnswer;
 use crate::record::Asked;
 use crate::{entry, record, why};
-use fields::number::{Digits, DigitsRead, Number, NumberRead};
+use fields::number::{Digits, Number};
 use store::journals::records::Journal;
 use store::readable;
 
 // The number that two fields give.
-pub fn given(first: &[u8], last: &[u8]) -> NumberRead
+pub fn given(first: &[u8], last: &[u8]) -> Option<Number>
     ensures { result ≡ number_given first.now last.now }
 {
     let read = Digits::read(first);
     match read {
-        DigitsRead::Digits(d) => Number::read(d, last),
-        DigitsRead::Fault => NumberRead::Fault,
+        Some(d) => Number::read(d, last),
+        None => None,
     }
 }
 
@@ -77,7 +77,7 @@ pub fn entry<'a>(
     regular: &'a [u8],
     corrections: &'a [u8],
     entries: &[u8],
-    number: NumberRead,
+    number: Option<Number>,
 ) -> EntryAnswer
     ensures { result ≡ entry_asked (reads (lent table.now files.now regular.now corrections.now entries.now)) number }
 {
@@ -85,8 +85,8 @@ pub fn entry<'a>(
         return entry::not_held(Answer::Unreadable);
     }
     match number {
-        NumberRead::Number(x) => entry_answer(entry::look(table, entries, x)),
-        NumberRead::Fault => entry::not_held(Answer::UnknownNumber),
+        Some(x) => entry_answer(entry::look(table, entries, x)),
+        None => entry::not_held(Answer::UnknownNumber),
     }
 }
 
@@ -98,7 +98,7 @@ pub fn before<'a>(
     corrections: &'a [u8],
     entries: &[u8],
     n: usize,
-    number: NumberRead,
+    number: Option<Number>,
 ) -> EntryAnswer
     ensures { result ≡ before_asked (reads (lent table.now files.now regular.now corrections.now entries.now)) n number }
 {
@@ -106,11 +106,11 @@ pub fn before<'a>(
         return entry::not_held(Answer::Unreadable);
     }
     match number {
-        NumberRead::Number(x) => {
+        Some(x) => {
             let looked = entry::look_before(table, files, n, regular, corrections, x);
             entry_answer(looked)
         }
-        NumberRead::Fault => entry::not_held(Answer::UnknownNumber),
+        None => entry::not_held(Answer::UnknownNumber),
     }
 }
 
@@ -121,7 +121,7 @@ pub fn why<'a>(
     regular: &'a [u8],
     corrections: &'a [u8],
     entries: &[u8],
-    number: NumberRead,
+    number: Option<Number>,
 ) -> WhyAnswer
     ensures { result ≡ why_asked (reads (lent table.now files.now regular.now corrections.now entries.now)) number }
 {
@@ -129,8 +129,8 @@ pub fn why<'a>(
         return WhyAnswer::Unreadable;
     }
     match number {
-        NumberRead::Number(x) => why_answer(why::look(table, files, regular, corrections, x)),
-        NumberRead::Fault => WhyAnswer::UnknownNumber,
+        Some(x) => why_answer(why::look(table, files, regular, corrections, x)),
+        None => WhyAnswer::UnknownNumber,
     }
 }
 

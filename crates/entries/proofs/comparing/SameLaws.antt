@@ -1,5 +1,7 @@
 -- The comparison of entries is equality. Assumes nothing.
 --     same-entry-equal, same-entry-refl   two entries are the same exactly if they are equal
+use Rattle.calendar.specs.declared.dates.CalendarDays.{CalendarDays}
+use Rattle.std.specs.Prelude.{Option, Some, None}
 use mathlib.Core.Path.{◌≡◌, refl, ap}
 use mathlib.Core.Bool.{true, ◌&&◌}
 use borrow.Author.Tests.{eqb-true}
@@ -9,8 +11,6 @@ use Rattle.laws.proofs.Tests.{and_left, and_right, both_true, both_refl, eqb_ref
 use Rattle.laws.proofs.Same.{same-equal, same_refl}
 use Rattle.entries.specs.declared.entry.Place.{Place}
 use Rattle.entries.specs.declared.entry.Entry.{Entry}
-use Rattle.entries.specs.declared.entry.Last.{Last}
-use Rattle.entries.specs.declared.entry.Last.TheVariants.{Never, On}
 use Rattle.entries.specs.Report.{kind_no, same_kind, same_code, same_day, matches}
 use Rattle.entries.proofs.SameLaws.{same_kind_lem, same_code_lem, same-day, matches-equal, matches-refl}
 use Rattle.entries.specs.comparing.Same.{same_taken, same_place, same_last, same_entry}
@@ -37,15 +37,15 @@ same-place-refl : (p : Place) → same_place p p ≡ true
 unfolding same_place
 same-place-refl p = rw (both_refl p.taken, eqb_refl (kind_no p.report.kind), matches-refl p.report, eqb_refl p.day.0, eqb_refl p.at)
 
-same-last-equal : (l m : Last) → same_last l m ≡ true → l ≡ m
-same-last-equal Never Never e = refl
-same-last-equal Never (On t) e = cc
-same-last-equal (On d) Never e = cc
-same-last-equal (On d) (On t) e = ap On (same-day d t e)
+same-last-equal : (l m : Option CalendarDays) → same_last l m ≡ true → l ≡ m
+same-last-equal None None e = refl
+same-last-equal None (Some t) e = cc
+same-last-equal (Some d) None e = cc
+same-last-equal (Some d) (Some t) e = ap Some (same-day d t e)
 
-same-last-refl : (l : Last) → same_last l l ≡ true
-same-last-refl Never = refl
-same-last-refl (On d) = eqb_refl d.0
+same-last-refl : (l : Option CalendarDays) → same_last l l ≡ true
+same-last-refl None = refl
+same-last-refl (Some d) = eqb_refl d.0
 
 pub same-entry-equal : (e f : Entry) → same_entry e f ≡ true → e ≡ f
 unfolding same_entry

@@ -3,6 +3,7 @@
 --     decided-unreadable  where the buffers don't read as a store, that is 44
 --     passed-enterable    a file that passes may be entered
 --     refused-number      a refusal behind 44 is one of 1 to 5; so it is never the answer of a file that was filed (refused-not-filed)
+use Rattle.std.specs.Prelude.{Option, Some, None}
 use mathlib.Core.Path.{◌≡◌, refl, sym, ap, ◌∙◌}
 use mathlib.Core.Bool.{Bool, true, false, cond, ◌&&◌, ◌||◌}
 use mathlib.Core.List.{List, [], ◌∷◌, ◌++◌}
@@ -15,7 +16,6 @@ use Rattle.laws.proofs.Tests.{and_left, and_right}
 use Rattle.calendar.specs.Dates.{in_calendar}
 use Rattle.fields.specs.Code.{code_of}
 use Rattle.fields.specs.declared.code.Code.{Code}
-use Rattle.fields.specs.declared.code.CodeRead.{CodeRead}
 use Rattle.fields.proofs.CodeLaws.{code-back}
 use Rattle.files.specs.Judged.{judged_file}
 use Rattle.files.specs.declared.judge.Judged.{Judged}
@@ -70,10 +70,10 @@ module _ (b : Buffers) (e : is_readable b ≡ true) (kind : Filable) (day : ℕ)
     day-decided true u d p = p
     day-decided false u d p = refl
 
-  published-decided : (r : CodeRead) → published_to (held b).files kind r day text ≡ decision_of kind day text (checked b.files kind r day (judged_file (file_kind kind) text))
+  published-decided : (r : Option Code) → published_to (held b).files kind r day text ≡ decision_of kind day text (checked b.files kind r day (judged_file (file_kind kind) text))
   unfolding day_checked new_to
-  published-decided CodeRead.Fault = refl
-  published-decided (CodeRead.Code c) =
+  published-decided None = refl
+  published-decided (Some c) =
       let j : Judged = judged_file (file_kind kind) text in
       let rest : Checked = text_checked (has_room b.files kind) c j in
       let there : Bool = any (same_file (sought kind c.0 day)) (files_of b.files) in
@@ -92,8 +92,8 @@ module _ (b : Buffers) (e : is_readable b ≡ true) (kind : Filable) (day : ℕ)
     never a q = absurd (let z : ◌≡◌ {A = ℕ} 0 1 = cc in omega arith)
 
     -- what the checks have found out on the way
-    record Found (r : CodeRead) (j : Judged) : Type 0 where
-      pub code : r ≡ CodeRead.Code c
+    record Found (r : Option Code) (j : Judged) : Type 0 where
+      pub code : r ≡ Some c
       pub date : in_calendar day ≡ true
       pub new : any (same_file (sought kind c.0 day)) (files_of b.files) ≡ false
       pub records : j ≡ Judged.Records m
@@ -115,17 +115,17 @@ module _ (b : Buffers) (e : is_readable b ≡ true) (kind : Filable) (day : ℕ)
     day-found true u q = (refl, q)
     day-found false u q = never Answer.NoDay q
 
-    found : (r : CodeRead) (j : Judged) → checked b.files kind r day j ≡ Passed c m → Found r j
+    found : (r : Option Code) (j : Judged) → checked b.files kind r day j ≡ Passed c m → Found r j
     unfolding day_checked
-    found CodeRead.Fault j q = never Answer.NoCode q
-    found (CodeRead.Code d) j q =
+    found None j q = never Answer.NoCode q
+    found (Some d) j q =
         let rest : Checked = text_checked (has_room b.files kind) d j in
         let there : Bool = any (same_file (sought kind d.0 day)) (files_of b.files) in
         let w = day-found (in_calendar day) (cond there (Refused Answer.FiledAlready) rest) q in
         let n = new-found there rest w.1 in
         let t = text-found d j n.1 in
         record {
-          code = ap CodeRead.Code t.0;
+          code = ap Some t.0;
           date = w.0;
           new = ap (λ (x : Code). any (same_file (sought kind x.0 day)) (files_of b.files)) (sym t.0) ∙ n.0;
           records = t.1;
@@ -167,19 +167,19 @@ module _ (files : List ℕ) (kind : Filable) (day : ℕ) where
   refuses-text c (Judged.Fault place cause) = refl
   refuses-text c (Judged.Records m) = refuses-cond (has_room files kind m) (Passed c m) (Refused Answer.Full) refl refl
 
-  refuses-all : (r : CodeRead) (j : Judged) → refuses (checked files kind r day j) ≡ true
+  refuses-all : (r : Option Code) (j : Judged) → refuses (checked files kind r day j) ≡ true
   unfolding day_checked
-  refuses-all CodeRead.Fault j = refl
-  refuses-all (CodeRead.Code c) j =
+  refuses-all None j = refl
+  refuses-all (Some c) j =
       let rest : Checked = text_checked (has_room files kind) c j in
       let there : Bool = any (same_file (sought kind c.0 day)) (files_of files) in
       refuses-cond (in_calendar day) (cond there (Refused Answer.FiledAlready) rest) (Refused Answer.NoDay)
       (refuses-cond there (Refused Answer.FiledAlready) rest refl (refuses-text c j)) refl
 
-  pub refused-number : (r : CodeRead) (j : Judged) (a : Answer) → checked files kind r day j ≡ Refused a → (0 < answer_number a) × (answer_number a ≤ 5)
+  pub refused-number : (r : Option Code) (j : Judged) (a : Answer) → checked files kind r day j ≡ Refused a → (0 < answer_number a) × (answer_number a ≤ 5)
   refused-number r j a q =
       let w : (ltb 0 (answer_number a) && leb (answer_number a) 5) ≡ true = ap refuses (sym q) ∙ refuses-all r j in
       (ltb-true 0 (answer_number a) (and_left (ltb 0 (answer_number a)) (leb (answer_number a) 5) w), leb-true (answer_number a) 5 (and_right (ltb 0 (answer_number a)) (leb (answer_number a) 5) w))
 
-  pub refused-not-filed : (r : CodeRead) (j : Judged) (a : Answer) → checked files kind r day j ≡ Refused a → (count : ℕ) → a ≡ Answer.Filed count → ⊥
+  pub refused-not-filed : (r : Option Code) (j : Judged) (a : Answer) → checked files kind r day j ≡ Refused a → (count : ℕ) → a ≡ Answer.Filed count → ⊥
   refused-not-filed r j a q count p = let z : answer_number a ≡ 0 = ap answer_number p in omega (arith, (refused-number r j a q).0)

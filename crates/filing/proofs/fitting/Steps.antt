@@ -1,6 +1,7 @@
 -- One record, and then each, leaves an entry in range where the record is in range. Assumes nothing.
 --     fine_stays      an entry in range is in range after a record in range
 --     fine-along      and after any number of them
+use Rattle.std.specs.Prelude.{Some}
 use mathlib.Core.Path.{◌≡◌, refl, sym, ap, subst, ◌∙◌}
 use mathlib.Core.Bool.{Bool, true, false, cond, true≢false}
 use mathlib.Core.List.{List, [], ◌∷◌, map, foldl, Memᴰ}
@@ -19,7 +20,6 @@ use Rattle.entries.specs.declared.report.Report.{Report}
 use Rattle.entries.specs.declared.entry.Place.{Place}
 use Rattle.entries.specs.declared.entry.Entry.{Entry}
 use Rattle.entries.specs.declared.entry.Line.{Line}
-use Rattle.entries.specs.declared.entry.Listed.TheVariants.{With}
 use Rattle.entries.specs.Report.{gaining_of, meant_by}
 use Rattle.entries.specs.Entry.{free_place}
 use Rattle.entries.specs.places.Places.{lowest_free, lapsed}
@@ -148,7 +148,7 @@ effect-fine d line e rec Other w f day a s = f
 
 pub fine_stays : (line : Line) (e : Entry) (rec : Record) → line.owner.0 ≤ 999 → FineEntry e → FineRecord rec → FineEntry (entry_after line e rec)
 unfolding entry_after
-fine_stays line e rec o f g = effect-fine (does_by (verdict_on (With line) e rec)) line e rec rec.says o f g.day-in g.at_in g.says-in
+fine_stays line e rec o f g = effect-fine (does_by (verdict_on (Some line) e rec)) line e rec rec.says o f g.day-in g.at_in g.says-in
 
 pub fine-along : {A : Type 0} (line : Line) (says : A → Record) (l : List A) (e : Entry) → line.owner.0 ≤ 999 → FineEntry e
     → ((x : A) → Memᴰ x l → FineRecord (says x)) → FineEntry (foldl (λ (t : Entry) (x : A). entry_after line t (says x)) e l)

@@ -1,10 +1,10 @@
 -- What the checks behind 44 come to, as the code makes them over the list of files. `Filing` has them over the store; `proofs/checking/Deciding` that both
 -- agree. Assumes nothing: these are definitions.
+use Rattle.std.specs.Prelude.{Option, Some, None}
 use Rattle.std.specs.Prelude.{Bool, cond, ◌&&◌, List, ℕ, ◌+◌, ltb, leb}
 use Rattle.laws.specs.Lists.{any}
 use Rattle.calendar.specs.Dates.{in_calendar}
 use Rattle.fields.specs.declared.code.Code.{Code}
-use Rattle.fields.specs.declared.code.CodeRead.{CodeRead}
 use Rattle.files.specs.declared.judge.Judged.{Judged}
 use Rattle.store.specs.journals.Files.{file_count, files_of, same_file, records_of}
 use Rattle.store.specs.declared.journals.files.File.{File}
@@ -34,6 +34,6 @@ unfoldable pub day_checked : List ℕ → Filable → Code → ℕ → Judged �
 day_checked files kind c day text =
     cond (in_calendar day) (cond (any (same_file (sought kind c.0 day)) (files_of files)) (Refused FiledAlready) (text_checked (has_room files kind) c text)) (Refused NoDay)
 
-abbrev pub checked : List ℕ → Filable → CodeRead → ℕ → Judged → Checked
-checked files kind CodeRead.Fault day text = Refused NoCode
-checked files kind (CodeRead.Code c) day text = day_checked files kind c day text
+abbrev pub checked : List ℕ → Filable → Option Code → ℕ → Judged → Checked
+checked files kind None day text = Refused NoCode
+checked files kind (Some c) day text = day_checked files kind c day text

@@ -1,10 +1,11 @@
 -- The limits, and the checks of filing in their order: paper 01, "What filing answers". Assumes nothing: these are definitions.
+use Rattle.fields.specs.declared.code.Code.{Code}
+use Rattle.std.specs.Prelude.{Option, Some, None}
 use Rattle.std.specs.Prelude.{Bool, cond, ◌&&◌, ℕ, eqb, leb, length}
 use mathlib.Core.List.{List, [], ◌∷◌, ◌++◌, flat_map}
 use Rattle.laws.specs.Lists.{any, keep, total}
 use Rattle.calendar.specs.Dates.{in_calendar}
 use Rattle.fields.specs.Code.{code_of}
-use Rattle.fields.specs.declared.code.CodeRead.{CodeRead}
 use Rattle.files.specs.Judged.{judged_file}
 use Rattle.files.specs.declared.judge.Judged.{Judged}
 use Rattle.model.specs.Model.{Filed, alike}
@@ -43,9 +44,9 @@ unfoldable pub new_to : List Filed → Filed → Judged → Decision
 new_to files f text = cond (any (alike f) files) (Refuse FiledAlready) (judged_to files f text)
 
 -- 1, then 2
-abbrev pub published_to : List Filed → Filable → CodeRead → ℕ → List ℕ → Decision
-published_to files kind CodeRead.Fault day text = Refuse NoCode
-published_to files kind (CodeRead.Code c) day text = cond (in_calendar day) (new_to files (filed_as kind c.0 day text) (judged_file (file_kind kind) text)) (Refuse NoDay)
+abbrev pub published_to : List Filed → Filable → Option Code → ℕ → List ℕ → Decision
+published_to files kind None day text = Refuse NoCode
+published_to files kind (Some c) day text = cond (in_calendar day) (new_to files (filed_as kind c.0 day text) (judged_file (file_kind kind) text)) (Refuse NoDay)
 
 -- 44
 unfoldable pub decide : Buffers → Filable → List ℕ → ℕ → List ℕ → Decision

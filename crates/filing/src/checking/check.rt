@@ -12,7 +12,7 @@ use crate::checking::answer::Answer;
 use crate::entering::kind::Filable;
 use calendar::dates;
 use calendar::dates::CalendarDays;
-use fields::code::{Code, CodeRead};
+use fields::code::Code;
 use files::judge;
 use files::judge::Judged;
 use store::journals::files::File;
@@ -115,7 +115,7 @@ pub fn check(
     requires { (8194 ≤ length files.now) × (good_files files.now ≡ true) }
     ensures { result ≡ checked files.now kind (code_of publisher.now) day.0 (judged_file (file_kind kind) text.now) }
 {
-    let CodeRead::Code(code) = Code::read(publisher) else {
+    let Some(code) = Code::read(publisher) else {
         return Checked::Refused(Answer::NoCode);
     };
     check_day(files, kind, code, day, text)

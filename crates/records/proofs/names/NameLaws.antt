@@ -1,4 +1,5 @@
 -- The names of files: what the code's tests and stores say of the definitions. Assumes nothing.
+use Rattle.std.specs.Prelude.{Some, None}
 use Prim.Native.Nat.{ℕ, ◌+◌, ◌/◌, ◌<◌, ◌≤◌}
 use native.Mathlib.Omega.{arith}
 use mathlib.Core.Path.{◌≡◌, refl, sym, ap, ◌∙◌}
@@ -17,9 +18,6 @@ use Rattle.laws.proofs.Digits.{length_digits}
 use Rattle.laws.proofs.Overlay.{overlay-append, overlay-comm}
 use Rattle.calendar.specs.Answers.{full_year, date_of}
 use Rattle.calendar.specs.declared.dates.Date.{Date}
-use Rattle.calendar.specs.declared.dates.Dated.TheVariants.{At, Beyond}
-use Rattle.calendar.specs.declared.dates.Found.{Found}
-use Rattle.records.specs.declared.names.kind.KindRead.{KindRead}
 use Rattle.records.specs.names.Kind.{kind_of, letter_of}
 use Rattle.records.specs.declared.names.name.Name.{Name}
 use Rattle.records.specs.declared.names.written.Written.{Written}
@@ -58,7 +56,7 @@ framed-tests s h =
     sym (rw (a, b, c, d, e, f) (simp and-true))
 
 -- ---- the day
-pub six-long : (n : ℕ) → 999999 < n → Found.Fault ≡ day_of_six n
+pub six-long : (n : ℕ) → 999999 < n → None ≡ day_of_six n
 unfolding day_of_six full_year
 six-long n h =
     let big : 100 ≤ n / 10000 = omega arith in
@@ -77,7 +75,7 @@ put-name out letter n p =
     ∙ sym (overlay-append out 0 (49 ∷ letter ∷ []) (digits 6 n ++ ending))
 
 -- ---- the letter
-pub letter-none : (b : ℕ) → (b ≡ 68 → ⊥) → (b ≡ 75 → ⊥) → (b ≡ 81 → ⊥) → (b ≡ 82 → ⊥) → KindRead.Fault ≡ kind_of b
+pub letter-none : (b : ℕ) → (b ≡ 68 → ⊥) → (b ≡ 75 → ⊥) → (b ≡ 81 → ⊥) → (b ≡ 82 → ⊥) → None ≡ kind_of b
 unfolding kind_of
 letter-none b d k q r = simp (ne_eqb b 68 d, ne_eqb b 75 k, ne_eqb b 81 q, ne_eqb b 82 r)
 
@@ -87,15 +85,15 @@ pub wrote_one : {w : Written} {text before a b : List ℕ} {r s : Written} → W
 wrote_one p q = (p.bytes ∙ sym q.bytes, p.answer ∙ sym q.answer)
 
 module _ (m : Name) (before : List ℕ) where
-  pub wrote_none : date_of m.day.0 ≡ Beyond → Wrote (name_answer m (length before)) (name_text m) before before (Written.Fault 0)
+  pub wrote_none : date_of m.day.0 ≡ None → Wrote (name_answer m (length before)) (name_text m) before before (Written.Fault 0)
   unfolding name_answer name_text
   wrote_none e = record { answer = rw e; bytes = rw e }
 
-  pub wrote-short : (x : Date) → date_of m.day.0 ≡ At x → length before < 12 → Wrote (name_answer m (length before)) (name_text m) before before Written.Long
+  pub wrote-short : (x : Date) → date_of m.day.0 ≡ Some x → length before < 12 → Wrote (name_answer m (length before)) (name_text m) before before Written.Long
   unfolding name_answer name_text
   wrote-short x e h = record { answer = rw (e, lt-leb 12 (length before) h); bytes = rw (e, lt-leb 12 (length before) h) }
 
-  pub wrote-name : (x : Date) (after : List ℕ) → date_of m.day.0 ≡ At x → 12 ≤ length before → after ≡ overlay before 0 (spelling (letter_of m.kind) (six_of x))
+  pub wrote-name : (x : Date) (after : List ℕ) → date_of m.day.0 ≡ Some x → 12 ≤ length before → after ≡ overlay before 0 (spelling (letter_of m.kind) (six_of x))
       → Wrote (name_answer m (length before)) (name_text m) before after (Written.Length 12)
   unfolding name_answer name_text
   wrote-name x after e h p = record { answer = rw (e, le-leb 12 (length before) h); bytes = rw (e, le-leb 12 (length before) h) p }

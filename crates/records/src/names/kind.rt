@@ -10,23 +10,17 @@ pub enum FileKind {
     Response,
 }
 
-#[derive(Drop)]
-pub enum KindRead {
-    Kind(FileKind),
-    Fault,
-}
-
 impl FileKind {
     // The kind that the second letter of a file's name tells.
-    pub fn of_letter(letter: u8) -> KindRead
+    pub fn of_letter(letter: u8) -> Option<FileKind>
         ensures { result ≡ kind_of letter }
     {
         match letter {
-            68 => KindRead::Kind(FileKind::Default),
-            75 => KindRead::Kind(FileKind::Correction),
-            81 => KindRead::Kind(FileKind::Request),
-            82 => KindRead::Kind(FileKind::Response),
-            _ => KindRead::Fault,
+            68 => Some(FileKind::Default),
+            75 => Some(FileKind::Correction),
+            81 => Some(FileKind::Request),
+            82 => Some(FileKind::Response),
+            _ => None,
         }
     }
 

@@ -4,21 +4,14 @@ ghost use Rattle.laws.specs.Overlay.{overlay};
 ghost use Rattle.records.specs.names.Name.{framed, day_of_six, name_of, six_of, spelling, name_text, name_answer};
 ghost use Rattle.records.specs.names.Written.{Wrote};
 
-use crate::names::kind::{FileKind, KindRead};
+use crate::names::kind::FileKind;
 use crate::names::written::Written;
-use calendar::dates::{CalendarDays, Date, Dated, Found, FullYear};
-use text::Spelt;
+use calendar::dates::{CalendarDays, Date};
 
 #[derive(Drop)]
 pub struct Name {
     pub kind: FileKind,
     pub day: CalendarDays,
-}
-
-#[derive(Drop)]
-pub enum NameRead {
-    Name(Name),
-    Fault,
 }
 
 // Whether `1` and `.txt` stand where they should.
@@ -32,14 +25,14 @@ fn is_framed(s: &[u8]) -> bool
 }
 
 // The day that yymmdd, as one number, names.
-fn day_of_six(n: u64) -> Found
+fn day_of_six(n: u64) -> Option<CalendarDays>
     ensures { result ≡ day_of_six n }
 {
     if 999999 < n {
-        return Found::Fault;
+        return None;
     }
-    let FullYear::Year(year) = calendar::dates::full_year((n / 10000) as u8) else {
-        return Found::Fault;
+    let Some(year) = calendar::dates::full_year((n / 10000) as u8) else {
+        return None;
     };
     let month = (n / 100 % 100) as u8;
     let day = (n % 100) as u8;
@@ -71,22 +64,22 @@ fn put(out: &mut [u8], letter: u8, n: u64)
 }
 
 impl Name {
-    pub fn read(s: &[u8]) -> NameRead
+    pub fn read(s: &[u8]) -> Option<Name>
         ensures { result ≡ name_of s.now }
     {
         if !is_framed(s) {
-            return NameRead::Fault;
+            return None;
         }
-        let KindRead::Kind(kind) = FileKind::of_letter(s[1]) else {
-            return NameRead::Fault;
+        let Some(kind) = FileKind::of_letter(s[1]) else {
+            return None;
         };
-        let Spelt::Value(n) = text::read_digits(&s[2..8], false) else {
-            return NameRead::Fault;
+        let Some(n) = text::read_digits(&s[2..8], false) else {
+            return None;
         };
-        let Found::Day(day) = day_of_six(n) else {
-            return NameRead::Fault;
+        let Some(day) = day_of_six(n) else {
+            return None;
         };
-        NameRead::Name(Name { kind, day })
+        Some(Name { kind, day })
     }
 
     // The name into a lent buffer; 4 where its day is past the calendar's end.
@@ -95,7 +88,7 @@ impl Name {
     {
         let kind = self.kind;
         let day = self.day;
-        let Dated::At(date) = calendar::dates::date_of(day) else {
+        let Some(date) = calendar::dates::date_of(day) else {
             return Written::Fault(0);
         };
         if out.len() < 12 {

@@ -1,4 +1,5 @@
 -- The loop that lays the given lines out, turn by turn, and what it has laid out. Assumes nothing.
+use Rattle.std.specs.Prelude.{Option, Some, None}
 use mathlib.Core.Path.{◌≡◌, refl, sym, ap, ap₂, ◌∙◌}
 use mathlib.Core.Bool.{Bool, true, false, ◌&&◌}
 use mathlib.Core.List.{List, [], ◌∷◌, ◌++◌, map, flat_map, append_assoc, append-nil}
@@ -22,8 +23,6 @@ use Rattle.store.specs.numbers.Lines.{line_slot, line_of, line_at, number_at, go
 use Rattle.store.specs.declared.numbers.lines.Line.{Line}
 use Rattle.store.proofs.numbers.Fitting.{good-roomy}
 use Rattle.store.proofs.numbers.Reading.{length-line, line-back}
-use Rattle.starting.specs.declared.tables.given.LineRead.{LineRead}
-use Rattle.starting.specs.declared.tables.given.LineRead.TheVariants.{Fault}
 use Rattle.starting.specs.tables.Given.{line_given, with_line, lines_given, number_of_line, checked, table_of, Spread}
 use Rattle.starting.proofs.tables.Reading.{line-good}
 
@@ -58,7 +57,7 @@ unfolding lines_given
 in-front l [] h = absurd (omega arith)
 in-front l (m ∷ more) h = refl
 
-one_more : (done : List Line) (x : Line) (o : Option (List Line)) → joined done (with_line (LineRead.Line x) o) ≡ joined (done ++ (x ∷ [])) o
+one_more : (done : List Line) (x : Line) (o : Option (List Line)) → joined done (with_line (Some x) o) ≡ joined (done ++ (x ∷ [])) o
 one_more done x (some ls) = ap some (sym (append_assoc done (x ∷ []) ls))
 one_more done x none = refl
 
@@ -67,14 +66,14 @@ unfolding lines_given
 not-empty [] h = absurd (omega arith)
 not-empty (b ∷ bs) h = refl
 
-too_many : (done : List Line) (r : LineRead) (o : Option (List Line)) → 1024 ≤ length done → checked (joined done (with_line r o)) ≡ none
+too_many : (done : List Line) (r : Option Line) (o : Option (List Line)) → 1024 ≤ length done → checked (joined done (with_line r o)) ≡ none
 unfolding checked
-too_many done (LineRead.Line x) (some ls) h =
+too_many done (Some x) (some ls) h =
     rw (lt-leb (length (done ++ (x ∷ ls))) 1024 (omega (arith, length-append done (x ∷ ls))))
-too_many done (LineRead.Line x) none h = refl
-too_many done Fault o h = refl
+too_many done (Some x) none h = refl
+too_many done None o h = refl
 
-no_line_lem : (done : List Line) (o : Option (List Line)) → checked (joined done (with_line Fault o)) ≡ none
+no_line_lem : (done : List Line) (o : Option (List Line)) → checked (joined done (with_line None o)) ≡ none
 unfolding checked
 no_line_lem done o = refl
 
@@ -102,14 +101,14 @@ module _ (text before : List ℕ) (at n : ℕ) (after : List ℕ) (t : Turn text
         ap checked (t.left ∙ ap (joined t.done) line-next)
         ∙ too_many t.done (line_given (between text at (end_of 10 text at))) (lines_given (split 10 (drop (end_of 10 text at + 1) text))) (omega (arith, t.spread.size))
 
-    pub turn-fault : line_given (between text at (end_of 10 text at)) ≡ Fault → table_of text ≡ none
+    pub turn-fault : line_given (between text at (end_of 10 text at)) ≡ None → table_of text ≡ none
     unfolding table_of
     turn-fault f =
-        ap checked (t.left ∙ ap (joined t.done) (line-next ∙ ap (λ (r : LineRead). with_line r (lines_given (split 10 (drop (end_of 10 text at + 1) text)))) f))
+        ap checked (t.left ∙ ap (joined t.done) (line-next ∙ ap (λ (r : Option Line). with_line r (lines_given (split 10 (drop (end_of 10 text at + 1) text)))) f))
         ∙ no_line_lem t.done (lines_given (split 10 (drop (end_of 10 text at + 1) text)))
 
     -- one line more
-    pub turn-next : (x : Line) (next : List ℕ) → n < 1024 → line_given (between text at (end_of 10 text at)) ≡ LineRead.Line x → next ≡ overlay after (2 + n * 14) (line_slot x)
+    pub turn-next : (x : Line) (next : List ℕ) → n < 1024 → line_given (between text at (end_of 10 text at)) ≡ Some x → next ≡ overlay after (2 + n * 14) (line_slot x)
         → Turn text before (end_of 10 text at + 1) (n + 1) next
     unfolding flat_map
     turn-next x next h p q = record {
@@ -117,7 +116,7 @@ module _ (text before : List ℕ) (at n : ℕ) (after : List ℕ) (t : Turn text
       inside = omega arith;
       left =
           t.left
-          ∙ ap (joined t.done) (line-next ∙ ap (λ (r : LineRead). with_line r (lines_given (split 10 (drop (end_of 10 text at + 1) text)))) p)
+          ∙ ap (joined t.done) (line-next ∙ ap (λ (r : Option Line). with_line r (lines_given (split 10 (drop (end_of 10 text at + 1) text)))) p)
           ∙ one_more t.done x (lines_given (split 10 (drop (end_of 10 text at + 1) text)));
       spread = record {
         size = omega (arith, t.spread.size, length-append t.done (x ∷ []));

@@ -1,4 +1,5 @@
 -- The number table as it is given: lines `num1,num2,OWNER,ddmmyyyy`, each ended by a line feed, and nothing else. Assumes nothing: these are definitions.
+use Rattle.std.specs.Prelude.{Option, Some, None}
 use Rattle.std.specs.Prelude.{◌≡◌, true, cond, ◌&&◌, ℕ, ◌≤◌, eqb, leb, length}
 use mathlib.Core.List.{List, [], ◌∷◌, map, flat_map}
 use Rattle.std.proofs.Math.Option.{Option, none, some}
@@ -10,49 +11,41 @@ use Rattle.fields.specs.Code.{code_of}
 use Rattle.fields.specs.Date.{date_field_of}
 use Rattle.fields.specs.Number.{digits_field_of, is_empty, number_of, same_number}
 use Rattle.fields.specs.declared.code.Code.{Code}
-use Rattle.fields.specs.declared.code.CodeRead.{CodeRead}
-use Rattle.fields.specs.declared.date.DateRead.{DateRead}
 use Rattle.fields.specs.declared.number.Digits.{Digits}
-use Rattle.fields.specs.declared.number.DigitsRead.{DigitsRead}
 use Rattle.fields.specs.declared.number.Number.{Number}
-use Rattle.fields.specs.declared.number.NumberRead.{NumberRead}
 use Rattle.store.specs.numbers.Lines.{line_slot, good_line}
 use Rattle.store.specs.declared.numbers.lines.Line.{Line}
-use Rattle.starting.specs.declared.tables.given.LineRead.{LineRead}
-use Rattle.starting.specs.declared.tables.given.LineRead.TheVariants.{Fault}
-use Rattle.starting.specs.declared.tables.scratch.Counted.{Counted}
-use Rattle.starting.specs.declared.tables.scratch.Counted.TheVariants.{Lines, Bad}
 
 -- ---- what is found goes on to what makes the line of it; a fault is the line's
-abbrev pub on_digits : DigitsRead → (Digits → LineRead) → LineRead
-on_digits (DigitsRead.Digits d) k = k d
-on_digits DigitsRead.Fault k = Fault
+abbrev pub on_digits : Option Digits → (Digits → Option Line) → Option Line
+on_digits (Some d) k = k d
+on_digits None k = None
 
-abbrev pub on_number : NumberRead → (Number → LineRead) → LineRead
-on_number (NumberRead.Number n) k = k n
-on_number NumberRead.Fault k = Fault
+abbrev pub on_number : Option Number → (Number → Option Line) → Option Line
+on_number (Some n) k = k n
+on_number None k = None
 
-abbrev pub on_code : CodeRead → (Code → LineRead) → LineRead
-on_code (CodeRead.Code c) k = k c
-on_code CodeRead.Fault k = Fault
+abbrev pub on_code : Option Code → (Code → Option Line) → Option Line
+on_code (Some c) k = k c
+on_code None k = None
 
-abbrev pub on_date : DateRead → (CalendarDays → LineRead) → LineRead
-on_date (DateRead.Date d) k = k d
-on_date DateRead.Fault k = Fault
+abbrev pub on_date : Option CalendarDays → (CalendarDays → Option Line) → Option Line
+on_date (Some d) k = k d
+on_date None k = None
 
 -- a number whose first field is not empty, a network code, a day of the calendar
-unfoldable pub four_of : List ℕ → List ℕ → List ℕ → List ℕ → LineRead
+unfoldable pub four_of : List ℕ → List ℕ → List ℕ → List ℕ → Option Line
 four_of a b c d =
     on_digits (digits_field_of a)
-    λ first. cond (is_empty first) Fault
+    λ first. cond (is_empty first) None
     (on_number (number_of first b)
     λ number. on_code (code_of c)
     λ owner. on_date (date_field_of d)
-    λ setup. LineRead.Line (record { number = number; owner = owner; setup = setup }))
+    λ setup. Some (record { number = number; owner = owner; setup = setup }))
 
 -- four fields with commas (44) between them
-unfoldable pub line_given : List ℕ → LineRead
-line_given l = cond (eqb (length (split 44 l)) 4) (four_of (piece_of 44 l 0) (piece_of 44 l 1) (piece_of 44 l 2) (piece_of 44 l 3)) Fault
+unfoldable pub line_given : List ℕ → Option Line
+line_given l = cond (eqb (length (split 44 l)) 4) (four_of (piece_of 44 l 0) (piece_of 44 l 1) (piece_of 44 l 2) (piece_of 44 l 3)) None
 
 -- ---- the lines
 -- behind the last line feed nothing stands
@@ -60,10 +53,10 @@ abbrev pub end_given : List ℕ → Option (List Line)
 end_given [] = some []
 end_given (b ∷ bs) = none
 
-abbrev pub with_line : LineRead → Option (List Line) → Option (List Line)
-with_line (LineRead.Line l) (some ls) = some (l ∷ ls)
-with_line (LineRead.Line l) none = none
-with_line Fault o = none
+abbrev pub with_line : Option Line → Option (List Line) → Option (List Line)
+with_line (Some l) (some ls) = some (l ∷ ls)
+with_line (Some l) none = none
+with_line None o = none
 
 -- the pieces between line feeds: a line each, but for the last
 unfoldable pub lines_given : List (List ℕ) → Option (List Line)
@@ -90,10 +83,10 @@ pub record Spread (ls : List Line) (before : List ℕ) (n : ℕ) (after : List �
   pub good : all good_line ls ≡ true
   pub bytes : after ≡ overlay before 2 (flat_map line_slot ls)
 
-abbrev pub LaidOut : List ℕ → List ℕ → Counted → List ℕ → Type 0
-LaidOut text before (Lines n) after = (ls : List Line) × (lines_given (split 10 text) ≡ some ls) × Spread ls before n after
-LaidOut text before Bad after = table_of text ≡ none
+abbrev pub LaidOut : List ℕ → List ℕ → Option ℕ → List ℕ → Type 0
+LaidOut text before (Some n) after = (ls : List Line) × (lines_given (split 10 text) ≡ some ls) × Spread ls before n after
+LaidOut text before None after = table_of text ≡ none
 
-abbrev pub Judged : List ℕ → List ℕ → Counted → List ℕ → Type 0
-Judged text before (Lines n) after = (ls : List Line) × (table_of text ≡ some ls) × Spread ls before n after
-Judged text before Bad after = table_of text ≡ none
+abbrev pub Judged : List ℕ → List ℕ → Option ℕ → List ℕ → Type 0
+Judged text before (Some n) after = (ls : List Line) × (table_of text ≡ some ls) × Spread ls before n after
+Judged text before None after = table_of text ≡ none

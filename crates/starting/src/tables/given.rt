@@ -2,40 +2,33 @@
 ghost use Rattle.std.specs.Prelude.{◌≡◌};
 ghost use Rattle.starting.specs.tables.Given.{line_given};
 
-use fields::code::{Code, CodeRead};
+use fields::code::Code;
 use fields::date;
-use fields::date::DateRead;
-use fields::number::{Digits, DigitsRead, Number, NumberRead};
+use fields::number::{Digits, Number};
 use store::numbers::lines::Line;
 
-#[derive(Drop)]
-pub enum LineRead {
-    Line(Line),
-    Fault,
-}
-
-pub fn read_line(l: &[u8]) -> LineRead
+pub fn read_line(l: &[u8]) -> Option<Line>
     ensures { result ≡ line_given l.now }
 {
     if text::cuts(l, 44) != 3 {
-        return LineRead::Fault;
+        return None;
     }
-    let DigitsRead::Digits(first) = Digits::read(text::piece(l, 44, 0)) else {
-        return LineRead::Fault;
+    let Some(first) = Digits::read(text::piece(l, 44, 0)) else {
+        return None;
     };
     if first.is_empty() {
-        return LineRead::Fault;
+        return None;
     }
-    let NumberRead::Number(number) = Number::read(first, text::piece(l, 44, 1)) else {
-        return LineRead::Fault;
+    let Some(number) = Number::read(first, text::piece(l, 44, 1)) else {
+        return None;
     };
-    let CodeRead::Code(owner) = Code::read(text::piece(l, 44, 2)) else {
-        return LineRead::Fault;
+    let Some(owner) = Code::read(text::piece(l, 44, 2)) else {
+        return None;
     };
-    let DateRead::Date(setup) = date::read(text::piece(l, 44, 3)) else {
-        return LineRead::Fault;
+    let Some(setup) = date::read(text::piece(l, 44, 3)) else {
+        return None;
     };
-    LineRead::Line(Line {
+    Some(Line {
         number,
         owner,
         setup,

@@ -4,18 +4,10 @@ ghost use Rattle.std.specs.Prelude.{◌≡◌, ◌≤◌, length};
 ghost use Rattle.starting.specs.tables.Given.{LaidOut, Judged};
 
 use crate::tables::given;
-use crate::tables::given::LineRead;
 use store::numbers::{lines, twice};
 
-// How many lines a well formed table has.
-#[derive(Drop)]
-pub enum Counted {
-    Lines(usize),
-    Bad,
-}
-
 // Lays the lines out behind the place of the count.
-fn lay_out(text: &[u8], room: &mut [u8]) -> Counted
+fn lay_out(text: &[u8], room: &mut [u8]) -> Option<usize>
     requires { 14338 ≤ length room.old }
     ensures { LaidOut text.now room.old result room.new }
 {
@@ -24,31 +16,31 @@ fn lay_out(text: &[u8], room: &mut [u8]) -> Counted
     while at < text.len() {
         let end = text::field_end(text, at, 10);
         if text.len() <= end {
-            return Counted::Bad;
+            return None;
         }
         if lines::NUMBERS <= n {
-            return Counted::Bad;
+            return None;
         }
-        let LineRead::Line(l) = given::read_line(&text[at..end]) else {
-            return Counted::Bad;
+        let Some(l) = given::read_line(&text[at..end]) else {
+            return None;
         };
         lines::put_line(room, n, l);
         at = end + 1;
         n += 1;
     }
-    Counted::Lines(n)
+    Some(n)
 }
 
 // The same, with no number twice.
-pub(crate) fn judge(text: &[u8], room: &mut [u8]) -> Counted
+pub(crate) fn judge(text: &[u8], room: &mut [u8]) -> Option<usize>
     requires { 14338 ≤ length room.old }
     ensures { Judged text.now room.old result room.new }
 {
-    let Counted::Lines(n) = lay_out(text, room) else {
-        return Counted::Bad;
+    let Some(n) = lay_out(text, room) else {
+        return None;
     };
     if !twice::no_number_twice(room, n) {
-        return Counted::Bad;
+        return None;
     }
-    Counted::Lines(n)
+    Some(n)
 }

@@ -1,4 +1,6 @@
 -- Reading after writing: an entry in range is read as it was written, every other as before, and its bytes are in range. Assumes nothing.
+use Rattle.calendar.specs.declared.dates.CalendarDays.{CalendarDays}
+use Rattle.std.specs.Prelude.{Option, Some, None}
 use mathlib.Core.Path.{◌≡◌, refl, sym, ap, ◌∙◌}
 use mathlib.Core.Bool.{Bool, true, false}
 use mathlib.Core.List.{List, [], ◌∷◌, ◌++◌, flat_map, append-nil}
@@ -21,8 +23,6 @@ use Rattle.store.proofs.entry_slots.Places.{kind-small, length-place}
 use Rattle.fields.specs.declared.kind.Kind.{Kind}
 use Rattle.fields.specs.declared.kind.Kind.TheVariants.{P, L, Z}
 use Rattle.entries.specs.declared.entry.Entry.{Entry}
-use Rattle.entries.specs.declared.entry.Last.{Last}
-use Rattle.entries.specs.declared.entry.Last.TheVariants.{Never, On}
 use Rattle.entries.specs.declared.entry.Line.{Line}
 use Rattle.entries.specs.declared.entry.Place.{Place}
 use Rattle.entries.specs.Entry.{free_place, first_entry}
@@ -39,9 +39,9 @@ pub record FinePlace (p : Place) : Type 0 where
   pub day-in : p.day.0 ≤ 18992
   pub at_in : p.at < 16777216
 
-abbrev pub FineLast : Last → Type 0
-FineLast Never = Unit {0}
-FineLast (On d) = d.0 ≤ 18992
+abbrev pub FineLast : Option CalendarDays → Type 0
+FineLast None = Unit {0}
+FineLast (Some d) = d.0 ≤ 18992
 
 pub record FineEntry (e : Entry) : Type 0 where
   pub holder_in : e.holder.0 ≤ 999
@@ -160,17 +160,17 @@ place-good p f = go p.taken refl
     go false e = rw (f.free e) free-good
 
 -- ---- an entry
-last-back : (l : Last) → last_of (last_no l) ≡ l
+last-back : (l : Option CalendarDays) → last_of (last_no l) ≡ l
 unfolding last_of last_no
-last-back Never = refl
-last-back (On d) =
+last-back None = refl
+last-back (Some d) =
     let n : d.0 + 1 - 1 ≡ d.0 = omega arith in
-    rw (ne_eqb (d.0 + 1) 0 (λ q. omega arith)) (λ i. On (record { 0 = n i }))
+    rw (ne_eqb (d.0 + 1) 0 (λ q. omega arith)) (λ i. Some (record { 0 = n i }))
 
-last-small : (l : Last) → FineLast l → last_no l ≤ 18993
+last-small : (l : Option CalendarDays) → FineLast l → last_no l ≤ 18993
 unfolding last_no
-last-small Never f = lit≤ tt
-last-small (On d) f = omega arith
+last-small None f = lit≤ tt
+last-small (Some d) f = omega arith
 
 abbrev flat : Entry → List ℕ
 flat e = flat_map place_slot e.places

@@ -1,4 +1,6 @@
 -- The entry in 100 bytes of a buffer, as the code reads, tests and writes it. Assumes nothing.
+use Rattle.calendar.specs.declared.dates.CalendarDays.{CalendarDays}
+use Rattle.std.specs.Prelude.{Option}
 use mathlib.Core.Path.{◌≡◌, sym, ap, ◌∙◌}
 use mathlib.Core.Bool.{false}
 use mathlib.Core.List.{List, [], ◌∷◌, flat_map}
@@ -14,7 +16,6 @@ use Rattle.laws.specs.Words.{low_first, word_at}
 use Rattle.laws.proofs.Overlay.{overlay-append, part-part}
 use Rattle.laws.proofs.Words.{word-part}
 use Rattle.entries.specs.declared.entry.Entry.{Entry}
-use Rattle.entries.specs.declared.entry.Last.{Last}
 use Rattle.entries.specs.declared.entry.Place.{Place}
 use Rattle.store.specs.entry_slots.Places.{place_slot, good_place}
 use Rattle.store.specs.entry_slots.Entries.{last_no, last_of, places_of, entry_slot, entry_of, entry_at, good_entry}
@@ -38,7 +39,7 @@ module _ (s : List ℕ) (k : ℕ) where
   holder-word : word_at 2 (slot_at 0 100 s k) 0 ≡ word_at 2 s (k * 100)
   holder-word = head-word 0 (lit≤ tt) ∙ ap (word_at 2 s) (add-zero (k * 100))
 
-  pub entry_read : (holder w : ℕ) (last : Last) (places : List Place) → holder ≡ word_at 2 s (k * 100) → w ≡ word_at 2 s (k * 100 + 2) → last ≡ last_of w
+  pub entry_read : (holder w : ℕ) (last : Option CalendarDays) (places : List Place) → holder ≡ word_at 2 s (k * 100) → w ≡ word_at 2 s (k * 100 + 2) → last ≡ last_of w
       → places ≡ places_of (part s (k * 100 + 4) 96)
       → ◌≡◌ {A = Entry} (record { holder = record { 0 = holder }; last = last; places = places }) (entry_at s k)
   unfolding entry_at entry_of

@@ -1,4 +1,5 @@
 -- What the search for a number's line comes to. Assumes nothing.
+use Rattle.std.specs.Prelude.{Some, None}
 use mathlib.Core.Path.{◌≡◌, refl, sym, ap, ◌∙◌}
 use mathlib.Core.Bool.{◌&&◌}
 use mathlib.Core.List.{List, [], ◌∷◌, map}
@@ -13,7 +14,6 @@ use Rattle.fields.specs.declared.number.Number.{Number}
 use Rattle.store.specs.numbers.Lines.{line_at, number_at, line_count, lines_of}
 use Rattle.store.specs.numbers.Find.{is_of, found_line}
 use Rattle.store.specs.declared.numbers.lines.Line.{Line}
-use Rattle.store.specs.declared.numbers.find.FoundLine.TheVariants.{At, Unknown}
 
 -- ---- the first line that has the number is the first number that is the same
 same-comm : (x y : Number) → same_number x y ≡ same_number y x
@@ -31,7 +31,7 @@ line_first x t n = ap (first_at (same_number x)) (sym (map-table (λ (l : Line).
 
 -- ---- what is found
 module _ (t : List ℕ) (x : Number) where
-  pub found-short : length t < 2 + line_count t * 14 → Unknown ≡ found_line t x
+  pub found-short : length t < 2 + line_count t * 14 → None ≡ found_line t x
   unfolding found_line
   found-short h = rw (lt-leb (2 + line_count t * 14) (length t) h)
 
@@ -39,10 +39,10 @@ module _ (t : List ℕ) (x : Number) where
     q : i ≡ first_at (is_of x) (table n (line_at t))
     q = f ∙ line_first x t n
 
-    pub found_at : i < n → At i ≡ found_line t x
+    pub found_at : i < n → Some i ≡ found_line t x
     unfolding found_line lines_of
     found_at g = rw (← e, le-leb (2 + n * 14) (length t) h, ← q, lt-ltb i n g)
 
-    pub found-unknown : n ≤ i → Unknown ≡ found_line t x
+    pub found-unknown : n ≤ i → None ≡ found_line t x
     unfolding found_line lines_of
     found-unknown g = rw (← e, le-leb (2 + n * 14) (length t) h, ← q, le-ltb i n g)

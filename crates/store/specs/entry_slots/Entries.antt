@@ -1,4 +1,6 @@
 -- An entry in 100 bytes. Assumes nothing: these are definitions.
+use Rattle.calendar.specs.declared.dates.CalendarDays.{CalendarDays}
+use Rattle.std.specs.Prelude.{Option, Some, None}
 use Rattle.std.specs.Prelude.{Bool, cond, ◌&&◌, ℕ, ◌+◌, ◌-◌, eqb, leb}
 use mathlib.Core.List.{List, ◌++◌, flat_map}
 use Rattle.laws.specs.Lists.{table, all}
@@ -7,19 +9,17 @@ use Rattle.laws.specs.Slots.{slot_at}
 use Rattle.laws.specs.Words.{low_first, word_at}
 use Rattle.calendar.specs.Dates.{last_day}
 use Rattle.entries.specs.declared.entry.Entry.{Entry}
-use Rattle.entries.specs.declared.entry.Last.{Last}
-use Rattle.entries.specs.declared.entry.Last.TheVariants.{Never, On}
 use Rattle.entries.specs.declared.entry.Place.{Place}
 use Rattle.entries.specs.Entry.{place_count}
 use Rattle.store.specs.entry_slots.Places.{place_slot, place_of, good_place}
 
 -- no confirmed date is 0, and the day d is d + 1
-unfoldable pub last_no : Last → ℕ
-last_no Never = 0
-last_no (On d) = d.0 + 1
+unfoldable pub last_no : Option CalendarDays → ℕ
+last_no None = 0
+last_no (Some d) = d.0 + 1
 
-unfoldable pub last_of : ℕ → Last
-last_of n = cond (eqb n 0) Never (On (record { 0 = n - 1 }))
+unfoldable pub last_of : ℕ → Option CalendarDays
+last_of n = cond (eqb n 0) None (Some (record { 0 = n - 1 }))
 
 -- the holder and the last confirmed date in two bytes each, then the places
 unfoldable pub entry_slot : Entry → List ℕ

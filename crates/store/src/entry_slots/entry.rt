@@ -10,7 +10,7 @@ ghost use Rattle.store.specs.entry_slots.Entries.{last_no, last_of, places_of, e
 use crate::entry_slots::place;
 use crate::slots::word;
 use calendar::dates::{CalendarDays, LAST_DAY};
-use entries::entry::{Entry, Last, PLACES, Place, free_place};
+use entries::entry::{Entry, PLACES, Place, free_place};
 use fields::code::Code;
 
 // How wide the holder and the last confirmed date are together, and an entry.
@@ -19,23 +19,23 @@ pub const HEAD: usize = 4;
 pub const WIDTH: usize = HEAD + PLACES * place::WIDTH;
 
 // A last confirmed date as a number: 0 for none, else one more than its day.
-fn last_no(last: Last) -> usize
+fn last_no(last: Option<CalendarDays>) -> usize
     ensures { (result ≡ last_no last) × (result < 65537) }
 {
     match last {
-        Last::Never => 0,
-        Last::On(d) => d.0 as usize + 1,
+        None => 0,
+        Some(d) => d.0 as usize + 1,
     }
 }
 
 // And the date for a number.
-fn last_of(n: u16) -> Last
+fn last_of(n: u16) -> Option<CalendarDays>
     ensures { result ≡ last_of n }
 {
     if n == 0 {
-        return Last::Never;
+        return None;
     }
-    Last::On(CalendarDays(n - 1))
+    Some(CalendarDays(n - 1))
 }
 
 // The eight places from `at` on.

@@ -8,13 +8,6 @@ ghost use Rattle.store.specs.numbers.Find.{found_line};
 use crate::numbers::lines;
 use fields::number::Number;
 
-// Where a number has its line, or that it has none.
-#[derive(Drop)]
-pub enum FoundLine {
-    At(usize),
-    Unknown,
-}
-
 // Whether the line i has the number. The lowest byte of its first field tells most lines that do not.
 fn has_number(lines: &[u8], i: usize, low: u8, number: Number) -> bool
     requires { (2 + i * 14 + 14 ≤ length lines.now) × (low ≡ number.first.0 % 256) }
@@ -46,19 +39,19 @@ pub fn line_of(lines: &[u8], n: usize, number: Number) -> usize
 }
 
 // The line of a number. A table that is cut off before its last line has none.
-pub fn find_line(table: &[u8], number: Number) -> FoundLine
+pub fn find_line(table: &[u8], number: Number) -> Option<usize>
     ensures { result ≡ found_line table.now number }
 {
     if table.len() < lines::HEAD {
-        return FoundLine::Unknown;
+        return None;
     }
     let n = lines::line_count(table);
     if table.len() < lines::HEAD + n * lines::LINE {
-        return FoundLine::Unknown;
+        return None;
     }
     let i = line_of(table, n, number);
     if i < n {
-        return FoundLine::At(i);
+        return Some(i);
     }
-    FoundLine::Unknown
+    None
 }

@@ -1,4 +1,6 @@
 -- The verdict on a correction (paper 01, "Verdicts on reports"), rule by rule. Assumes nothing: these are definitions.
+use Rattle.entries.specs.declared.entry.Line.{Line}
+use Rattle.std.specs.Prelude.{Option}
 use Rattle.std.specs.Prelude.{Bool, not, List, [], ◌∷◌, ◌++◌, ℕ, eqb}
 use Rattle.laws.specs.Lists.{any, first_line}
 use Rattle.fields.specs.declared.code.Code.{Code}
@@ -8,7 +10,6 @@ use Rattle.verdict.specs.declared.verdicts.Verdict.TheVariants.{Lapses, NotPermi
 use Rattle.entries.specs.declared.report.Published.{Published}
 use Rattle.entries.specs.declared.entry.Place.{Place}
 use Rattle.entries.specs.declared.entry.Entry.{Entry}
-use Rattle.entries.specs.declared.entry.Listed.{Listed}
 use Rattle.verdict.specs.declared.correction_rules.Objection.{Objection}
 use Rattle.entries.specs.Report.{by_kind, same_code, meant_by, publisher_of}
 use Rattle.entries.specs.Entry.{line_in}
@@ -37,7 +38,7 @@ abbrev pub names_open : Code → Published → List Place → Bool
 names_open owner named ps = is_open named.kind (meant_by owner named) ps
 
 -- The rules on an objection, code 25XX, in order. `by` is the objector.
-abbrev pub objection_table : Listed → Entry → Code → Objection → List (Bool × Verdict)
+abbrev pub objection_table : Option Line → Entry → Code → Objection → List (Bool × Verdict)
 objection_table n e by o =
     unknown_line n  -- 12
     ++ ((not (is_permitted o.named.kind o.code), NotPermitted)  -- 31
@@ -46,9 +47,9 @@ objection_table n e by o =
     ∷ [])
 
 -- the first that applies gives the verdict; where none does it is 30
-abbrev pub objection_verdict : Listed → Entry → Code → Objection → Verdict
+abbrev pub objection_verdict : Option Line → Entry → Code → Objection → Verdict
 objection_verdict n e by o = first_line (objection_table n e by o) Lapses
 
 -- any other correction: 12, else 34
-abbrev pub other_verdict : Listed → Verdict
+abbrev pub other_verdict : Option Line → Verdict
 other_verdict n = first_line (unknown_line n) OtherCode

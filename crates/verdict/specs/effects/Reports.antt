@@ -1,4 +1,5 @@
 -- What the verdict on a report does (paper 01, "Verdicts on reports"). Assumes nothing: these are definitions.
+use Rattle.std.specs.Prelude.{Some}
 use Rattle.std.specs.Prelude.{List, [], ◌∷◌, map, ℕ}
 use Rattle.laws.specs.Lists.{first_line}
 use Rattle.fields.specs.declared.kind.Kind.TheVariants.{P, L, Z}
@@ -7,14 +8,13 @@ use Rattle.verdict.specs.declared.verdicts.Doing.TheVariants.{Keeps, Confirms, L
 use Rattle.entries.specs.declared.report.Report.{Report}
 use Rattle.entries.specs.declared.entry.Place.{Place}
 use Rattle.entries.specs.declared.entry.Entry.{Entry}
-use Rattle.entries.specs.declared.entry.Last.TheVariants.{On}
 use Rattle.entries.specs.Report.{by_kind}
 use Rattle.entries.specs.Entry.{place_count}
 use Rattle.entries.specs.places.Places.{is_open, place_of, kept_in, lapsed}
 
 -- 11: the holder is the gaining network and the last confirmed date the porting date; every open report with that date or an older one lapses
 abbrev pub confirmed : Entry → Report → Entry
-confirmed e r = record { holder = r.gaining; last = On r.date; places = map (lapsed r.date) e.places }
+confirmed e r = record { holder = r.gaining; last = Some r.date; places = map (lapsed r.date) e.places }
 
 -- 10: the report is kept in the lowest free place
 abbrev pub kept : Entry → Place → Entry

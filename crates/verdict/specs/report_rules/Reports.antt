@@ -1,4 +1,6 @@
 -- The verdict on a report (paper 01, "Verdicts on reports"), as its table has it. Assumes nothing: these are definitions.
+use Rattle.entries.specs.declared.entry.Line.{Line}
+use Rattle.std.specs.Prelude.{Option}
 use Rattle.std.specs.Prelude.{Bool, not, ◌&&◌, List, [], ◌∷◌, ◌++◌, leb, ltb}
 use Rattle.laws.specs.Lists.{first_line}
 use Rattle.calendar.specs.declared.dates.CalendarDays.{CalendarDays}
@@ -7,7 +9,6 @@ use Rattle.verdict.specs.declared.verdicts.Verdict.{Verdict}
 use Rattle.verdict.specs.declared.verdicts.Verdict.TheVariants.{Kept, Confirmed, UnknownNumber, WrongPublisher, SameNetworks, NotBeforePublication, BeforeSetUp, BeforeLast, EqualsLast, NotToOwner, AlreadyOpen, TooSoon, Full}
 use Rattle.entries.specs.declared.report.Report.{Report}
 use Rattle.entries.specs.declared.entry.Entry.{Entry}
-use Rattle.entries.specs.declared.entry.Listed.{Listed}
 use Rattle.entries.specs.Report.{same_code, publisher_of}
 use Rattle.entries.specs.Entry.{is_missing, line_in}
 use Rattle.entries.specs.places.Places.{is_open, is_full}
@@ -17,10 +18,10 @@ use Rattle.verdict.specs.report_tests.Tests.{before_last, equals_last, to_other,
 -- day.
 
 -- what is asked of every record first
-abbrev pub unknown_line : Listed → List (Bool × Verdict)
+abbrev pub unknown_line : Option Line → List (Bool × Verdict)
 unknown_line n = (is_missing n, UnknownNumber) ∷ []  -- 12
 
-abbrev pub report_lines : Listed → Entry → Code → CalendarDays → Report → List (Bool × Verdict)
+abbrev pub report_lines : Option Line → Entry → Code → CalendarDays → Report → List (Bool × Verdict)
 report_lines n e from day r =
     (not (same_code from (publisher_of r)), WrongPublisher)  -- 13
     ∷ (same_code r.losing r.gaining, SameNetworks)  -- 14
@@ -39,9 +40,9 @@ report_lines n e from day r =
 abbrev pub full_line : Entry → List (Bool × Verdict)
 full_line e = (is_full e.places, Full) ∷ []  -- 22
 
-abbrev pub report_table : Listed → Entry → Code → CalendarDays → Report → List (Bool × Verdict)
+abbrev pub report_table : Option Line → Entry → Code → CalendarDays → Report → List (Bool × Verdict)
 report_table n e from day r = unknown_line n ++ (report_lines n e from day r ++ full_line e)
 
 -- the first line that applies gives the verdict; where none does it is 10
-abbrev pub report_verdict : Listed → Entry → Code → CalendarDays → Report → Verdict
+abbrev pub report_verdict : Option Line → Entry → Code → CalendarDays → Report → Verdict
 report_verdict n e from day r = first_line (report_table n e from day r) Kept

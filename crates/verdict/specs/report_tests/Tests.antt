@@ -1,15 +1,12 @@
 -- What the table of rules on reports asks (paper 01, "Verdicts on reports"), beside what stands in the report itself. Assumes nothing: these are definitions.
+use Rattle.std.specs.Prelude.{Option, Some, None}
 use Rattle.std.specs.Prelude.{Bool, true, false, not, List, ℕ, ltb, eqb, get_or}
 use Rattle.calendar.specs.WorkingDays.{working_day_after}
 use Rattle.calendar.specs.declared.dates.CalendarDays.{CalendarDays}
-use Rattle.calendar.specs.declared.working_days.Later.{Later}
-use Rattle.calendar.specs.declared.working_days.Later.TheVariants.{On as OnDay, Ends}
 use Rattle.fields.specs.declared.code.Code.{Code}
 use Rattle.fields.specs.declared.kind.Kind.TheVariants.{P, L, Z}
 use Rattle.entries.specs.declared.report.Report.{Report}
 use Rattle.entries.specs.declared.entry.Place.{Place}
-use Rattle.entries.specs.declared.entry.Last.{Last}
-use Rattle.entries.specs.declared.entry.Last.TheVariants.{Never, On}
 use Rattle.entries.specs.Report.{by_kind, same_code}
 use Rattle.entries.specs.Entry.{free_place}
 use Rattle.entries.specs.places.Places.{is_open, place_of}
@@ -19,13 +16,13 @@ abbrev pub return_period : ℕ
 return_period = 5
 
 -- the date is before the last confirmed one; it equals the last confirmed one
-abbrev pub before_last : CalendarDays → Last → Bool
-before_last d Never = false
-before_last d (On l) = ltb d.0 l.0
+abbrev pub before_last : CalendarDays → Option CalendarDays → Bool
+before_last d None = false
+before_last d (Some l) = ltb d.0 l.0
 
-abbrev pub equals_last : CalendarDays → Last → Bool
-equals_last d Never = false
-equals_last d (On l) = eqb d.0 l.0
+abbrev pub equals_last : CalendarDays → Option CalendarDays → Bool
+equals_last d None = false
+equals_last d (Some l) = eqb d.0 l.0
 
 -- a Z whose gaining network is not the owner
 abbrev pub to_other : Code → Report → Bool
@@ -44,9 +41,9 @@ abbrev pub zed_day : Report → List Place → CalendarDays
 zed_day r ps = (get_or ps (place_of Z r ps) free_place).day
 
 -- the day is before this one, or the calendar ends first
-abbrev pub not_yet : CalendarDays → Later → Bool
-not_yet day (OnDay d) = ltb day.0 d.0
-not_yet day Ends = true
+abbrev pub not_yet : CalendarDays → Option CalendarDays → Bool
+not_yet day (Some d) = ltb day.0 d.0
+not_yet day None = true
 
 -- the day is before the fifth working day after the publication of the matching open Z, or the calendar ends first
 abbrev pub too_soon : CalendarDays → Report → List Place → Bool

@@ -3,7 +3,7 @@ ghost use Rattle.std.specs.Prelude.{◌≡◌};
 ghost use Rattle.verdict.specs.effects.Reports.{kept, confirmed, report_effect, partner_at};
 
 use crate::verdicts::Doing;
-use entries::entry::{Entry, Last, PLACES, Place};
+use entries::entry::{Entry, PLACES, Place};
 use entries::report::Report;
 use fields::kind::Kind;
 
@@ -32,7 +32,7 @@ fn confirm(e: Entry, r: Report) -> Entry
     let after = entries::places::lapse_all(before, date);
     Entry {
         holder: holder,
-        last: Last::On(date),
+        last: Some(date),
         places: after,
     }
 }

@@ -17,26 +17,26 @@ entry_at-e-requires c =
     let a = c.args in
     let s = has_room a.table.now a.entries.now (sym c.has_entries.ensures ∙ c.if-not-has_entries.false) in
     let found = c.find_line-found in
-    let f = c.in-At in
+    let f = c.in-Some in
     omega (arith, s.long-table, s.few-lines, s.long-entries, found_below a.table.now a.number (omega (arith, s.long-table, s.few-lines)) f.i (sym f.is ∙ found.ensures))
 
-pub returns-in-At : goal.returns-in-At
+pub returns-in-Some : goal.returns-in-Some
 unfolding entry_looked
-returns-in-At c =
+returns-in-Some c =
     let a = c.args in
     let yes = sym c.has_entries.ensures ∙ c.if-not-has_entries.false in
     let s = has_room a.table.now a.entries.now yes in
     let found = c.find_line-found in
-    let f = c.in-At in
+    let f = c.in-Some in
     shows _ _ _ _ yes
     (ap entry_look (held-here a.table.now a.number (omega (arith, s.long-table, s.few-lines)) (entry_at a.entries.now) f.i c.entry_at-e.result (sym f.is ∙ found.ensures) c.entry_at-e.ensures))
 
-pub returns-in-Unknown : goal.returns-in-Unknown
+pub returns-in-None : goal.returns-in-None
 unfolding entry_looked
-returns-in-Unknown c =
+returns-in-None c =
     let a = c.args in
     let yes = sym c.has_entries.ensures ∙ c.if-not-has_entries.false in
     let s = has_room a.table.now a.entries.now yes in
     let found = c.find_line-found in
     shows _ _ _ _ yes
-    (c.not_seen-in-Unknown.ensures ∙ ap entry_look (held-unknown a.table.now a.number (omega (arith, s.long-table, s.few-lines)) (entry_at a.entries.now) (sym c.in-Unknown.is ∙ found.ensures)))
+    (c.not_seen-in-None.ensures ∙ ap entry_look (held-unknown a.table.now a.number (omega (arith, s.long-table, s.few-lines)) (entry_at a.entries.now) (sym c.in-None.is ∙ found.ensures)))

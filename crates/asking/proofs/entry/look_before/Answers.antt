@@ -30,28 +30,28 @@ standing_at-s-requires c =
     let a = c.args in
     let s = showable a.table.now a.files.now a.regular.now a.corrections.now (sym c.showable.ensures ∙ c.if-not-showable.false) in
     let found = c.find_line-found in
-    let f = c.in-At in record { sound = sound a.table.now a.files.now a.regular.now a.corrections.now c.files_among-m.result s (among_below a.n (file_count a.files.now) c.files_among-m.result c.files_among-m.ensures); i_in_bounds = omega (arith, s.long-table, s.few-lines, found_below a.table.now a.number (omega (arith, s.long-table, s.few-lines)) f.i (sym f.is ∙ found.ensures)) }
+    let f = c.in-Some in record { sound = sound a.table.now a.files.now a.regular.now a.corrections.now c.files_among-m.result s (among_below a.n (file_count a.files.now) c.files_among-m.result c.files_among-m.ensures); i_in_bounds = omega (arith, s.long-table, s.few-lines, found_below a.table.now a.number (omega (arith, s.long-table, s.few-lines)) f.i (sym f.is ∙ found.ensures)) }
 
-pub returns-in-At : goal.returns-in-At
+pub returns-in-Some : goal.returns-in-Some
 unfolding before_looked
-returns-in-At c =
+returns-in-Some c =
     let a = c.args in
     let yes = sym c.showable.ensures ∙ c.if-not-showable.false in
     let s = showable a.table.now a.files.now a.regular.now a.corrections.now yes in
     let found = c.find_line-found in
-    let f = c.in-At in
+    let f = c.in-Some in
     let m = c.files_among-m in
     let fs = read_files a.files.now a.regular.now a.corrections.now in
     shows _ _ _ _ yes
     (ap entry_look (before_here a.table.now a.number (omega (arith, s.long-table, s.few-lines)) fs a.n f.i _ c.standing_at-s.result (sym f.is ∙ found.ensures)
     (c.standing_at-s.ensures ∙ ap (λ (l : List Filed). entry_over standings l (table_line (line_at a.table.now f.i))) (among-files a.files.now a.regular.now a.corrections.now a.n m.result m.ensures)) refl))
 
-pub returns-in-Unknown : goal.returns-in-Unknown
+pub returns-in-None : goal.returns-in-None
 unfolding before_looked
-returns-in-Unknown c =
+returns-in-None c =
     let a = c.args in
     let yes = sym c.showable.ensures ∙ c.if-not-showable.false in
     let s = showable a.table.now a.files.now a.regular.now a.corrections.now yes in
     let found = c.find_line-found in
     shows _ _ _ _ yes
-    (c.not_seen-in-Unknown.ensures ∙ ap entry_look (before-unknown a.table.now a.number (omega (arith, s.long-table, s.few-lines)) (read_files a.files.now a.regular.now a.corrections.now) a.n (sym c.in-Unknown.is ∙ found.ensures)))
+    (c.not_seen-in-None.ensures ∙ ap entry_look (before-unknown a.table.now a.number (omega (arith, s.long-table, s.few-lines)) (read_files a.files.now a.regular.now a.corrections.now) a.n (sym c.in-None.is ∙ found.ensures)))

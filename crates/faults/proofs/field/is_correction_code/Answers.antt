@@ -2,8 +2,8 @@
 use mathlib.Core.Path.{sym, ◌∙◌}
 use Rattle.faults.proofs.field.is_correction_code.Goals as goal
 
-pub returns-in-CorrectionCode : goal.returns-in-CorrectionCode
-returns-in-CorrectionCode c = rw (sym c.read.ensures ∙ c.in-CorrectionCode.is)
+pub returns-in-Some : goal.returns-in-Some
+returns-in-Some c = rw (sym c.read.ensures ∙ c.in-Some.is)
 
-pub returns-in-Fault : goal.returns-in-Fault
-returns-in-Fault c = rw (sym c.read.ensures ∙ c.in-Fault.is)
+pub returns-in-None : goal.returns-in-None
+returns-in-None c = rw (sym c.read.ensures ∙ c.in-None.is)

@@ -2,8 +2,8 @@
 use mathlib.Core.Path.{sym, ◌∙◌}
 use Rattle.faults.proofs.field.is_date.Goals as goal
 
-pub returns-in-Date : goal.returns-in-Date
-returns-in-Date c = rw (sym c.read.ensures ∙ c.in-Date.is)
+pub returns-in-Some : goal.returns-in-Some
+returns-in-Some c = rw (sym c.read.ensures ∙ c.in-Some.is)
 
-pub returns-in-Fault : goal.returns-in-Fault
-returns-in-Fault c = rw (sym c.read.ensures ∙ c.in-Fault.is)
+pub returns-in-None : goal.returns-in-None
+returns-in-None c = rw (sym c.read.ensures ∙ c.in-None.is)

@@ -14,4 +14,4 @@ returns-in_default c = rw (eq-eqb _ _ c.if-gaining-ne0.false, sym c.read.ensures
 
 pub returns : goal.returns
 unfolding is_named
-returns c = rw (eq-eqb _ _ c.if-gaining-ne0.false, sym c.read.ensures ∙ c.in-Kind.is) c.is_return.ensures
+returns c = rw (eq-eqb _ _ c.if-gaining-ne0.false, sym c.read.ensures ∙ c.in-Some.is) c.is_return.ensures

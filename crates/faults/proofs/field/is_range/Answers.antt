@@ -7,12 +7,12 @@ pub returns-in_default : goal.returns-in_default
 unfolding is_range
 returns-in_default c = rw (sym c.read.ensures ∙ c.in_default.is)
 
-pub returns-in-Number : goal.returns-in-Number
+pub returns-in-Some-2 : goal.returns-in-Some-2
 unfolding is_range
-returns-in-Number c =
-    rw (sym c.read.ensures ∙ c.in-Digits.is, sym c.read-2.ensures ∙ c.in-Number.is)
+returns-in-Some-2 c =
+    rw (sym c.read.ensures ∙ c.in-Some.is, sym c.read-2.ensures ∙ c.in-Some-2.is)
 
-pub returns-in-Fault : goal.returns-in-Fault
+pub returns-in-None : goal.returns-in-None
 unfolding is_range
-returns-in-Fault c =
-    rw (sym c.read.ensures ∙ c.in-Digits.is, sym c.read-2.ensures ∙ c.in-Fault.is)
+returns-in-None c =
+    rw (sym c.read.ensures ∙ c.in-Some.is, sym c.read-2.ensures ∙ c.in-None.is)

@@ -9,4 +9,4 @@ returns-in_default c = rw (sym c.read.ensures ∙ c.in_default.is)
 
 pub returns : goal.returns
 unfolding objects
-returns c = rw (sym c.read.ensures ∙ c.in-CorrectionCode.is) c.is_objection.ensures
+returns c = rw (sym c.read.ensures ∙ c.in-Some.is) c.is_objection.ensures

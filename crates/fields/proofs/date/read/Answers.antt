@@ -17,14 +17,14 @@ returns-in_default c =
 
 pub overflow_cast-date-3 : goal.overflow_cast-date-3
 overflow_cast-date-3 c =
-    omega (arith, (fixed_back 8 c.args.f.now c.in-Value.n (omega arith) (sym c.read_digits.ensures ∙ c.in-Value.is)).1)
+    omega (arith, (fixed_back 8 c.args.f.now c.in-Some.n (omega arith) (sym c.read_digits.ensures ∙ c.in-Some.is)).1)
 
 pub returns-in_default-day_of : goal.returns-in_default-day_of
 unfolding date_field_of date_from date_found
 returns-in_default-day_of c =
-    simp (eq-eqb _ _ c.if-f-ne8.false, sym c.read_digits.ensures ∙ c.in-Value.is, sym c.day_of.ensures ∙ c.in_default-day_of.is)
+    simp (eq-eqb _ _ c.if-f-ne8.false, sym c.read_digits.ensures ∙ c.in-Some.is, sym c.day_of.ensures ∙ c.in_default-day_of.is)
 
 pub returns : goal.returns
 unfolding date_field_of date_from date_found
 returns c =
-    simp (eq-eqb _ _ c.if-f-ne8.false, sym c.read_digits.ensures ∙ c.in-Value.is, sym c.day_of.ensures ∙ c.in-Day.is)
+    simp (eq-eqb _ _ c.if-f-ne8.false, sym c.read_digits.ensures ∙ c.in-Some.is, sym c.day_of.ensures ∙ c.in-Some-day_of.is)

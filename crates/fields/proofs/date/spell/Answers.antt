@@ -3,10 +3,10 @@ use mathlib.Core.Path.{sym, ap, ◌∙◌}
 use Rattle.fields.specs.Date.{spelling}
 use Rattle.fields.proofs.date.spell.Goals as goal
 
-pub returns-in-At : goal.returns-in-At
+pub returns-in-Some : goal.returns-in-Some
 unfolding spelling
-returns-in-At c = sym (ap spelling (sym c.date_of.ensures ∙ c.in-At.is))
+returns-in-Some c = sym (ap spelling (sym c.date_of.ensures ∙ c.in-Some.is))
 
-pub returns-in-Beyond : goal.returns-in-Beyond
+pub returns-in-None : goal.returns-in-None
 unfolding spelling
-returns-in-Beyond c = sym (ap spelling (sym c.date_of.ensures ∙ c.in-Beyond.is))
+returns-in-None c = sym (ap spelling (sym c.date_of.ensures ∙ c.in-None.is))

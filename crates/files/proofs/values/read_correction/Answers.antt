@@ -17,7 +17,7 @@ pub returns-in-Beyond : goal.returns-in-Beyond
 unfolding correction_at
 returns-in-Beyond c = rw (sym c.find.ensures ∙ c.in-Beyond.is)
 
-pub returns-in-Correction : goal.returns-in-Correction
+pub returns-in-Some : goal.returns-in-Some
 unfolding correction_at
-returns-in-Correction c =
-    rw (sym c.find.ensures ∙ c.in-Record.is, sym (ap correction_of c.piece.ensures) ∙ sym c.read.ensures ∙ c.in-Correction.is)
+returns-in-Some c =
+    rw (sym c.find.ensures ∙ c.in-Record.is, sym (ap correction_of c.piece.ensures) ∙ sym c.read.ensures ∙ c.in-Some.is)

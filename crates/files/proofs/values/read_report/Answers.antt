@@ -17,7 +17,7 @@ pub returns-in-Beyond : goal.returns-in-Beyond
 unfolding report_at
 returns-in-Beyond c = rw (sym c.find.ensures ∙ c.in-Beyond.is)
 
-pub returns-in-Report : goal.returns-in-Report
+pub returns-in-Some : goal.returns-in-Some
 unfolding report_at
-returns-in-Report c =
-    rw (sym c.find.ensures ∙ c.in-Record.is, sym (ap report_of c.piece.ensures) ∙ sym c.read.ensures ∙ c.in-Report.is)
+returns-in-Some c =
+    rw (sym c.find.ensures ∙ c.in-Record.is, sym (ap report_of c.piece.ensures) ∙ sym c.read.ensures ∙ c.in-Some.is)

@@ -17,7 +17,7 @@ pub returns-in-Beyond : goal.returns-in-Beyond
 unfolding request_at
 returns-in-Beyond c = rw (sym c.find.ensures ∙ c.in-Beyond.is)
 
-pub returns-in-Request : goal.returns-in-Request
+pub returns-in-Some : goal.returns-in-Some
 unfolding request_at
-returns-in-Request c =
-    rw (sym c.find.ensures ∙ c.in-Record.is, sym (ap request_of c.piece.ensures) ∙ sym c.read.ensures ∙ c.in-Request.is)
+returns-in-Some c =
+    rw (sym c.find.ensures ∙ c.in-Record.is, sym (ap request_of c.piece.ensures) ∙ sym c.read.ensures ∙ c.in-Some.is)

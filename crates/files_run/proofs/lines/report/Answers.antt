@@ -5,7 +5,7 @@ use Rattle.files.proofs.ValueFits.{report-at-fits}
 use Rattle.files_run.proofs.lines.report.Goals as goal
 
 pub put_report-requires : goal.put_report-requires
-put_report-requires c = (report-back _ _ (sym c.read.ensures ∙ c.in-Report.is)).1
+put_report-requires c = (report-back _ _ (sym c.read.ensures ∙ c.in-Some.is)).1
 
 pub put_report-requires-2 : goal.put_report-requires-2
-put_report-requires-2 c = report-at-fits _ _ _ (sym c.read_report.ensures ∙ c.in-Report-read_report.is)
+put_report-requires-2 c = report-at-fits _ _ _ (sym c.read_report.ensures ∙ c.in-Some-read_report.is)

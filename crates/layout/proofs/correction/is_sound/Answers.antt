@@ -9,7 +9,7 @@ returns-in_default c = simp (sym c.is_objection.ensures ∙ c.if-is_objection.tr
 
 pub returns-then-is_objection : goal.returns-then-is_objection
 unfolding is_sound
-returns-then-is_objection c = simp (sym c.is_objection.ensures ∙ c.if-is_objection.true, sym c.of_part.ensures ∙ c.in-Report.is)
+returns-then-is_objection c = simp (sym c.is_objection.ensures ∙ c.if-is_objection.true, sym c.of_part.ensures ∙ c.in-Some.is)
 
 pub returns-then-not-is_empty : goal.returns-then-not-is_empty
 unfolding is_sound

@@ -28,4 +28,4 @@ returns-in_default c =
 pub returns : goal.returns
 returns c =
     let a = c.args in
-    sym (read codes a.s.now a.at c.if-s-at.false c.if-s-at-eq44.false (omega arith) c.if-s-end-ne44.false (sym c.read.ensures ∙ c.in-Code.is))
+    sym (read codes a.s.now a.at c.if-s-at.false c.if-s-at-eq44.false (omega arith) c.if-s-end-ne44.false (sym c.read.ensures ∙ c.in-Some.is))

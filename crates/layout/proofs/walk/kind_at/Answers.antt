@@ -15,4 +15,4 @@ returns-in_default c =
 pub returns : goal.returns
 unfolding maybe_kind_from
 returns c =
-    sym (kind-read _ _ c.if-s-at.false (sym c.read.ensures ∙ c.in-Kind.is))
+    sym (kind-read _ _ c.if-s-at.false (sym c.read.ensures ∙ c.in-Some.is))

@@ -26,4 +26,4 @@ returns-in_default c =
 
 pub returns : goal.returns
 returns c =
-    sym (number-then _ _ _ _ c.field_end-end.ensures c.if-s-end.false (sym c.read.ensures ∙ c.in-Number.is))
+    sym (number-then _ _ _ _ c.field_end-end.ensures c.if-s-end.false (sym c.read.ensures ∙ c.in-Some.is))

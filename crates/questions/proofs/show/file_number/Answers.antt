@@ -17,4 +17,4 @@ returns-in_default c = rw (ne_eqb _ _ c.if-word-eq0.false, le-ltb _ _ c.if-word-
 
 pub returns : goal.returns
 unfolding file_number
-returns c = rw (ne_eqb _ _ c.if-word-eq0.false, le-ltb _ _ c.if-word-gt9.false, ← c.read_digits.ensures, c.in-Value.is)
+returns c = rw (ne_eqb _ _ c.if-word-eq0.false, le-ltb _ _ c.if-word-gt9.false, ← c.read_digits.ensures, c.in-Some.is)

@@ -2,8 +2,8 @@
 use mathlib.Core.Path.{sym, ◌∙◌}
 use Rattle.records.proofs.words.fits_request.Goals as goal
 
-pub returns-in-Request : goal.returns-in-Request
-returns-in-Request c = rw (sym c.of_words.ensures ∙ c.in-Request.is)
+pub returns-in-Some : goal.returns-in-Some
+returns-in-Some c = rw (sym c.of_words.ensures ∙ c.in-Some.is)
 
-pub returns-in-Fault : goal.returns-in-Fault
-returns-in-Fault c = rw (sym c.of_words.ensures ∙ c.in-Fault.is)
+pub returns-in-None : goal.returns-in-None
+returns-in-None c = rw (sym c.of_words.ensures ∙ c.in-None.is)

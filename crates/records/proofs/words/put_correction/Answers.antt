@@ -7,13 +7,13 @@ use Rattle.records.proofs.words.put_correction.Goals as goal
 
 pub write-requires : goal.write-requires
 write-requires c =
-    let is = sym c.of_words.ensures ∙ c.in-Correction.is in
+    let is = sym c.of_words.ensures ∙ c.in-Some.is in
     (rw is at c.requires, correction-words _ _ is)
 
-pub returns-in-Correction : goal.returns-in-Correction
-returns-in-Correction c =
-    rw (sym c.of_words.ensures ∙ c.in-Correction.is) c.write.ensures
+pub returns-in-Some : goal.returns-in-Some
+returns-in-Some c =
+    rw (sym c.of_words.ensures ∙ c.in-Some.is) c.write.ensures
 
-pub returns-in-Fault : goal.returns-in-Fault
+pub returns-in-None : goal.returns-in-None
 unfolding overlay
-returns-in-Fault c = rw (sym c.of_words.ensures ∙ c.in-Fault.is) (record { bytes = refl; ends = omega arith })
+returns-in-None c = rw (sym c.of_words.ensures ∙ c.in-None.is) (record { bytes = refl; ends = omega arith })

@@ -2,8 +2,8 @@
 use mathlib.Core.Path.{sym, ◌∙◌}
 use Rattle.rules.proofs.records.number_in_correction.Goals as goal
 
-pub returns-in-Correction : goal.returns-in-Correction
-returns-in-Correction c = rw (sym c.read-read.ensures ∙ c.in-Correction.is, c.named_number.ensures)
+pub returns-in-Some : goal.returns-in-Some
+returns-in-Some c = rw (sym c.read-read.ensures ∙ c.in-Some.is, c.named_number.ensures)
 
-pub returns-in-Fault : goal.returns-in-Fault
-returns-in-Fault c = rw (sym c.read-read.ensures ∙ c.in-Fault.is, c.no_number.ensures)
+pub returns-in-None : goal.returns-in-None
+returns-in-None c = rw (sym c.read-read.ensures ∙ c.in-None.is, c.no_number.ensures)

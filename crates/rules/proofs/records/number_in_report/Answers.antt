@@ -2,8 +2,8 @@
 use mathlib.Core.Path.{sym, ◌∙◌}
 use Rattle.rules.proofs.records.number_in_report.Goals as goal
 
-pub returns-in-Report : goal.returns-in-Report
-returns-in-Report c = rw (sym c.read-read.ensures ∙ c.in-Report.is)
+pub returns-in-Some : goal.returns-in-Some
+returns-in-Some c = rw (sym c.read-read.ensures ∙ c.in-Some.is)
 
-pub returns-in-Fault : goal.returns-in-Fault
-returns-in-Fault c = rw (sym c.read-read.ensures ∙ c.in-Fault.is, c.no_number.ensures)
+pub returns-in-None : goal.returns-in-None
+returns-in-None c = rw (sym c.read-read.ensures ∙ c.in-None.is, c.no_number.ensures)

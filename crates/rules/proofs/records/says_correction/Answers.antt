@@ -3,10 +3,10 @@ use mathlib.Core.Path.{sym, ◌∙◌}
 use Rattle.rules.proofs.records.says_correction.Goals as goal
 
 pub returns-then-is_objection : goal.returns-then-is_objection
-returns-then-is_objection c = rw (sym c.read-read.ensures ∙ c.in-Correction.is, sym c.is_objection.ensures ∙ c.if-is_objection.true, c.says_objection.ensures, c.named_report.ensures)
+returns-then-is_objection c = rw (sym c.read-read.ensures ∙ c.in-Some.is, sym c.is_objection.ensures ∙ c.if-is_objection.true, c.says_objection.ensures, c.named_report.ensures)
 
 pub returns-else-is_objection : goal.returns-else-is_objection
-returns-else-is_objection c = rw (sym c.read-read.ensures ∙ c.in-Correction.is, sym c.is_objection.ensures ∙ c.if-is_objection.false)
+returns-else-is_objection c = rw (sym c.read-read.ensures ∙ c.in-Some.is, sym c.is_objection.ensures ∙ c.if-is_objection.false)
 
-pub returns-in-Fault : goal.returns-in-Fault
-returns-in-Fault c = rw (sym c.read-read.ensures ∙ c.in-Fault.is)
+pub returns-in-None : goal.returns-in-None
+returns-in-None c = rw (sym c.read-read.ensures ∙ c.in-None.is)

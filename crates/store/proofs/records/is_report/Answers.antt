@@ -6,4 +6,4 @@ pub returns-in_default : goal.returns-in_default
 returns-in_default c = rw (sym c.read.ensures ∙ c.in_default.is)
 
 pub returns : goal.returns
-returns c = rw (sym c.read.ensures ∙ c.in-Report.is)
+returns c = rw (sym c.read.ensures ∙ c.in-Some.is)

@@ -1,5 +1,5 @@
 -- `verdict::report_tests::before_last` meets its contract: the arm's equation and computation. Assumes nothing.
 use Rattle.verdict.proofs.report_tests.before_last.Goals as goal
 
-pub returns-in-On : goal.returns-in-On
-returns-in-On c = cc
+pub returns-in-Some : goal.returns-in-Some
+returns-in-Some c = cc

@@ -8,13 +8,13 @@ returns-then-not-readable c =
     let a = c.args in
     c.not_held.ensures ∙ before-unread a.table.now a.files.now a.regular.now a.corrections.now a.entries.now (sym c.readable.ensures ∙ c.if-not-readable.true) a.n a.number
 
-pub returns-in-Number : goal.returns-in-Number
-returns-in-Number c =
+pub returns-in-Some : goal.returns-in-Some
+returns-in-Some c =
     let a = c.args in
-    let x = c.in-Number in
+    let x = c.in-Some in
     rw x.is (before-asked a.table.now a.files.now a.regular.now a.corrections.now a.entries.now (sym c.readable.ensures ∙ c.if-not-readable.false) a.n x.x c.look_before-looked.result c.entry_answer.result c.look_before-looked.ensures c.entry_answer.ensures)
 
-pub returns-in-Fault : goal.returns-in-Fault
-returns-in-Fault c =
+pub returns-in-None : goal.returns-in-None
+returns-in-None c =
     let a = c.args in
-    rw c.in-Fault.is (c.not_held-in-Fault.ensures ∙ before-fault a.table.now a.files.now a.regular.now a.corrections.now a.entries.now (sym c.readable.ensures ∙ c.if-not-readable.false) a.n)
+    rw c.in-None.is (c.not_held-in-None.ensures ∙ before-fault a.table.now a.files.now a.regular.now a.corrections.now a.entries.now (sym c.readable.ensures ∙ c.if-not-readable.false) a.n)

@@ -18,9 +18,9 @@ returns-in_default c =
 
 pub overflow_cast-result : goal.overflow_cast-result
 overflow_cast-result c =
-    omega (arith, three-below c.args.f.now c.in-Value.n (omega arith) (sym c.read_digits.ensures ∙ c.in-Value.is))
+    omega (arith, three-below c.args.f.now c.in-Some.n (omega arith) (sym c.read_digits.ensures ∙ c.in-Some.is))
 
 pub returns : goal.returns
 unfolding code_from
 returns c =
-    sym (code_read _ c.read_digits.result (omega arith) c.if-f-ne68.false c.read_digits.ensures ∙ ap code_from c.in-Value.is)
+    sym (code_read _ c.read_digits.result (omega arith) c.if-f-ne68.false c.read_digits.ensures ∙ ap code_from c.in-Some.is)

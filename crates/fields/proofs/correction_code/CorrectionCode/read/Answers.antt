@@ -17,9 +17,9 @@ returns-in_default c =
 
 pub overflow_cast-result : goal.overflow_cast-result
 overflow_cast-result c =
-    omega (arith, (fixed_back 4 c.args.f.now c.in-Value.n (omega arith) (sym c.read_digits.ensures ∙ c.in-Value.is)).1)
+    omega (arith, (fixed_back 4 c.args.f.now c.in-Some.n (omega arith) (sym c.read_digits.ensures ∙ c.in-Some.is)).1)
 
 pub returns : goal.returns
 unfolding correction_code_of correction_code_from
 returns c =
-    simp (eq-eqb _ _ c.if-f-ne4.false, sym c.read_digits.ensures ∙ c.in-Value.is)
+    simp (eq-eqb _ _ c.if-f-ne4.false, sym c.read_digits.ensures ∙ c.in-Some.is)

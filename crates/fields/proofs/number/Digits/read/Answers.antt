@@ -16,4 +16,4 @@ returns-in_default c =
 pub returns : goal.returns
 unfolding digits_field_of digits_from
 returns c =
-    simp (le-leb _ _ c.if-f-gt11.false, sym c.read_digits.ensures ∙ c.in-Value.is)
+    simp (le-leb _ _ c.if-f-gt11.false, sym c.read_digits.ensures ∙ c.in-Some.is)

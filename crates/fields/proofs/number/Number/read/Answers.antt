@@ -16,15 +16,15 @@ returns-in_default c =
 
 pub begins_block-requires : goal.begins_block-requires
 begins_block-requires c =
-    let e = sym c.read.ensures ∙ c.in-Digits.is in
+    let e = sym c.read.ensures ∙ c.in-Some.is in
     ((digits-back _ _ e).1, digits-counted _ _ e)
 
 pub returns-then-not-begins_block : goal.returns-then-not-begins_block
 unfolding number_of number_from
 returns-then-not-begins_block c =
-    simp (ne_eqb _ _ c.if-f-eq0.false, sym c.read.ensures ∙ c.in-Digits.is, sym c.begins_block.ensures ∙ c.if-not-begins_block.true)
+    simp (ne_eqb _ _ c.if-f-eq0.false, sym c.read.ensures ∙ c.in-Some.is, sym c.begins_block.ensures ∙ c.if-not-begins_block.true)
 
 pub returns : goal.returns
 unfolding number_of number_from
 returns c =
-    simp (ne_eqb _ _ c.if-f-eq0.false, sym c.read.ensures ∙ c.in-Digits.is, sym c.begins_block.ensures ∙ c.if-not-begins_block.false)
+    simp (ne_eqb _ _ c.if-f-eq0.false, sym c.read.ensures ∙ c.in-Some.is, sym c.begins_block.ensures ∙ c.if-not-begins_block.false)

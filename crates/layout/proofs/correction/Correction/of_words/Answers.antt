@@ -11,12 +11,12 @@ returns-in_default c = sym (words-2 _ c.if-w-ne13.false (sym c.of_word.ensures �
 
 pub returns-in_default-of_words : goal.returns-in_default-of_words
 returns-in_default-of_words c =
-    sym (words-3 _ c.if-w-ne13.false (sym c.of_word.ensures ∙ c.in-CorrectionCode.is) (sym c.of_words.ensures ∙ c.in_default-of_words.is))
+    sym (words-3 _ c.if-w-ne13.false (sym c.of_word.ensures ∙ c.in-Some.is) (sym c.of_words.ensures ∙ c.in_default-of_words.is))
 
 pub returns-in_default-of_words-2 : goal.returns-in_default-of_words-2
 returns-in_default-of_words-2 c =
-    sym (words-4 _ c.if-w-ne13.false (sym c.of_word.ensures ∙ c.in-CorrectionCode.is) (sym c.of_words.ensures ∙ c.in-Part.is) (sym c.of_words-2.ensures ∙ c.in_default-of_words-2.is))
+    sym (words-4 _ c.if-w-ne13.false (sym c.of_word.ensures ∙ c.in-Some.is) (sym c.of_words.ensures ∙ c.in-Some-of_words.is) (sym c.of_words-2.ensures ∙ c.in_default-of_words-2.is))
 
 pub returns : goal.returns
 returns c =
-    c.sound.ensures ∙ sym (words-5 _ c.if-w-ne13.false (sym c.of_word.ensures ∙ c.in-CorrectionCode.is) (sym c.of_words.ensures ∙ c.in-Part.is) (sym c.of_words-2.ensures ∙ c.in-Part-of_words.is))
+    c.sound.ensures ∙ sym (words-5 _ c.if-w-ne13.false (sym c.of_word.ensures ∙ c.in-Some.is) (sym c.of_words.ensures ∙ c.in-Some-of_words.is) (sym c.of_words-2.ensures ∙ c.in-Some-of_words-of_words.is))

@@ -15,12 +15,12 @@ returns-in_default c =
 
 pub returns-then-s-b : goal.returns-then-s-b
 returns-then-s-b c =
-    let p1 = sym c.read_head.ensures ∙ c.in-CorrectionCode.is in
+    let p1 = sym c.read_head.ensures ∙ c.in-Some.is in
     sym (colon-2 _ c.field_end-a.ensures c.if-s-a.false p1 c.field_end-b.ensures c.if-s-b.true)
 
 pub slice_bounds-read_reported-count : goal.slice_bounds-read_reported-count
 slice_bounds-read_reported-count c =
-    let p1 = sym c.read_head.ensures ∙ c.in-CorrectionCode.is in
+    let p1 = sym c.read_head.ensures ∙ c.in-Some.is in
     next-from (one _ c.field_end-a.ensures c.if-s-a.false p1 c.field_end-b.ensures) c.field_end-b.ensures
 
 pub slice_bounds-read_reported-start : goal.slice_bounds-read_reported-start
@@ -28,7 +28,7 @@ slice_bounds-read_reported-start c = slice_bounds-read_reported-count c
 
 pub returns-in_default-read_reported : goal.returns-in_default-read_reported
 returns-in_default-read_reported c =
-    let p1 = sym c.read_head.ensures ∙ c.in-CorrectionCode.is in
+    let p1 = sym c.read_head.ensures ∙ c.in-Some.is in
     sym (reported-2 _ c.field_end-a.ensures c.if-s-a.false p1 c.field_end-b.ensures (sym c.read_reported.ensures ∙ c.in_default-read_reported.is))
 
 pub slice_bounds-read-count : goal.slice_bounds-read-count
@@ -39,15 +39,15 @@ slice_bounds-read-start c = omega (arith, c.if-s-b.false)
 
 pub returns-in_default-read : goal.returns-in_default-read
 returns-in_default-read c =
-    let p1 = sym c.read_head.ensures ∙ c.in-CorrectionCode.is in
-    let p2 = sym c.read_reported.ensures ∙ c.in-Part.is in
+    let p1 = sym c.read_head.ensures ∙ c.in-Some.is in
+    let p2 = sym c.read_reported.ensures ∙ c.in-Some-read_reported.is in
     let p3 = part-rest c.args.s.now (c.field_end-b.result + 1) (sym c.read.ensures ∙ c.in_default-read.is) in
     sym (part-3 _ c.field_end-a.ensures c.if-s-a.false p1 c.field_end-b.ensures c.if-s-b.false p2 p3)
 
 pub returns : goal.returns
 returns c =
-    let p1 = sym c.read_head.ensures ∙ c.in-CorrectionCode.is in
-    let p2 = sym c.read_reported.ensures ∙ c.in-Part.is in
-    let p3 = part-rest c.args.s.now (c.field_end-b.result + 1) (sym c.read.ensures ∙ c.in-Part-read.is) in
+    let p1 = sym c.read_head.ensures ∙ c.in-Some.is in
+    let p2 = sym c.read_reported.ensures ∙ c.in-Some-read_reported.is in
+    let p3 = part-rest c.args.s.now (c.field_end-b.result + 1) (sym c.read.ensures ∙ c.in-Some-read_reported-read.is) in
     c.sound.ensures
     ∙ sym (part-4 _ c.field_end-a.ensures c.if-s-a.false p1 c.field_end-b.ensures c.if-s-b.false p2 p3)

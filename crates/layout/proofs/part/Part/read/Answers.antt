@@ -28,4 +28,4 @@ returns-in_default-kind_at c =
 
 pub returns : goal.returns
 returns c =
-    sym (walk-7 _ (sym c.digits_at.ensures ∙ c.in-Digits.is) (sym c.number_at.ensures ∙ c.in-Number.is) (sym c.date_at.ensures ∙ c.in-Date.is) (sym c.code_at.ensures ∙ c.in-Code.is) (sym c.code_at-2.ensures ∙ c.in-Code-code_at.is) (sym c.kind_at.ensures ∙ c.in-MaybeKind.is))
+    sym (walk-7 _ (sym c.digits_at.ensures ∙ c.in-Digits.is) (sym c.number_at.ensures ∙ c.in-Number.is) (sym c.date_at.ensures ∙ c.in-Date.is) (sym c.code_at.ensures ∙ c.in-Code.is) (sym c.code_at-2.ensures ∙ c.in-Code-code_at.is) (sym c.kind_at.ensures ∙ c.in-Some.is))

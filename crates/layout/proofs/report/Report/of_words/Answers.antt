@@ -9,4 +9,4 @@ returns-in_default c = simp (sym c.of_words.ensures ∙ c.in_default.is)
 
 pub returns : goal.returns
 unfolding report_of_words report_from
-returns c = simp (sym c.of_words.ensures ∙ c.in-Part.is) c.of_part.ensures
+returns c = simp (sym c.of_words.ensures ∙ c.in-Some.is) c.of_part.ensures

@@ -9,4 +9,4 @@ returns-in_default c = simp (sym c.read.ensures ∙ c.in_default.is)
 
 pub returns : goal.returns
 unfolding report_of report_from
-returns c = simp (sym c.read.ensures ∙ c.in-Part.is) c.of_part.ensures
+returns c = simp (sym c.read.ensures ∙ c.in-Some.is) c.of_part.ensures

@@ -11,8 +11,8 @@ returns-in_default c = sym (words-2 _ c.if-w-ne2.false (sym c.of_word.ensures �
 
 pub returns-in_default-of_word : goal.returns-in_default-of_word
 returns-in_default-of_word c =
-    sym (words-3 _ c.if-w-ne2.false (sym c.of_word.ensures ∙ c.in-Code.is) (sym c.of_word-2.ensures ∙ c.in_default-of_word.is))
+    sym (words-3 _ c.if-w-ne2.false (sym c.of_word.ensures ∙ c.in-Some.is) (sym c.of_word-2.ensures ∙ c.in_default-of_word.is))
 
 pub returns : goal.returns
 returns c =
-    sym (words-4 _ c.if-w-ne2.false (sym c.of_word.ensures ∙ c.in-Code.is) (sym c.of_word-2.ensures ∙ c.in-MaybeDate.is))
+    sym (words-4 _ c.if-w-ne2.false (sym c.of_word.ensures ∙ c.in-Some.is) (sym c.of_word-2.ensures ∙ c.in-Some-of_word.is))

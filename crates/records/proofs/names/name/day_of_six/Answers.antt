@@ -13,4 +13,4 @@ returns-in_default c = rw (← c.full_year.ensures, c.in_default.is)
 pub returns : goal.returns
 unfolding day_of_six
 returns c =
-    rw (← c.full_year.ensures, c.in-Year.is) c.day_of.ensures
+    rw (← c.full_year.ensures, c.in-Some.is) c.day_of.ensures

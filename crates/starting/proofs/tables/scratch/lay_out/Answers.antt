@@ -56,7 +56,7 @@ pub loop-at-preserved : goal.loop-at-preserved
 loop-at-preserved c = let a = c.args in
     let t = c.loop-at.invariant.1 in (
       c.put_line.auto.lines ∙ c.loop-at.invariant.0,
-      rw c.field_end-end.ensures (turn-next a.text.now a.room.now c.loop-at.at c.loop-at.n c.loop-at.room t (rw c.field_end-end.ensures at c.if-text-end.false) c.in-Line.l _ c.if-n-ge-NUMBERS.false (rw c.field_end-end.ensures at (sym c.read_line.ensures ∙ c.in-Line.is)) c.put_line.ensures),
+      rw c.field_end-end.ensures (turn-next a.text.now a.room.now c.loop-at.at c.loop-at.n c.loop-at.room t (rw c.field_end-end.ensures at c.if-text-end.false) c.in-Some.l _ c.if-n-ge-NUMBERS.false (rw c.field_end-end.ensures at (sym c.read_line.ensures ∙ c.in-Some.is)) c.put_line.ensures),
     )
 
 pub returns : goal.returns

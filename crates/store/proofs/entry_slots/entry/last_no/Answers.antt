@@ -5,10 +5,10 @@ use Rattle.store.specs.entry_slots.Entries.{last_no}
 use borrow.Author.Rules.{rules}
 use Rattle.store.proofs.entry_slots.entry.last_no.Goals as goal
 
-pub returns-in-Never : goal.returns-in-Never
+pub returns-in-None : goal.returns-in-None
 unfolding last_no
-returns-in-Never c = rw c.in-Never.is (refl, lit< tt)
+returns-in-None c = rw c.in-None.is (refl, lit< tt)
 
-pub returns-in-On : goal.returns-in-On
+pub returns-in-Some : goal.returns-in-Some
 unfolding last_no
-returns-in-On c = (rw c.in-On.is, search rules)
+returns-in-Some c = (rw c.in-Some.is, search rules)

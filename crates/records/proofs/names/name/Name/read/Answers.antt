@@ -24,14 +24,14 @@ slice_bounds-read_digits-end c =
 pub returns-in_default-read_digits : goal.returns-in_default-read_digits
 unfolding name_of
 returns-in_default-read_digits c =
-    rw (sym c.is_framed.ensures ∙ c.if-not-is_framed.false, sym c.of_letter.ensures ∙ c.in-Kind.is, sym c.read_digits.ensures ∙ c.in_default-read_digits.is)
+    rw (sym c.is_framed.ensures ∙ c.if-not-is_framed.false, sym c.of_letter.ensures ∙ c.in-Some.is, sym c.read_digits.ensures ∙ c.in_default-read_digits.is)
 
 pub returns-in_default-day_of_six : goal.returns-in_default-day_of_six
 unfolding name_of
 returns-in_default-day_of_six c =
-    rw (sym c.is_framed.ensures ∙ c.if-not-is_framed.false, sym c.of_letter.ensures ∙ c.in-Kind.is, sym c.read_digits.ensures ∙ c.in-Value.is, sym c.day_of_six.ensures ∙ c.in_default-day_of_six.is)
+    rw (sym c.is_framed.ensures ∙ c.if-not-is_framed.false, sym c.of_letter.ensures ∙ c.in-Some.is, sym c.read_digits.ensures ∙ c.in-Some-read_digits.is, sym c.day_of_six.ensures ∙ c.in_default-day_of_six.is)
 
 pub returns : goal.returns
 unfolding name_of
 returns c =
-    rw (sym c.is_framed.ensures ∙ c.if-not-is_framed.false, sym c.of_letter.ensures ∙ c.in-Kind.is, sym c.read_digits.ensures ∙ c.in-Value.is, sym c.day_of_six.ensures ∙ c.in-Day.is)
+    rw (sym c.is_framed.ensures ∙ c.if-not-is_framed.false, sym c.of_letter.ensures ∙ c.in-Some.is, sym c.read_digits.ensures ∙ c.in-Some-read_digits.is, sym c.day_of_six.ensures ∙ c.in-Some-day_of_six.is)

@@ -12,8 +12,8 @@ returns-in_default c =
 
 pub returns-then-out-lt12 : goal.returns-then-out-lt12
 returns-then-out-lt12 c =
-    wrote-short c.args.self _ c.in-At.date (sym c.date_of.ensures ∙ c.in-At.is) c.if-out-lt12.true
+    wrote-short c.args.self _ c.in-Some.date (sym c.date_of.ensures ∙ c.in-Some.is) c.if-out-lt12.true
 
 pub returns : goal.returns
 returns c =
-    wrote-name c.args.self _ c.in-At.date _ (sym c.date_of.ensures ∙ c.in-At.is) c.if-out-lt12.false (c.put.ensures ∙ ap₂ (λ (a b : ℕ). overlay c.args.out.now 0 (spelling a b)) c.letter.ensures c.six.ensures)
+    wrote-name c.args.self _ c.in-Some.date _ (sym c.date_of.ensures ∙ c.in-Some.is) c.if-out-lt12.false (c.put.ensures ∙ ap₂ (λ (a b : ℕ). overlay c.args.out.now 0 (spelling a b)) c.letter.ensures c.six.ensures)

@@ -1,8 +1,8 @@
--- `fields::kind::MaybeKind::of_word` meets its contract. Assumes nothing.
+-- `fields::kind::maybe_of_word` meets its contract. Assumes nothing.
 use mathlib.Core.Path.{sym, ◌∙◌}
 use borrow.Author.Tests.{eq-eqb, ne_eqb}
 use Rattle.fields.specs.Kind.{maybe_kind_of_word, maybe_kind_from}
-use Rattle.fields.proofs.kind.MaybeKind.of_word.Goals as goal
+use Rattle.fields.proofs.kind.maybe_of_word.Goals as goal
 
 pub returns-then-w-eq-NONE : goal.returns-then-w-eq-NONE
 unfolding maybe_kind_of_word maybe_kind_from
@@ -16,4 +16,4 @@ returns-in_default c =
 pub returns : goal.returns
 unfolding maybe_kind_of_word maybe_kind_from
 returns c =
-    simp (ne_eqb _ _ c.if-w-eq-NONE.false, sym c.of_word.ensures ∙ c.in-Kind.is)
+    simp (ne_eqb _ _ c.if-w-eq-NONE.false, sym c.of_word.ensures ∙ c.in-Some.is)

@@ -1,8 +1,8 @@
--- `fields::date::MaybeDate::read` meets its contract. Assumes nothing.
+-- `fields::date::maybe_read` meets its contract. Assumes nothing.
 use mathlib.Core.Path.{sym, ◌∙◌}
 use borrow.Author.Tests.{eq-eqb, ne_eqb}
 use Rattle.fields.specs.Date.{maybe_date_of, maybe_date_from}
-use Rattle.fields.proofs.date.MaybeDate.read.Goals as goal
+use Rattle.fields.proofs.date.maybe_read.Goals as goal
 
 pub returns-then-f-eq0 : goal.returns-then-f-eq0
 unfolding maybe_date_of maybe_date_from
@@ -16,4 +16,4 @@ returns-in_default c =
 pub returns : goal.returns
 unfolding maybe_date_of maybe_date_from
 returns c =
-    simp (ne_eqb _ _ c.if-f-eq0.false, sym c.read.ensures ∙ c.in-Date.is)
+    simp (ne_eqb _ _ c.if-f-eq0.false, sym c.read.ensures ∙ c.in-Some.is)

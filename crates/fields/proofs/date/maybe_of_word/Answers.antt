@@ -1,8 +1,8 @@
--- `fields::date::MaybeDate::of_word` meets its contract. Assumes nothing.
+-- `fields::date::maybe_of_word` meets its contract. Assumes nothing.
 use mathlib.Core.Path.{sym, ◌∙◌}
 use borrow.Author.Tests.{eq-eqb, ne_eqb}
 use Rattle.fields.specs.Date.{maybe_date_of_word, maybe_date_from}
-use Rattle.fields.proofs.date.MaybeDate.of_word.Goals as goal
+use Rattle.fields.proofs.date.maybe_of_word.Goals as goal
 
 pub returns-then-w-eq-NONE : goal.returns-then-w-eq-NONE
 unfolding maybe_date_of_word maybe_date_from
@@ -16,4 +16,4 @@ returns-in_default c =
 pub returns : goal.returns
 unfolding maybe_date_of_word maybe_date_from
 returns c =
-    simp (ne_eqb _ _ c.if-w-eq-NONE.false, sym c.of_word.ensures ∙ c.in-Date.is)
+    simp (ne_eqb _ _ c.if-w-eq-NONE.false, sym c.of_word.ensures ∙ c.in-Some.is)
