@@ -1,4 +1,6 @@
 -- A walk through a correction's pieces: which way its reader goes. What follows the second colon is read whole, for no part has a colon. Assumes nothing.
+use Rattle.layout.specs.declared.correction.Correction.{Correction}
+use Rattle.std.specs.Prelude.{Option, Some, None}
 use Rattle.std.specs.Prelude.{Option, Some, None}
 use Prim.Native.Nat.{ℕ, ◌+◌, ◌-◌, ◌<◌, ◌≤◌}
 use native.Mathlib.Omega.{arith}
@@ -35,7 +37,7 @@ module _ (s : List ℕ) where
   unfolding correction_of
   fault-any p = rw p (go (eqb (length (split 58 s)) 3))
     where
-      go : (t : Bool) → cond t None None ≡ None
+      go : (t : Bool) → cond {A = Option Correction} t None None ≡ None
       go true = refl
       go false = refl
 

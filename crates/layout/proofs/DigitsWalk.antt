@@ -1,4 +1,5 @@
 -- The digits of a field passed once: what they are worth so far and what is left of the line say what the field reads as. Assumes nothing.
+use Rattle.std.specs.Prelude.{Option, Some, None}
 use Rattle.std.specs.Prelude.{Some, None}
 use Prim.Native.Nat.{ℕ, suc, ◌+◌, ◌-◌, ◌*◌, ◌<◌, ◌≤◌}
 use native.Mathlib.Nat.{add-zero}
@@ -20,8 +21,6 @@ use Rattle.laws.proofs.Tests.{le-or-lt}
 use Rattle.text.specs.Spelt.{spells, digits_of}
 use Rattle.fields.specs.declared.number.Digits.{Digits}
 use Rattle.fields.specs.Number.{digits_from, digits_field_of, number_of}
-use Rattle.layout.specs.declared.walk.DigitsAt.{DigitsAt}
-use Rattle.layout.specs.declared.walk.NumberAt.{NumberAt}
 use Rattle.layout.specs.Walk.{reach_of, digits_then, digits_at, number_at}
 use Rattle.layout.proofs.WalkLaws.{end-from, digits-none, digits-then, number-none, number-then}
 
@@ -30,8 +29,8 @@ abbrev comma : List ℕ → ℕ
 comma g = first_at (is_sep 44) g
 
 -- what a field reads as of which digits worth n lie before the place k, g follows, and the comma is one of the first m bytes of g
-unfoldable pub found : ℕ → ℕ → ℕ → List ℕ → DigitsAt
-found m n k g = cond (ltb (comma g) (length g)) (digits_then (cond (ltb (comma g) m) (digits_from (spells n (take (comma g) g))) None) (k + comma g + 1)) DigitsAt.Fault
+unfoldable pub found : ℕ → ℕ → ℕ → List ℕ → Option (Digits × ℕ)
+found m n k g = cond (ltb (comma g) (length g)) (digits_then (cond (ltb (comma g) m) (digits_from (spells n (take (comma g) g))) None) (k + comma g + 1)) None
 
 -- ---- the next byte
 module _ (m n k b : ℕ) (t : List ℕ) where
@@ -43,7 +42,7 @@ module _ (m n k b : ℕ) (t : List ℕ) where
   unfolding is_sep
   comma-here h = rw (eq-eqb b 44 h)
 
-  next-comma : b ≡ 44 → found (suc m) n k (b ∷ t) ≡ DigitsAt.Digits (record { 0 = n }) (k + 1)
+  next-comma : b ≡ 44 → found (suc m) n k (b ∷ t) ≡ Some ((record { 0 = n }), (k + 1))
   unfolding found spells all spelt digits_from
   next-comma h = rw (comma-here h, lt-ltb 0 (length (b ∷ t)) (omega arith), lt-ltb 0 (suc m) (omega arith), add-zero)
 
@@ -54,19 +53,19 @@ module _ (m n k b : ℕ) (t : List ℕ) where
       rw (comma-on (λ e. omega arith), leb-suc-suc (suc (comma t)) (length t), leb-suc-suc (suc (comma t)) m, le-leb 48 b low, le-leb b 57 high, place)
 
 -- neither a digit nor the comma: a fault, however far the comma is
-fault-in : (far near : Bool) (next : ℕ) → cond far (digits_then (cond near None None) next) DigitsAt.Fault ≡ DigitsAt.Fault
+fault-in : (far near : Bool) (next : ℕ) → cond far (digits_then (cond near None None) next) None ≡ None
 fault-in true true next = refl
 fault-in true false next = refl
 fault-in false near next = refl
 
 module _ (m n k b : ℕ) (t : List ℕ) where
-  next-other : is_digit b ≡ false → (b ≡ 44 → ⊥) → found m n k (b ∷ t) ≡ DigitsAt.Fault
+  next-other : is_digit b ≡ false → (b ≡ 44 → ⊥) → found m n k (b ∷ t) ≡ None
   unfolding found spells all digits_from
   next-other other h = rw (comma-on m n k b t h, other) (fault-in (ltb (suc (comma t)) (suc (length t))) (ltb (suc (comma t)) m) (k + suc (comma t) + 1))
 
 -- ---- the same at a place of a line
 module _ (s : List ℕ) (m n i : ℕ) (h : i < length s) where
-  pub found-comma : get_or s i 0 ≡ 44 → found (suc m) n i (drop i s) ≡ DigitsAt.Digits (record { 0 = n }) (i + 1)
+  pub found-comma : get_or s i 0 ≡ 44 → found (suc m) n i (drop i s) ≡ Some ((record { 0 = n }), (i + 1))
   found-comma e = ap (found (suc m) n i) (drop-cons s i 0 h) ∙ next-comma m n i (get_or s i 0) (drop (suc i) s) e
 
   pub found-digit : 48 ≤ get_or s i 0 → get_or s i 0 ≤ 57 → found (suc m) n i (drop i s) ≡ found m (n * 10 + (get_or s i 0 - 48)) (i + 1) (drop (i + 1) s)
@@ -75,22 +74,22 @@ module _ (s : List ℕ) (m n i : ℕ) (h : i < length s) where
       ∙ next-digit m n i (get_or s i 0) (drop (suc i) s) low high
       ∙ ap (λ (j : ℕ). found m (n * 10 + (get_or s i 0 - 48)) (i + 1) (drop j s)) (sym (add-one i))
 
-  pub found-low : get_or s i 0 < 48 → (get_or s i 0 ≡ 44 → ⊥) → found m n i (drop i s) ≡ DigitsAt.Fault
+  pub found-low : get_or s i 0 < 48 → (get_or s i 0 ≡ 44 → ⊥) → found m n i (drop i s) ≡ None
   unfolding is_digit
   found-low low ne = ap (found m n i) (drop-cons s i 0 h) ∙ next-other m n i (get_or s i 0) (drop (suc i) s) (rw (lt-leb 48 (get_or s i 0) low)) ne
 
-  pub found-high : 57 < get_or s i 0 → found m n i (drop i s) ≡ DigitsAt.Fault
+  pub found-high : 57 < get_or s i 0 → found m n i (drop i s) ≡ None
   unfolding is_digit
   found-high high =
       ap (found m n i) (drop-cons s i 0 h)
       ∙ next-other m n i (get_or s i 0) (drop (suc i) s) (rw (le-leb 48 (get_or s i 0) (omega arith), lt-leb (get_or s i 0) 57 high)) (λ e. omega arith)
 
 -- ---- no byte is left, or none that the comma could be
-pub found_none : (s : List ℕ) (m n i : ℕ) → length s ≤ i → found m n i (drop i s) ≡ DigitsAt.Fault
+pub found_none : (s : List ℕ) (m n i : ℕ) → length s ≤ i → found m n i (drop i s) ≡ None
 unfolding found
 found_none s m n i h = rw (drop_of_length-le s h)
 
-pub found-late : (n k : ℕ) (g : List ℕ) → found 0 n k g ≡ DigitsAt.Fault
+pub found-late : (n k : ℕ) (g : List ℕ) → found 0 n k g ≡ None
 unfolding found
 found-late n k g = rw (le-ltb (comma g) 0 (omega arith)) (fault-in (ltb (comma g) (length g)) true (k + comma g + 1))
 
@@ -126,7 +125,7 @@ module _ (s : List ℕ) (at : ℕ) where
   reach-twelve = ⊎_elim (λ (h : length s ≤ at + 12). rw (le-leb (length s) (at + 12) h) (omega arith)) (λ (h : at + 12 < length s). rw (lt-leb (length s) (at + 12) h) (omega arith)) (le-or-lt (length s) (at + 12))
 
   -- and nothing is found behind that
-  pub found-beyond : (n i : ℕ) → reach_of s at ≤ i → found (at + 12 - i) n i (drop i s) ≡ DigitsAt.Fault
+  pub found-beyond : (n i : ℕ) → reach_of s at ≤ i → found (at + 12 - i) n i (drop i s) ≡ None
   unfolding reach_of
   found-beyond n i h =
       ⊎_elim
@@ -138,12 +137,12 @@ module _ (s : List ℕ) (at : ℕ) where
 
 -- ---- the second field: empty, or past the end of the line
 module _ (first : Digits) (s : List ℕ) (at : ℕ) where
-  pub number-empty : at < length s → get_or s at 0 ≡ 44 → number_at first s at ≡ NumberAt.Number (record { first = first; last = record { 0 = 1 } }) (at + 1)
+  pub number-empty : at < length s → get_or s at 0 ≡ 44 → number_at first s at ≡ Some ((record { first = first; last = record { 0 = 1 } }), (at + 1))
   unfolding end_of is_sep number_of
   number-empty h e =
       let here : at ≡ at + comma (drop at s) = sym (first-here (is_sep 44) 0 s at h (eq-eqb (get_or s at 0) 44 e)) in
       let none : at - at ≡ 0 = omega arith in
       number-then first s at at here h {r = Some (record { first = first; last = record { 0 = 1 } })} (rw none refl)
 
-  pub number-beyond : length s ≤ at → number_at first s at ≡ NumberAt.Fault
+  pub number-beyond : length s ≤ at → number_at first s at ≡ None
   number-beyond h = number-none first s at (end_of 44 s at) refl (omega (arith, end-from s at))

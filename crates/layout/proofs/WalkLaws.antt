@@ -23,10 +23,6 @@ use Rattle.fields.specs.Code.{maybe_code_of}
 use Rattle.fields.specs.Date.{maybe_date_of}
 use Rattle.fields.specs.Kind.{kind_by, kind_of, maybe_kind_from, maybe_kind_of}
 use Rattle.fields.specs.Number.{digits_field_of, number_of}
-use Rattle.layout.specs.declared.walk.DigitsAt.{DigitsAt}
-use Rattle.layout.specs.declared.walk.NumberAt.{NumberAt}
-use Rattle.layout.specs.declared.walk.DateAt.{DateAt}
-use Rattle.layout.specs.declared.walk.CodeAt.{CodeAt}
 use Rattle.layout.specs.Part.{on_digits, on_number, on_date, on_code, on_kind, six_of, part_of}
 use Rattle.layout.specs.Walk.{digits_then, digits_at, number_then, number_at, date_then, date_at, code_then, code_at}
 
@@ -69,7 +65,7 @@ module _ {X R A : Type 0} (read : List ℕ → R) (on : R → (X → Option Part
 
 -- ---- the digits of a number's first field
 module _ (s : List ℕ) (at e : ℕ) (q : e ≡ end_of 44 s at) where
-  pub digits-none : length s ≤ e → digits_at s at ≡ DigitsAt.Fault
+  pub digits-none : length s ≤ e → digits_at s at ≡ None
   unfolding digits_at
   digits-none h = rw (← q, le-ltb e (length s) h)
 
@@ -80,9 +76,9 @@ module _ (s : List ℕ) (at e : ℕ) (q : e ≡ end_of 44 s at) where
 abbrev digits_head : (Digits → List (List ℕ) → Option Part) → List (List ℕ) → Option Part
 digits_head K = headed (digits_field_of) (λ r k. on_digits r None k) K
 
-abbrev on_digits_at : DigitsAt → (Digits → ℕ → Option Part) → Option Part
-on_digits_at (DigitsAt.Digits x next) k = k x next
-on_digits_at DigitsAt.Fault k = None
+abbrev on_digits_at : Option (Digits × ℕ) → (Digits → ℕ → Option Part) → Option Part
+on_digits_at (Some (x, next)) k = k x next
+on_digits_at None k = None
 
 digits-stops : (r : Option Digits) (k : Digits → Option Part) → ((x : Digits) → k x ≡ None) → on_digits r None k ≡ None
 digits-stops (Some x) k h = h x
@@ -98,13 +94,13 @@ digits-at =
     (record {
       stops = digits-stops;
       goes = digits-goes;
-      none = λ s at k h. ap (λ (r : DigitsAt). on_digits_at r k) (digits-none s at (end_of 44 s at) refl h);
+      none = λ s at k h. ap (λ (r : Option (Digits × ℕ)). on_digits_at r k) (digits-none s at (end_of 44 s at) refl h);
       more = λ s at h. digits-then s at (end_of 44 s at) refl h refl;
     })
 
 -- ---- a number's second field
 module _ (first : Digits) (s : List ℕ) (at e : ℕ) (q : e ≡ end_of 44 s at) where
-  pub number-none : length s ≤ e → number_at first s at ≡ NumberAt.Fault
+  pub number-none : length s ≤ e → number_at first s at ≡ None
   unfolding number_at
   number-none h = rw (← q, le-ltb e (length s) h)
 
@@ -115,9 +111,9 @@ module _ (first : Digits) (s : List ℕ) (at e : ℕ) (q : e ≡ end_of 44 s at)
 abbrev number_head : Digits → (Number → List (List ℕ) → Option Part) → List (List ℕ) → Option Part
 number_head first K = headed (number_of first) (λ r k. on_number r None k) K
 
-abbrev on_number_at : NumberAt → (Number → ℕ → Option Part) → Option Part
-on_number_at (NumberAt.Number x next) k = k x next
-on_number_at NumberAt.Fault k = None
+abbrev on_number_at : Option (Number × ℕ) → (Number → ℕ → Option Part) → Option Part
+on_number_at (Some (x, next)) k = k x next
+on_number_at None k = None
 
 number-stops : (r : Option Number) (k : Number → Option Part) → ((x : Number) → k x ≡ None) → on_number r None k ≡ None
 number-stops (Some x) k h = h x
@@ -133,13 +129,13 @@ number-at first =
     (record {
       stops = number-stops;
       goes = number-goes;
-      none = λ s at k h. ap (λ (r : NumberAt). on_number_at r k) (number-none first s at (end_of 44 s at) refl h);
+      none = λ s at k h. ap (λ (r : Option (Number × ℕ)). on_number_at r k) (number-none first s at (end_of 44 s at) refl h);
       more = λ s at h. number-then first s at (end_of 44 s at) refl h refl;
     })
 
 -- ---- a date, or an empty field
 module _ (s : List ℕ) (at e : ℕ) (q : e ≡ end_of 44 s at) where
-  pub date-none : length s ≤ e → date_at s at ≡ DateAt.Fault
+  pub date-none : length s ≤ e → date_at s at ≡ None
   unfolding date_at
   date-none h = rw (← q, le-ltb e (length s) h)
 
@@ -150,9 +146,9 @@ module _ (s : List ℕ) (at e : ℕ) (q : e ≡ end_of 44 s at) where
 abbrev date_head : ((Option CalendarDays) → List (List ℕ) → Option Part) → List (List ℕ) → Option Part
 date_head K = headed (maybe_date_of) (λ r k. on_date r None k) K
 
-abbrev on_date_at : DateAt → ((Option CalendarDays) → ℕ → Option Part) → Option Part
-on_date_at (DateAt.Date x next) k = k x next
-on_date_at DateAt.Fault k = None
+abbrev on_date_at : Option (Option CalendarDays × ℕ) → ((Option CalendarDays) → ℕ → Option Part) → Option Part
+on_date_at (Some (x, next)) k = k x next
+on_date_at None k = None
 
 date-stops : (r : Option (Option CalendarDays)) (k : Option CalendarDays → Option Part) → ((x : Option CalendarDays) → k x ≡ None) → on_date r None k ≡ None
 date-stops (Some x) k h = h x
@@ -168,13 +164,13 @@ date-at =
     (record {
       stops = date-stops;
       goes = date-goes;
-      none = λ s at k h. ap (λ (r : DateAt). on_date_at r k) (date-none s at (end_of 44 s at) refl h);
+      none = λ s at k h. ap (λ (r : Option (Option CalendarDays × ℕ)). on_date_at r k) (date-none s at (end_of 44 s at) refl h);
       more = λ s at h. date-then s at (end_of 44 s at) refl h refl;
     })
 
 -- ---- a code, or an empty field
 module _ (s : List ℕ) (at e : ℕ) (q : e ≡ end_of 44 s at) where
-  pub code-none : length s ≤ e → code_at s at ≡ CodeAt.Fault
+  pub code-none : length s ≤ e → code_at s at ≡ None
   unfolding code_at
   code-none h = rw (← q, le-ltb e (length s) h)
 
@@ -185,9 +181,9 @@ module _ (s : List ℕ) (at e : ℕ) (q : e ≡ end_of 44 s at) where
 abbrev code_head : ((Option Code) → List (List ℕ) → Option Part) → List (List ℕ) → Option Part
 code_head K = headed (maybe_code_of) (λ r k. on_code r None k) K
 
-abbrev on_code_at : CodeAt → ((Option Code) → ℕ → Option Part) → Option Part
-on_code_at (CodeAt.Code x next) k = k x next
-on_code_at CodeAt.Fault k = None
+abbrev on_code_at : Option (Option Code × ℕ) → ((Option Code) → ℕ → Option Part) → Option Part
+on_code_at (Some (x, next)) k = k x next
+on_code_at None k = None
 
 code-stops : (r : Option (Option Code)) (k : Option Code → Option Part) → ((x : Option Code) → k x ≡ None) → on_code r None k ≡ None
 code-stops (Some x) k h = h x
@@ -203,7 +199,7 @@ code-at =
     (record {
       stops = code-stops;
       goes = code-goes;
-      none = λ s at k h. ap (λ (r : CodeAt). on_code_at r k) (code-none s at (end_of 44 s at) refl h);
+      none = λ s at k h. ap (λ (r : Option (Option Code × ℕ)). on_code_at r k) (code-none s at (end_of 44 s at) refl h);
       more = λ s at h. code-then s at (end_of 44 s at) refl h refl;
     })
 
@@ -298,41 +294,41 @@ module _ (s : List ℕ) where
   unfolding part_of headed
   from-0 = part-pieces (split 44 s) ∙ digits-at _ (λ first. refl) s 0
 
-  pub walk_1 : digits_at s 0 ≡ DigitsAt.Fault → part_of s ≡ None
+  pub walk_1 : digits_at s 0 ≡ None → part_of s ≡ None
   walk_1 p₁ = from-0 ∙ rw p₁
 
-  module _ {first : Digits} {a : ℕ} (p₁ : digits_at s 0 ≡ DigitsAt.Digits first a) where
+  module _ {first : Digits} {a : ℕ} (p₁ : digits_at s 0 ≡ Some (first, a)) where
     from-1 : part_of s ≡ on_number_at (number_at first s a) (λ number next. from_date number (split 44 (drop next s)))
     unfolding headed
     from-1 = from-0 ∙ rw p₁ (number-at first _ (λ number. refl) s a)
 
-    pub walk_2 : number_at first s a ≡ NumberAt.Fault → part_of s ≡ None
+    pub walk_2 : number_at first s a ≡ None → part_of s ≡ None
     walk_2 p₂ = from-1 ∙ rw p₂
 
-    module _ {number : Number} {b : ℕ} (p₂ : number_at first s a ≡ NumberAt.Number number b) where
+    module _ {number : Number} {b : ℕ} (p₂ : number_at first s a ≡ Some (number, b)) where
       from-2 : part_of s ≡ on_date_at (date_at s b) (λ date next. from_gaining number date (split 44 (drop next s)))
       unfolding headed
       from-2 = from-1 ∙ rw p₂ (date-at _ (λ date. refl) s b)
 
-      pub walk_3 : date_at s b ≡ DateAt.Fault → part_of s ≡ None
+      pub walk_3 : date_at s b ≡ None → part_of s ≡ None
       walk_3 p₃ = from-2 ∙ rw p₃
 
-      module _ {date : Option CalendarDays} {c : ℕ} (p₃ : date_at s b ≡ DateAt.Date date c) where
+      module _ {date : Option CalendarDays} {c : ℕ} (p₃ : date_at s b ≡ Some (date, c)) where
         from-3 : part_of s ≡ on_code_at (code_at s c) (λ gaining next. from_losing number date gaining (split 44 (drop next s)))
         unfolding headed
         from-3 = from-2 ∙ rw p₃ (code-at _ (λ gaining. refl) s c)
 
-        pub walk_4 : code_at s c ≡ CodeAt.Fault → part_of s ≡ None
+        pub walk_4 : code_at s c ≡ None → part_of s ≡ None
         walk_4 p₄ = from-3 ∙ rw p₄
 
-        module _ {gaining : Option Code} {d : ℕ} (p₄ : code_at s c ≡ CodeAt.Code gaining d) where
+        module _ {gaining : Option Code} {d : ℕ} (p₄ : code_at s c ≡ Some (gaining, d)) where
           from-4 : part_of s ≡ on_code_at (code_at s d) (λ losing next. kind_last number date gaining losing (split 44 (drop next s)))
           from-4 = from-3 ∙ rw p₄ (code-at _ (λ losing. refl) s d)
 
-          pub walk_5 : code_at s d ≡ CodeAt.Fault → part_of s ≡ None
+          pub walk_5 : code_at s d ≡ None → part_of s ≡ None
           walk_5 p₅ = from-4 ∙ rw p₅
 
-          module _ {losing : Option Code} {e : ℕ} (p₅ : code_at s d ≡ CodeAt.Code losing e) where
+          module _ {losing : Option Code} {e : ℕ} (p₅ : code_at s d ≡ Some (losing, e)) where
             from-5 : part_of s ≡ on_kind (maybe_kind_of (drop e s)) None λ kind. Some (record { number = number; date = date; gaining = gaining; losing = losing; kind = kind })
             from-5 = from-4 ∙ rw p₅ (kind_at number date gaining losing (drop e s))
 

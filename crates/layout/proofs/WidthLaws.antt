@@ -28,8 +28,6 @@ use Rattle.fields.specs.Kind.{kind_of, maybe_kind_from, maybe_kind_of}
 use Rattle.fields.proofs.ByteLaws.{bytes-code, bytes-maybe-date}
 use Rattle.fields.proofs.CodeLaws.{code-back}
 use Rattle.fields.proofs.DateLaws.{maybe-date-back}
-use Rattle.layout.specs.declared.walk.DateAt.{DateAt}
-use Rattle.layout.specs.declared.walk.CodeAt.{CodeAt}
 use Rattle.layout.specs.Walk.{date_at, code_at}
 use Rattle.layout.proofs.WalkLaws.{end-from, date-none, date-then, code-none, code-then}
 
@@ -140,7 +138,7 @@ date-clean : (f : List ℕ) → (length f ≡ 0 → ⊥) → (d : CalendarDays) 
 unfolding maybe_date_from field_byte is_digit
 date-clean f z d r = rw (maybe-date-back f (Some d) (date-filled f z r)).0 at (lacks-by field_byte 44 refl (maybe_date_text (Some d)) (bytes-maybe-date (Some d)))
 
-pub dates : Wide 8 date_field_of None Some date_at DateAt.Fault (λ n. DateAt.Date None n) (λ d n. DateAt.Date (Some d) n)
+pub dates : Wide 8 date_field_of None Some date_at None (λ n. Some (None, n)) (λ d n. Some ((Some d), n))
 unfolding maybe_date_from
 dates = record {
   some = omega arith;
@@ -169,7 +167,7 @@ code-clean : (f : List ℕ) → (length f ≡ 0 → ⊥) → (c : Code) → code
 unfolding field_byte is_digit
 code-clean f z c r = rw (code-back f c r).0 at (lacks-by field_byte 44 refl (code_text c) (bytes-code c))
 
-pub codes : Wide 4 code_of None Some code_at CodeAt.Fault (λ n. CodeAt.Code None n) (λ c n. CodeAt.Code (Some c) n)
+pub codes : Wide 4 code_of None Some code_at None (λ n. Some (None, n)) (λ c n. Some ((Some c), n))
 unfolding maybe_code_from
 codes = record {
   some = omega arith;

@@ -10,10 +10,6 @@ use Rattle.fields.specs.declared.number.Digits.{Digits}
 use Rattle.fields.specs.Code.{maybe_code_of}
 use Rattle.fields.specs.Date.{maybe_date_of}
 use Rattle.fields.specs.Number.{digits_field_of, number_of}
-use Rattle.layout.specs.declared.walk.DigitsAt.{DigitsAt}
-use Rattle.layout.specs.declared.walk.NumberAt.{NumberAt}
-use Rattle.layout.specs.declared.walk.DateAt.{DateAt}
-use Rattle.layout.specs.declared.walk.CodeAt.{CodeAt}
 
 -- the field that starts at `at`
 abbrev pub field_at : List ℕ → ℕ → List ℕ
@@ -24,33 +20,33 @@ field_at s at = between s at (end_of 44 s at)
 unfoldable pub reach_of : List ℕ → ℕ → ℕ
 reach_of s at = cond (leb (length s) (at + 12)) (length s) (at + 12)
 
-abbrev pub digits_then : Option Digits → ℕ → DigitsAt
-digits_then (Some d) next = DigitsAt.Digits d next
-digits_then None next = DigitsAt.Fault
+abbrev pub digits_then : Option Digits → ℕ → Option (Digits × ℕ)
+digits_then (Some d) next = Some (d, next)
+digits_then None next = None
 
-unfoldable pub digits_at : List ℕ → ℕ → DigitsAt
-digits_at s at = cond (ltb (end_of 44 s at) (length s)) (digits_then (digits_field_of (field_at s at)) (end_of 44 s at + 1)) DigitsAt.Fault
+unfoldable pub digits_at : List ℕ → ℕ → Option (Digits × ℕ)
+digits_at s at = cond (ltb (end_of 44 s at) (length s)) (digits_then (digits_field_of (field_at s at)) (end_of 44 s at + 1)) None
 
 -- ---- a number's second field beside the first
-abbrev pub number_then : Option Number → ℕ → NumberAt
-number_then (Some n) next = NumberAt.Number n next
-number_then None next = NumberAt.Fault
+abbrev pub number_then : Option Number → ℕ → Option (Number × ℕ)
+number_then (Some n) next = Some (n, next)
+number_then None next = None
 
-unfoldable pub number_at : Digits → List ℕ → ℕ → NumberAt
-number_at first s at = cond (ltb (end_of 44 s at) (length s)) (number_then (number_of first (field_at s at)) (end_of 44 s at + 1)) NumberAt.Fault
+unfoldable pub number_at : Digits → List ℕ → ℕ → Option (Number × ℕ)
+number_at first s at = cond (ltb (end_of 44 s at) (length s)) (number_then (number_of first (field_at s at)) (end_of 44 s at + 1)) None
 
 -- ---- a date, or an empty field
-abbrev pub date_then : Option (Option CalendarDays) → ℕ → DateAt
-date_then (Some d) next = DateAt.Date d next
-date_then None next = DateAt.Fault
+abbrev pub date_then : Option (Option CalendarDays) → ℕ → Option (Option CalendarDays × ℕ)
+date_then (Some d) next = Some (d, next)
+date_then None next = None
 
-unfoldable pub date_at : List ℕ → ℕ → DateAt
-date_at s at = cond (ltb (end_of 44 s at) (length s)) (date_then (maybe_date_of (field_at s at)) (end_of 44 s at + 1)) DateAt.Fault
+unfoldable pub date_at : List ℕ → ℕ → Option (Option CalendarDays × ℕ)
+date_at s at = cond (ltb (end_of 44 s at) (length s)) (date_then (maybe_date_of (field_at s at)) (end_of 44 s at + 1)) None
 
 -- ---- a code, or an empty field
-abbrev pub code_then : Option (Option Code) → ℕ → CodeAt
-code_then (Some c) next = CodeAt.Code c next
-code_then None next = CodeAt.Fault
+abbrev pub code_then : Option (Option Code) → ℕ → Option (Option Code × ℕ)
+code_then (Some c) next = Some (c, next)
+code_then None next = None
 
-unfoldable pub code_at : List ℕ → ℕ → CodeAt
-code_at s at = cond (ltb (end_of 44 s at) (length s)) (code_then (maybe_code_of (field_at s at)) (end_of 44 s at + 1)) CodeAt.Fault
+unfoldable pub code_at : List ℕ → ℕ → Option (Option Code × ℕ)
+code_at s at = cond (ltb (end_of 44 s at) (length s)) (code_then (maybe_code_of (field_at s at)) (end_of 44 s at + 1)) None

@@ -5,8 +5,11 @@ ghost use Rattle.laws.specs.Overlay.{Laid};
 ghost use Rattle.layout.specs.Part.{part_of, part_of_words, part_fits, part_text};
 
 use crate::putting;
-use crate::walk::{CodeAt, DateAt, DigitsAt, NumberAt};
+use calendar::dates::CalendarDays;
+use fields::code::Code;
+use fields::kind::Kind;
 use fields::number::{Digits, Number};
+use fields::{code, date, kind};
 
 #[derive(Clone, Copy)]
 pub struct Part {
@@ -21,19 +24,19 @@ impl Part {
     pub fn read(s: &[u8]) -> Option<Part>
         ensures { result ≡ part_of s.now }
     {
-        let DigitsAt::Digits(first, a) = crate::walk::digits_at(s, 0) else {
+        let Some((first, a)) = crate::walk::digits_at(s, 0) else {
             return None;
         };
-        let NumberAt::Number(number, b) = crate::walk::number_at(first, s, a) else {
+        let Some((number, b)) = crate::walk::number_at(first, s, a) else {
             return None;
         };
-        let DateAt::Date(date, c) = crate::walk::date_at(s, b) else {
+        let Some((date, c)) = crate::walk::date_at(s, b) else {
             return None;
         };
-        let CodeAt::Code(gaining, d) = crate::walk::code_at(s, c) else {
+        let Some((gaining, d)) = crate::walk::code_at(s, c) else {
             return None;
         };
-        let CodeAt::Code(losing, e) = crate::walk::code_at(s, d) else {
+        let Some((losing, e)) = crate::walk::code_at(s, d) else {
             return None;
         };
         let Some(kind) = crate::walk::kind_at(s, e) else {
@@ -63,16 +66,16 @@ impl Part {
         if !number.fits() {
             return None;
         }
-        let Some(date) = Option<CalendarDays>::of_word(w[2]) else {
+        let Some(date) = date::maybe_of_word(w[2]) else {
             return None;
         };
-        let Some(gaining) = Option<Code>::of_word(w[3]) else {
+        let Some(gaining) = code::maybe_of_word(w[3]) else {
             return None;
         };
-        let Some(losing) = Option<Code>::of_word(w[4]) else {
+        let Some(losing) = code::maybe_of_word(w[4]) else {
             return None;
         };
-        let Some(kind) = Option<Kind>::of_word(w[5]) else {
+        let Some(kind) = kind::maybe_of_word(w[5]) else {
             return None;
         };
         Some(Part {
@@ -95,7 +98,13 @@ impl Part {
         let kind = self.kind;
         let first = number.first;
         let last = number.last;
-        first.len() + last.len() + date.len() + gaining.len() + losing.len() + kind.len() + 5
+        first.len()
+            + last.len()
+            + date::maybe_len(date)
+            + code::maybe_len(gaining)
+            + code::maybe_len(losing)
+            + kind::maybe_len(kind)
+            + 5
     }
 
     // Into six fields that can hold it.
@@ -111,6 +120,6 @@ impl Part {
         let a = putting::put_number(number, out, at);
         let b = putting::put_date(date, out, a);
         let c = putting::put_networks(gaining, losing, out, b);
-        kind.write(out, c)
+        kind::maybe_write(kind, out, c)
     }
 }

@@ -7,8 +7,11 @@ ghost use Rattle.fields.specs.Date.{maybe_date_fits, maybe_date_text};
 ghost use Rattle.fields.specs.Number.{digits_fits, digits_text, number_fits};
 ghost use Rattle.layout.specs.Putting.{followed, number_followed, networks_followed, head_text, between_parts};
 
+use calendar::dates::CalendarDays;
+use fields::code::Code;
 use fields::correction_code::CorrectionCode;
 use fields::number::{Digits, Number};
+use fields::{code, date};
 
 fn put_digits(d: Digits, out: &mut [u8], at: usize) -> usize
     requires { (at + length (followed (digits_text d)) ≤ length out.old) × (digits_fits d ≡ true) }
@@ -22,7 +25,7 @@ fn put_code(code: Option<Code>, out: &mut [u8], at: usize) -> usize
     requires { (at + length (followed (maybe_code_text code)) ≤ length out.old) × (maybe_code_fits code ≡ true) }
     ensures { Laid out.old at (followed (maybe_code_text code)) out.new result }
 {
-    let behind = code.write(out, at);
+    let behind = code::maybe_write(code, out, at);
     text::put_byte(out, behind, 44)
 }
 
@@ -30,7 +33,7 @@ pub(crate) fn put_date(date: Option<CalendarDays>, out: &mut [u8], at: usize) ->
     requires { (at + length (followed (maybe_date_text date)) ≤ length out.old) × (maybe_date_fits date ≡ true) }
     ensures { Laid out.old at (followed (maybe_date_text date)) out.new result }
 {
-    let comma = date.write(out, at);
+    let comma = date::maybe_write(date, out, at);
     text::put_byte(out, comma, 44)
 }
 

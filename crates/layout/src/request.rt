@@ -3,7 +3,9 @@ ghost use Rattle.std.specs.Prelude.{◌≡◌, true, ◌+◌, ◌≤◌, length}
 ghost use Rattle.laws.specs.Overlay.{Laid};
 ghost use Rattle.layout.specs.Request.{request_of, request_of_words, request_fits, request_text};
 
+use calendar::dates::CalendarDays;
 use fields::code::Code;
+use fields::date;
 
 #[derive(Clone, Copy)]
 pub struct Request {
@@ -21,7 +23,7 @@ impl Request {
         let Some(code) = Code::read(text::piece(s, 44, 0)) else {
             return None;
         };
-        let Some(from) = Option<CalendarDays>::read(text::piece(s, 44, 1)) else {
+        let Some(from) = date::maybe_read(text::piece(s, 44, 1)) else {
             return None;
         };
         let rest = text::piece(s, 44, 2);
@@ -41,7 +43,7 @@ impl Request {
         let Some(code) = Code::of_word(w[0]) else {
             return None;
         };
-        let Some(from) = Option<CalendarDays>::of_word(w[1]) else {
+        let Some(from) = date::maybe_of_word(w[1]) else {
             return None;
         };
         Some(Request { code, from })
@@ -52,7 +54,7 @@ impl Request {
         ensures { result ≡ length (request_text self) }
     {
         let from = self.from;
-        from.len() + 6
+        date::maybe_len(from) + 6
     }
 
     // Into a record that can hold it.
@@ -64,7 +66,7 @@ impl Request {
         let from = self.from;
         let a = code.write(out, at);
         let a1 = text::put_byte(out, a, 44);
-        let b = from.write(out, a1);
+        let b = date::maybe_write(from, out, a1);
         text::put_byte(out, b, 44)
     }
 }

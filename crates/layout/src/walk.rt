@@ -3,34 +3,10 @@ ghost use Rattle.std.specs.Prelude.{◌≡◌, drop};
 ghost use Rattle.fields.specs.Kind.{maybe_kind_of};
 ghost use Rattle.layout.specs.Walk.{reach_of, digits_at, number_at, date_at, code_at};
 
+use calendar::dates::CalendarDays;
 use fields::code::Code;
 use fields::kind::Kind;
 use fields::number::{Digits, Number};
-
-// Each field's value, and the place behind its comma; a fault where it has no value or no comma follows.
-#[derive(Drop)]
-pub enum DigitsAt {
-    Digits(Digits, usize),
-    Fault,
-}
-
-#[derive(Drop)]
-pub enum NumberAt {
-    Number(Number, usize),
-    Fault,
-}
-
-#[derive(Drop)]
-pub enum DateAt {
-    Date(Option<CalendarDays>, usize),
-    Fault,
-}
-
-#[derive(Drop)]
-pub enum CodeAt {
-    Code(Option<Code>, usize),
-    Fault,
-}
 
 fn wide(b: u8) -> u64
     ensures { result ≡ b }
@@ -52,7 +28,7 @@ fn reach(s: &[u8], at: usize) -> usize
 }
 
 // What the digits are worth is known as they are passed.
-pub(crate) fn digits_at(s: &[u8], at: usize) -> DigitsAt
+pub(crate) fn digits_at(s: &[u8], at: usize) -> Option<(Digits, usize)>
     ensures { result ≡ digits_at s.now at }
 {
     let stop = reach(s, at);
@@ -62,95 +38,95 @@ pub(crate) fn digits_at(s: &[u8], at: usize) -> DigitsAt
         let b = s[i];
         if b < 48 {
             if b != 44 {
-                return DigitsAt::Fault;
+                return None;
             }
             let next = i + 1;
-            return DigitsAt::Digits(Digits(n), next);
+            return Some((Digits(n), next));
         }
         if 57 < b {
-            return DigitsAt::Fault;
+            return None;
         }
         n = n * 10 + (wide(b) - 48);
         i += 1;
     }
-    DigitsAt::Fault
+    None
 }
 
-pub(crate) fn number_at(first: Digits, s: &[u8], at: usize) -> NumberAt
+pub(crate) fn number_at(first: Digits, s: &[u8], at: usize) -> Option<(Number, usize)>
     ensures { result ≡ number_at first s.now at }
 {
     if s.len() <= at {
-        return NumberAt::Fault;
+        return None;
     }
     if s[at] == 44 {
         let next = at + 1;
-        return NumberAt::Number(
+        return Some((
             Number {
                 first,
                 last: Digits::EMPTY,
             },
             next,
-        );
+        ));
     }
     let end = text::field_end(s, at, 44);
     if s.len() <= end {
-        return NumberAt::Fault;
+        return None;
     }
     let Some(n) = Number::read(first, &s[at..end]) else {
-        return NumberAt::Fault;
+        return None;
     };
     let next = end + 1;
-    NumberAt::Number(n, next)
+    Some((n, next))
 }
 
 // A date has eight bytes, or none.
-pub(crate) fn date_at(s: &[u8], at: usize) -> DateAt
+pub(crate) fn date_at(s: &[u8], at: usize) -> Option<(Option<CalendarDays>, usize)>
     ensures { result ≡ date_at s.now at }
 {
     if s.len() <= at {
-        return DateAt::Fault;
+        return None;
     }
     if s[at] == 44 {
         let next = at + 1;
-        return DateAt::Date(None, next);
+        return Some((None, next));
     }
     if s.len() - at <= 8 {
-        return DateAt::Fault;
+        return None;
     }
     let end = at + 8;
     if s[end] != 44 {
-        return DateAt::Fault;
+        return None;
     }
     let Some(d) = fields::date::read(&s[at..end]) else {
-        return DateAt::Fault;
+        return None;
     };
     let next = end + 1;
-    DateAt::Date(Some(d), next)
+    Some((Some(d), next))
 }
 
 // A code has four bytes, or none.
-pub(crate) fn code_at(s: &[u8], at: usize) -> CodeAt
+pub(crate) fn code_at(s: &[u8], at: usize) -> Option<(Option<Code>, usize)>
     ensures { result ≡ code_at s.now at }
 {
     if s.len() <= at {
-        return CodeAt::Fault;
+        return None;
     }
     if s[at] == 44 {
         let next = at + 1;
-        return CodeAt::Code(None, next);
+        return Some((None, next));
     }
     if s.len() - at <= 4 {
-        return CodeAt::Fault;
+        return None;
     }
     let end = at + 4;
     if s[end] != 44 {
-        return CodeAt::Fault;
+        return None;
     }
     let Some(c) = Code::read(&s[at..end]) else {
-        return CodeAt::Fault;
+        return None;
     };
     let next = end + 1;
-    CodeAt::Code(Some(c), next)
+    Some((Some(c), next))
 }
 
 // All that is left is the kind, which no comma follows.

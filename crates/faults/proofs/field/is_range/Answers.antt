@@ -7,10 +7,10 @@ pub returns-in_default : goal.returns-in_default
 unfolding is_range
 returns-in_default c = rw (sym c.read.ensures ∙ c.in_default.is)
 
-pub returns-in-Some-2 : goal.returns-in-Some-2
+pub returns-in-Some-read : goal.returns-in-Some-read
 unfolding is_range
-returns-in-Some-2 c =
-    rw (sym c.read.ensures ∙ c.in-Some.is, sym c.read-2.ensures ∙ c.in-Some-2.is)
+returns-in-Some-read c =
+    rw (sym c.read.ensures ∙ c.in-Some.is, sym c.read-2.ensures ∙ c.in-Some-read.is)
 
 pub returns-in-None : goal.returns-in-None
 unfolding is_range

@@ -5,16 +5,16 @@ use Rattle.layout.specs.Putting.{followed}
 use Rattle.layout.proofs.PutLaws.{room, comma}
 use Rattle.layout.proofs.putting.put_date.Goals as goal
 
-pub write-comma-requires : goal.write-comma-requires
-write-comma-requires c =
+pub maybe_write-comma-requires : goal.maybe_write-comma-requires
+maybe_write-comma-requires c =
     (room-first (maybe_date_text c.args.date) comma (room c.args.out.now c.args.at (followed (maybe_date_text c.args.date)) c.requires.0), c.requires.1)
 
 pub put_byte-requires : goal.put_byte-requires
 put_byte-requires c =
-    room-byte (room_next comma (room c.args.out.now c.args.at (followed (maybe_date_text c.args.date)) c.requires.0) c.write-comma.ensures)
+    room-byte (room_next comma (room c.args.out.now c.args.at (followed (maybe_date_text c.args.date)) c.requires.0) c.maybe_write-comma.ensures)
 
 pub shape_of-out : goal.shape_of-out
-shape_of-out c = laid-length (laid_then c.write-comma.ensures c.put_byte.ensures)
+shape_of-out c = laid-length (laid_then c.maybe_write-comma.ensures c.put_byte.ensures)
 
 pub returns : goal.returns
-returns c = laid_then c.write-comma.ensures c.put_byte.ensures
+returns c = laid_then c.maybe_write-comma.ensures c.put_byte.ensures

@@ -19,4 +19,4 @@ returns-in_default-of_words-2 c =
 
 pub returns : goal.returns
 returns c =
-    c.sound.ensures ∙ sym (words-5 _ c.if-w-ne13.false (sym c.of_word.ensures ∙ c.in-Some.is) (sym c.of_words.ensures ∙ c.in-Some-of_words.is) (sym c.of_words-2.ensures ∙ c.in-Some-of_words-of_words.is))
+    c.sound.ensures ∙ sym (words-5 _ c.if-w-ne13.false (sym c.of_word.ensures ∙ c.in-Some.is) (sym c.of_words.ensures ∙ c.in-Some-of_words.is) (sym c.of_words-2.ensures ∙ c.in-Some-of_words-2.is))

@@ -48,6 +48,6 @@ pub returns : goal.returns
 returns c =
     let p1 = sym c.read_head.ensures ∙ c.in-Some.is in
     let p2 = sym c.read_reported.ensures ∙ c.in-Some-read_reported.is in
-    let p3 = part-rest c.args.s.now (c.field_end-b.result + 1) (sym c.read.ensures ∙ c.in-Some-read_reported-read.is) in
+    let p3 = part-rest c.args.s.now (c.field_end-b.result + 1) (sym c.read.ensures ∙ c.in-Some-read.is) in
     c.sound.ensures
     ∙ sym (part-4 _ c.field_end-a.ensures c.if-s-a.false p1 c.field_end-b.ensures c.if-s-b.false p2 p3)

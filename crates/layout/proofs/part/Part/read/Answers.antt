@@ -8,24 +8,24 @@ returns-in_default c = sym (walk_1 _ (sym c.digits_at.ensures ∙ c.in_default.i
 
 pub returns-in_default-number_at : goal.returns-in_default-number_at
 returns-in_default-number_at c =
-    sym (walk_2 _ (sym c.digits_at.ensures ∙ c.in-Digits.is) (sym c.number_at.ensures ∙ c.in_default-number_at.is))
+    sym (walk_2 _ (sym c.digits_at.ensures ∙ c.in-Some.is) (sym c.number_at.ensures ∙ c.in_default-number_at.is))
 
 pub returns-in_default-date_at : goal.returns-in_default-date_at
 returns-in_default-date_at c =
-    sym (walk_3 _ (sym c.digits_at.ensures ∙ c.in-Digits.is) (sym c.number_at.ensures ∙ c.in-Number.is) (sym c.date_at.ensures ∙ c.in_default-date_at.is))
+    sym (walk_3 _ (sym c.digits_at.ensures ∙ c.in-Some.is) (sym c.number_at.ensures ∙ c.in-Some-number_at.is) (sym c.date_at.ensures ∙ c.in_default-date_at.is))
 
 pub returns-in_default-code_at : goal.returns-in_default-code_at
 returns-in_default-code_at c =
-    sym (walk_4 _ (sym c.digits_at.ensures ∙ c.in-Digits.is) (sym c.number_at.ensures ∙ c.in-Number.is) (sym c.date_at.ensures ∙ c.in-Date.is) (sym c.code_at.ensures ∙ c.in_default-code_at.is))
+    sym (walk_4 _ (sym c.digits_at.ensures ∙ c.in-Some.is) (sym c.number_at.ensures ∙ c.in-Some-number_at.is) (sym c.date_at.ensures ∙ c.in-Some-date_at.is) (sym c.code_at.ensures ∙ c.in_default-code_at.is))
 
 pub returns-in_default-code_at-2 : goal.returns-in_default-code_at-2
 returns-in_default-code_at-2 c =
-    sym (walk_5 _ (sym c.digits_at.ensures ∙ c.in-Digits.is) (sym c.number_at.ensures ∙ c.in-Number.is) (sym c.date_at.ensures ∙ c.in-Date.is) (sym c.code_at.ensures ∙ c.in-Code.is) (sym c.code_at-2.ensures ∙ c.in_default-code_at-2.is))
+    sym (walk_5 _ (sym c.digits_at.ensures ∙ c.in-Some.is) (sym c.number_at.ensures ∙ c.in-Some-number_at.is) (sym c.date_at.ensures ∙ c.in-Some-date_at.is) (sym c.code_at.ensures ∙ c.in-Some-code_at.is) (sym c.code_at-2.ensures ∙ c.in_default-code_at-2.is))
 
 pub returns-in_default-kind_at : goal.returns-in_default-kind_at
 returns-in_default-kind_at c =
-    sym (walk_6 _ (sym c.digits_at.ensures ∙ c.in-Digits.is) (sym c.number_at.ensures ∙ c.in-Number.is) (sym c.date_at.ensures ∙ c.in-Date.is) (sym c.code_at.ensures ∙ c.in-Code.is) (sym c.code_at-2.ensures ∙ c.in-Code-code_at.is) (sym c.kind_at.ensures ∙ c.in_default-kind_at.is))
+    sym (walk_6 _ (sym c.digits_at.ensures ∙ c.in-Some.is) (sym c.number_at.ensures ∙ c.in-Some-number_at.is) (sym c.date_at.ensures ∙ c.in-Some-date_at.is) (sym c.code_at.ensures ∙ c.in-Some-code_at.is) (sym c.code_at-2.ensures ∙ c.in-Some-code_at-2.is) (sym c.kind_at.ensures ∙ c.in_default-kind_at.is))
 
 pub returns : goal.returns
 returns c =
-    sym (walk-7 _ (sym c.digits_at.ensures ∙ c.in-Digits.is) (sym c.number_at.ensures ∙ c.in-Number.is) (sym c.date_at.ensures ∙ c.in-Date.is) (sym c.code_at.ensures ∙ c.in-Code.is) (sym c.code_at-2.ensures ∙ c.in-Code-code_at.is) (sym c.kind_at.ensures ∙ c.in-Some.is))
+    sym (walk-7 _ (sym c.digits_at.ensures ∙ c.in-Some.is) (sym c.number_at.ensures ∙ c.in-Some-number_at.is) (sym c.date_at.ensures ∙ c.in-Some-date_at.is) (sym c.code_at.ensures ∙ c.in-Some-code_at.is) (sym c.code_at-2.ensures ∙ c.in-Some-code_at-2.is) (sym c.kind_at.ensures ∙ c.in-Some-kind_at.is))

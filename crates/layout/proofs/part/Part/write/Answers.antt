@@ -24,14 +24,14 @@ put_networks-c-requires c =
     let r1 = room_next (date_on p) (room-part p c.args.out.now c.args.at c.requires.0) c.put_number-a.ensures in
     (room-first (networks_followed p.gaining p.losing) (maybe_kind_text p.kind) (room_next (networks_on p) r1 c.put_date-b.ensures), (part-fields p c.requires.1).2, (part-fields p c.requires.1).3)
 
-pub write-requires : goal.write-requires
-write-requires c =
+pub maybe_write-requires : goal.maybe_write-requires
+maybe_write-requires c =
     let p = c.args.self in
     let r1 = room_next (date_on p) (room-part p c.args.out.now c.args.at c.requires.0) c.put_number-a.ensures in
     (room_next (maybe_kind_text p.kind) (room_next (networks_on p) r1 c.put_date-b.ensures) c.put_networks-c.ensures).fits
 
 pub shape_of-out : goal.shape_of-out
-shape_of-out c = laid-length (laid_then c.put_number-a.ensures (laid_then c.put_date-b.ensures (laid_then c.put_networks-c.ensures c.write.ensures)))
+shape_of-out c = laid-length (laid_then c.put_number-a.ensures (laid_then c.put_date-b.ensures (laid_then c.put_networks-c.ensures c.maybe_write.ensures)))
 
 pub returns : goal.returns
-returns c = rw (whole c.args.self) (laid_then c.put_number-a.ensures (laid_then c.put_date-b.ensures (laid_then c.put_networks-c.ensures c.write.ensures)))
+returns c = rw (whole c.args.self) (laid_then c.put_number-a.ensures (laid_then c.put_date-b.ensures (laid_then c.put_networks-c.ensures c.maybe_write.ensures)))

@@ -21,13 +21,13 @@ returns-in_default-maybe_losing c =
 pub returns-in_default-maybe_kind : goal.returns-in_default-maybe_kind
 unfolding whole_of
 returns-in_default-maybe_kind c =
-    simp (sym c.is_empty.ensures ∙ c.if-is_empty.false, c.in-Some.is, c.in-Some-2.is, c.in_default-maybe_kind.is)
+    simp (sym c.is_empty.ensures ∙ c.if-is_empty.false, c.in-Some.is, c.in-Some-maybe_losing.is, c.in_default-maybe_kind.is)
 
 pub returns-then-not-is_named : goal.returns-then-not-is_named
 unfolding whole_of
 returns-then-not-is_named c =
-    simp (sym c.is_empty.ensures ∙ c.if-is_empty.false, c.in-Some.is, c.in-Some-2.is, c.in-Some-3.is, sym c.is_named.ensures ∙ c.if-not-is_named.true)
+    simp (sym c.is_empty.ensures ∙ c.if-is_empty.false, c.in-Some.is, c.in-Some-maybe_losing.is, c.in-Some-maybe_kind.is, sym c.is_named.ensures ∙ c.if-not-is_named.true)
 
 pub returns : goal.returns
 returns c =
-    sym (whole-report _ (sym c.is_empty.ensures ∙ c.if-is_empty.false) c.in-Some.is c.in-Some-2.is c.in-Some-3.is (sym c.is_named.ensures ∙ c.if-not-is_named.false) c.of-gaining.ensures)
+    sym (whole-report _ (sym c.is_empty.ensures ∙ c.if-is_empty.false) c.in-Some.is c.in-Some-maybe_losing.is c.in-Some-maybe_kind.is (sym c.is_named.ensures ∙ c.if-not-is_named.false) c.of-gaining.ensures)

@@ -9,10 +9,10 @@ returns-then-w-ne2 c = sym (words-1 _ c.if-w-ne2.true)
 pub returns-in_default : goal.returns-in_default
 returns-in_default c = sym (words-2 _ c.if-w-ne2.false (sym c.of_word.ensures ∙ c.in_default.is))
 
-pub returns-in_default-of_word : goal.returns-in_default-of_word
-returns-in_default-of_word c =
-    sym (words-3 _ c.if-w-ne2.false (sym c.of_word.ensures ∙ c.in-Some.is) (sym c.of_word-2.ensures ∙ c.in_default-of_word.is))
+pub returns-in_default-maybe_of_word : goal.returns-in_default-maybe_of_word
+returns-in_default-maybe_of_word c =
+    sym (words-3 _ c.if-w-ne2.false (sym c.of_word.ensures ∙ c.in-Some.is) (sym c.maybe_of_word.ensures ∙ c.in_default-maybe_of_word.is))
 
 pub returns : goal.returns
 returns c =
-    sym (words-4 _ c.if-w-ne2.false (sym c.of_word.ensures ∙ c.in-Some.is) (sym c.of_word-2.ensures ∙ c.in-Some-of_word.is))
+    sym (words-4 _ c.if-w-ne2.false (sym c.of_word.ensures ∙ c.in-Some.is) (sym c.maybe_of_word.ensures ∙ c.in-Some-maybe_of_word.is))

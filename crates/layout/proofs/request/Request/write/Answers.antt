@@ -19,8 +19,8 @@ put_byte-a1-requires c =
     let r2 = room_next (left2 v) r1 c.write-a.ensures in
     room-byte r2
 
-pub write-b-requires : goal.write-b-requires
-write-b-requires c =
+pub maybe_write-b-requires : goal.maybe_write-b-requires
+maybe_write-b-requires c =
     let v = c.args.self in
     let r1 = room-request v c.args.out.now c.args.at c.requires.0 in
     let r2 = room_next (left2 v) r1 c.write-a.ensures in
@@ -33,13 +33,13 @@ put_byte-requires c =
     let r1 = room-request v c.args.out.now c.args.at c.requires.0 in
     let r2 = room_next (left2 v) r1 c.write-a.ensures in
     let r3 = room_next (left3 v) r2 c.put_byte-a1.ensures in
-    let r4 = room_next (left4 v) r3 c.write-b.ensures in
+    let r4 = room_next (left4 v) r3 c.maybe_write-b.ensures in
     room-byte r4
 
 pub shape_of-out : goal.shape_of-out
 shape_of-out c =
-    laid-length (laid_then c.write-a.ensures (laid_then c.put_byte-a1.ensures (laid_then c.write-b.ensures c.put_byte.ensures)))
+    laid-length (laid_then c.write-a.ensures (laid_then c.put_byte-a1.ensures (laid_then c.maybe_write-b.ensures c.put_byte.ensures)))
 
 pub returns : goal.returns
 returns c =
-    rw (whole c.args.self) (laid_then c.write-a.ensures (laid_then c.put_byte-a1.ensures (laid_then c.write-b.ensures c.put_byte.ensures)))
+    rw (whole c.args.self) (laid_then c.write-a.ensures (laid_then c.put_byte-a1.ensures (laid_then c.maybe_write-b.ensures c.put_byte.ensures)))
