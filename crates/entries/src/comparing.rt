@@ -5,6 +5,7 @@ ghost use Rattle.entries.specs.comparing.Same.{same_place, same_last, same_entry
 
 use crate::entry::{Entry, PLACES, Place};
 use crate::report;
+use calendar::dates::CalendarDays;
 
 pub fn same_place(p: Place, q: Place) -> bool
     ensures { result ≡ same_place p q }

@@ -4,7 +4,7 @@ ghost use Rattle.verdict.specs.correction_rules.Corrections.{is_among, is_permit
 ghost use Rattle.verdict.specs.correction_rules.Code.{first_of};
 
 use crate::verdicts::Verdict;
-use entries::entry::{Entry, PLACES, Place};
+use entries::entry::{Entry, Line, PLACES, Place};
 use entries::report::Published;
 use entries::{entry, report};
 use fields::code::Code;

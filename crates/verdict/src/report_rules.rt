@@ -6,7 +6,7 @@ ghost use Rattle.verdict.specs.report_rules.Code.{first_rule};
 
 use crate::verdicts::Verdict;
 use calendar::dates::CalendarDays;
-use entries::entry::Entry;
+use entries::entry::{Entry, Line};
 use entries::report::Report;
 use entries::{entry, report};
 use fields::code::Code;
