@@ -1,5 +1,6 @@
 -- A line is a correction exactly if no fault is found in it as one (`correction-exact`): a line that is read as one, and one without a fault, are
 -- both spelt as corrections are (`read-line`, `faultless-line`), and for lines so spelt the two tests agree (`line-agree`). Assumes nothing.
+use Rattle.std.specs.Prelude.{is_some}
 use Rattle.layout.specs.declared.correction.Correction.{Correction}
 use Rattle.std.specs.Prelude.{Option, Some, None}
 use Prim.Native.Nat.{ℕ}
@@ -29,7 +30,6 @@ use Rattle.layout.specs.declared.part.Part.{Part}
 use Rattle.layout.specs.Part.{part_text}
 use Rattle.layout.specs.Correction.{on_head, on_part, is_sound, sound_of, correction_of, correction_text}
 use Rattle.layout.proofs.CorrectionTrip.{correction-back}
-use Rattle.records.specs.Record.{is_correction}
 use Rattle.faults.specs.declared.cause.Cause.TheVariants.{Value}
 use Rattle.faults.specs.declared.cause.FieldCheck.{FieldCheck}
 use Rattle.faults.specs.Cut.{field_at, rest_at, code_width, code_in, mark_in, number_in}
@@ -59,11 +59,11 @@ module _ (p : Part) where
         bytes-maybe-kind p.kind,
       )
 
-read-line : (s : List ℕ) → is_correction (correction_of s) ≡ true → Line s
+read-line : (s : List ℕ) → is_some (correction_of s) ≡ true → Line s
 unfolding correction_text part_text
 read-line s h = go (correction_of s) refl h
   where
-    go : (r : Option Correction) → correction_of s ≡ r → is_correction r ≡ true → Line s
+    go : (r : Option Correction) → correction_of s ≡ r → is_some r ≡ true → Line s
     go (Some c) q e =
         record {
           code = correction_code_text c.code;
@@ -163,7 +163,7 @@ unfolding number_for
 number-right code first = chosen is_right FieldCheck.Right (FieldCheck.Wrong Value) refl refl (objects code || not (eqb (length first) 0))
 
 -- the rule of the code
-sound-exact : (c : CorrectionCode) (u k : Six) → is_correction (on_part (part_in u) (λ p. on_part (part_in k) (λ q. sound_of c p q)))
+sound-exact : (c : CorrectionCode) (u k : Six) → is_some (on_part (part_in u) (λ p. on_part (part_in k) (λ q. sound_of c p q)))
     ≡ (((not (is_objection c) || numbered u) && filled_or (not (is_objection c)) (part_in u)) && (((is_objection c || numbered u) || numbered k) && filled_or true (part_in k)))
 unfolding sound_of is_sound
 sound-exact c u k = go (part_in u) (part_in k) refl refl
@@ -172,12 +172,12 @@ sound-exact c u k = go (part_in u) (part_in k) refl refl
     rule true a b f = sym (and-true (a && f))
     rule false a b f = sym (and-true (a || b))
 
-    go : (x y : Option Part) → part_in u ≡ x → part_in k ≡ y → is_correction (on_part x (λ p. on_part y (λ q. sound_of c p q)))
+    go : (x y : Option Part) → part_in u ≡ x → part_in k ≡ y → is_some (on_part x (λ p. on_part y (λ q. sound_of c p q)))
         ≡ (((not (is_objection c) || numbered u) && filled_or (not (is_objection c)) x) && (((is_objection c || numbered u) || numbered k) && filled_or true y))
     go None y e₁ e₂ = simp and-false
     go (Some p) None e₁ e₂ = simp and-false
     go (Some p) (Some q) e₁ e₂ =
-        chosen is_correction (Some (record { code = c; u = p; k = q })) None refl refl (is_sound c p q)
+        chosen is_some (Some (record { code = c; u = p; k = q })) None refl refl (is_sound c p q)
         ∙ rw (whole-exact p, part-empty u p e₁, part-empty k q e₂) (rule (is_objection c) (numbered u) (numbered k) (is_filled p))
 
 module _ {s : List ℕ} (l : Line s) where
@@ -197,14 +197,14 @@ module _ {s : List ℕ} (l : Line s) where
         and-true (((objects l.code || numbered l.u) || numbered l.k) && filled_or true (part_in l.k)),
       )
 
-  line-agree : is_correction (correction_of s) ≡ is_faultless (correction_fault s)
+  line-agree : is_some (correction_of s) ≡ is_faultless (correction_fault s)
   unfolding objects
-  line-agree = ap is_correction (line_read l) ∙ go (correction_code_of l.code) ∙ sym fault-tests
+  line-agree = ap is_some (line_read l) ∙ go (correction_code_of l.code) ∙ sym fault-tests
     where
-      go : (r : Option CorrectionCode) → is_correction (on_head r (λ c. on_part (part_in l.u) (λ p. on_part (part_in l.k) (λ q. sound_of c p q))))
+      go : (r : Option CorrectionCode) → is_some (on_head r (λ c. on_part (part_in l.u) (λ p. on_part (part_in l.k) (λ q. sound_of c p q))))
           ≡ (is_correction_code r && (((not (objects_by r) || numbered l.u) && filled_or (not (objects_by r)) (part_in l.u)) && (((objects_by r || numbered l.u) || numbered l.k) && filled_or true (part_in l.k))))
       go (Some c) = sound-exact c l.u l.k
       go None = refl
 
-pub correction-exact : (s : List ℕ) → is_correction (correction_of s) ≡ is_faultless (correction_fault s)
-correction-exact s = agree-where (is_correction (correction_of s)) (is_faultless (correction_fault s)) (read-line s) (faultless-line s) line-agree
+pub correction-exact : (s : List ℕ) → is_some (correction_of s) ≡ is_faultless (correction_fault s)
+correction-exact s = agree-where (is_some (correction_of s)) (is_faultless (correction_fault s)) (read-line s) (faultless-line s) line-agree

@@ -1,4 +1,5 @@
 -- A line is a report exactly if no fault is found in it as one (`report-exact`). Assumes nothing.
+use Rattle.std.specs.Prelude.{is_some}
 use Rattle.std.specs.Prelude.{None}
 use Prim.Native.Nat.{ℕ, ◌<◌, ◌≤◌}
 use native.Mathlib.Omega.{arith}
@@ -17,7 +18,6 @@ use Rattle.laws.proofs.Tables.{all-at}
 use Rattle.fields.specs.Bytes.{field_byte}
 use Rattle.layout.specs.Part.{six_of, part_of}
 use Rattle.layout.specs.Report.{report_from, report_of}
-use Rattle.layout.specs.Correction.{is_report}
 use Rattle.faults.specs.declared.cause.Cause.TheVariants.{Length}
 use Rattle.faults.specs.declared.cause.FieldCheck.{FieldCheck}
 use Rattle.faults.specs.Cut.{field_at, rest_at}
@@ -42,21 +42,21 @@ module _ (s : List ℕ) where
       (le-or-lt (length (split 44 s)) 5)
 
   -- and so has one that is read
-  six-read : is_report (report_of s) ≡ true → length (split 44 s) ≡ 6
+  six-read : is_some (report_of s) ≡ true → length (split 44 s) ≡ 6
   unfolding report_of report_from part_of
   six-read h = go (eqb (length (split 44 s)) 6) refl h
     where
-      go : (t : Bool) → eqb (length (split 44 s)) 6 ≡ t → is_report (report_from (cond t (six_of (field_at s 0) (field_at s 1) (field_at s 2) (field_at s 3) (field_at s 4) (field_at s 5)) None)) ≡ true → length (split 44 s) ≡ 6
+      go : (t : Bool) → eqb (length (split 44 s)) 6 ≡ t → is_some (report_from (cond t (six_of (field_at s 0) (field_at s 1) (field_at s 2) (field_at s 3) (field_at s 4) (field_at s 5)) None)) ≡ true → length (split 44 s) ≡ 6
       go true q e = eqb-true (length (split 44 s)) 6 q
       go false q e = never e
 
   -- six fields
-  six-agree : length (split 44 s) ≡ 6 → is_report (report_of s) ≡ is_faultless (report_fault s)
+  six-agree : length (split 44 s) ≡ 6 → is_some (report_of s) ≡ is_faultless (report_fault s)
   unfolding report_of part_of report_fault rest_at
   six-agree l =
       rw (eq-eqb (length (split 44 s)) 6 l, rest-piece 44 (split 44 s) 5 l)
       (report-six (field_at s 0) (field_at s 1) (field_at s 2) (field_at s 3) (field_at s 4) (field_at s 5)
       ∙ sym (six-exact 1 wrong wrong (field_at s 0) (field_at s 1) (field_at s 2) (field_at s 3) (field_at s 4) (field_at s 5)))
 
-  pub report-exact : is_report (report_of s) ≡ is_faultless (report_fault s)
-  report-exact = agree-where (is_report (report_of s)) (is_faultless (report_fault s)) six-read six-without-fault six-agree
+  pub report-exact : is_some (report_of s) ≡ is_faultless (report_fault s)
+  report-exact = agree-where (is_some (report_of s)) (is_faultless (report_fault s)) six-read six-without-fault six-agree

@@ -1,4 +1,5 @@
 -- A line is a request exactly if no fault is found in it as one (`request-exact`). Assumes nothing.
+use Rattle.std.specs.Prelude.{is_some}
 use Rattle.calendar.specs.declared.dates.CalendarDays.{CalendarDays}
 use Rattle.fields.specs.declared.code.Code.{Code}
 use Rattle.std.specs.Prelude.{Option, Some, None}
@@ -19,7 +20,6 @@ use Rattle.fields.specs.Code.{code_of}
 use Rattle.fields.specs.Date.{maybe_date_of}
 use Rattle.layout.specs.Part.{on_date}
 use Rattle.layout.specs.Request.{on_sender, three_of, request_of}
-use Rattle.records.specs.Record.{is_request}
 use Rattle.faults.specs.declared.cause.Cause.TheVariants.{Length}
 use Rattle.faults.specs.declared.cause.FieldCheck.{FieldCheck}
 use Rattle.faults.specs.Cut.{field_at, rest_at}
@@ -30,13 +30,13 @@ use Rattle.faults.proofs.CutLaws.{fields-counted}
 use Rattle.faults.proofs.FieldExact.{needed, code-right, date-right, nothing_right}
 use Rattle.faults.proofs.SixExact.{field-then, commas-then, date_right, date-reads}
 
-three-exact : (a b c : List ℕ) → is_request (three_of a b c) ≡ (is_code (code_of a) && (date_right true (maybe_date_of b) && eqb (length c) 0))
+three-exact : (a b c : List ℕ) → is_some (three_of a b c) ≡ (is_code (code_of a) && (date_right true (maybe_date_of b) && eqb (length c) 0))
 unfolding three_of
 three-exact a b c = go (code_of a) (maybe_date_of b) (eqb (length c) 0)
   where
     go : (x : Option Code) (y : Option (Option CalendarDays)) (t : Bool)
-        → is_request (on_sender x λ code. on_date y None λ from. cond t (Some (record { code = code; from = from })) None) ≡ (is_code x && (date_right true y && t))
-    go (Some code) (Some from) t = chosen is_request (Some (record { code = code; from = from })) None refl refl t
+        → is_some (on_sender x λ code. on_date y None λ from. cond t (Some (record { code = code; from = from })) None) ≡ (is_code x && (date_right true y && t))
+    go (Some code) (Some from) t = chosen is_some (Some (record { code = code; from = from })) None refl refl t
     go (Some code) None t = refl
     go None y t = refl
 
@@ -64,20 +64,20 @@ module _ (s : List ℕ) where
       omega arith
 
   -- and so has one that is read
-  three-read : is_request (request_of s) ≡ true → length (split 44 s) ≡ 3
+  three-read : is_some (request_of s) ≡ true → length (split 44 s) ≡ 3
   unfolding request_of
   three-read h = go (eqb (length (split 44 s)) 3) refl h
     where
-      go : (t : Bool) → eqb (length (split 44 s)) 3 ≡ t → is_request (cond t (three_of (field_at s 0) (field_at s 1) (field_at s 2)) None) ≡ true → length (split 44 s) ≡ 3
+      go : (t : Bool) → eqb (length (split 44 s)) 3 ≡ t → is_some (cond t (three_of (field_at s 0) (field_at s 1) (field_at s 2)) None) ≡ true → length (split 44 s) ≡ 3
       go true q e = eqb-true (length (split 44 s)) 3 q
       go false q e = never e
 
   -- three fields
-  three-agree : length (split 44 s) ≡ 3 → is_request (request_of s) ≡ is_faultless (request_fault s)
+  three-agree : length (split 44 s) ≡ 3 → is_some (request_of s) ≡ is_faultless (request_fault s)
   unfolding request_of rest_at
   three-agree l =
       rw (eq-eqb (length (split 44 s)) 3 l, request-tests, rest-piece 44 (split 44 s) 2 l, l, and-true (eqb (length (field_at s 2)) 0))
       (three-exact (field_at s 0) (field_at s 1) (field_at s 2))
 
-  pub request-exact : is_request (request_of s) ≡ is_faultless (request_fault s)
-  request-exact = agree-where (is_request (request_of s)) (is_faultless (request_fault s)) three-read three-without-fault three-agree
+  pub request-exact : is_some (request_of s) ≡ is_faultless (request_fault s)
+  request-exact = agree-where (is_some (request_of s)) (is_faultless (request_fault s)) three-read three-without-fault three-agree

@@ -5,6 +5,7 @@
 --     six-bytes, six-status       six fields without a fault are made of the bytes of fields; where none may be missing, the last is not empty
 --     first-empty                 the first number of a part is empty exactly if its field is
 --     whole-exact, report-six     a part is a report exactly if it has a number and is filled
+use Rattle.std.specs.Prelude.{is_some}
 use Rattle.fields.specs.declared.number.Number.{Number}
 use Rattle.calendar.specs.declared.dates.CalendarDays.{CalendarDays}
 use Rattle.fields.specs.declared.code.Code.{Code}
@@ -34,7 +35,6 @@ use Rattle.fields.proofs.NumberLaws.{digits-back, digits-counted, number-back, s
 use Rattle.layout.specs.declared.part.Part.{Part}
 use Rattle.layout.specs.Part.{on_digits, on_number, on_date, on_code, on_kind, six_of}
 use Rattle.layout.specs.Report.{on_some_date, on_some_code, on_some_kind, whole_of, report_from, is_named as part_named}
-use Rattle.layout.specs.Correction.{is_report}
 use Rattle.faults.specs.declared.cause.Cause.TheVariants.{Length}
 use Rattle.faults.specs.declared.cause.FieldCheck.{FieldCheck}
 use Rattle.faults.specs.declared.cause.RecordCheck.{RecordCheck}
@@ -304,23 +304,23 @@ named-exact None P = refl
 named-exact None L = refl
 named-exact None Z = refl
 
-pub whole-exact : (p : Part) → is_report (whole_of p) ≡ (not (is_empty p.number.first) && is_filled p)
+pub whole-exact : (p : Part) → is_some (whole_of p) ≡ (not (is_empty p.number.first) && is_filled p)
 unfolding whole_of
 whole-exact p = go (is_empty p.number.first) p.date p.losing p.kind
   where
     go : (t : Bool) (date : Option CalendarDays) (losing : Option Code) (kind : Option Kind)
-        → is_report (cond t None (on_some_date date λ d. on_some_code losing λ l. on_some_kind kind λ k. cond (part_named p.gaining k) (Some (record { number = p.number; date = d; gaining = gaining_of p.gaining; losing = l; kind = k })) None))
+        → is_some (cond t None (on_some_date date λ d. on_some_code losing λ l. on_some_kind kind λ k. cond (part_named p.gaining k) (Some (record { number = p.number; date = d; gaining = gaining_of p.gaining; losing = l; kind = k })) None))
         ≡ (not t && (has_date date && (has_code losing && (has_kind kind && (has_code p.gaining || returns kind)))))
     go true date losing kind = refl
     go false None losing kind = refl
     go false (Some d) None kind = refl
     go false (Some d) (Some l) None = refl
-    go false (Some d) (Some l) (Some k) = chosen is_report (Some _) None refl refl (part_named p.gaining k) ∙ named-exact p.gaining k
+    go false (Some d) (Some l) (Some k) = chosen is_some (Some _) None refl refl (part_named p.gaining k) ∙ named-exact p.gaining k
 
-pub report-six : (a b c d e f : List ℕ) → is_report (report_from (six_of a b c d e f)) ≡ (not (eqb (length a) 0) && filled_or false (six_of a b c d e f))
+pub report-six : (a b c d e f : List ℕ) → is_some (report_from (six_of a b c d e f)) ≡ (not (eqb (length a) 0) && filled_or false (six_of a b c d e f))
 unfolding report_from
 report-six a b c d e f = go (six_of a b c d e f) refl
   where
-    go : (r : Option Part) → six_of a b c d e f ≡ r → is_report (report_from r) ≡ (not (eqb (length a) 0) && filled_or false r)
+    go : (r : Option Part) → six_of a b c d e f ≡ r → is_some (report_from r) ≡ (not (eqb (length a) 0) && filled_or false r)
     go (Some p) q = whole-exact p ∙ ap (λ (t : Bool). not t && is_filled p) (first-empty a b c d e f p q)
     go None q = sym (and-false (not (eqb (length a) 0)))

@@ -3,7 +3,6 @@ ghost use Rattle.std.specs.Prelude.{◌≡◌, true, ◌+◌, ◌≤◌, length}
 ghost use Rattle.laws.specs.Overlay.{Laid};
 ghost use Rattle.fields.specs.CorrectionCode.{correction_code_of, correction_code_of_word, is_objection, correction_code_fits, correction_code_text};
 
-
 #[derive(Clone, Copy)]
 pub struct CorrectionCode(pub u16);
 

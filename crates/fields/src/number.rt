@@ -5,7 +5,6 @@ ghost use Rattle.laws.specs.Digits.{digits, down};
 ghost use Rattle.fields.specs.Block.{some_decade};
 ghost use Rattle.fields.specs.Number.{digits_field_of, digits_fits, digits_size, digits_text, is_empty, block_fits, number_of, number_fits, same_number};
 
-
 // The digits of one field behind a leading 1, so that equal codes are equal digits: "" is 1, "0" is 10, "012" is 1012.
 #[derive(Clone, Copy)]
 pub struct Digits(pub u64);

@@ -2,6 +2,7 @@
 --     report-there, correction-there, request-there         where there is a record, its value is read, and it is spelt as the record is
 --     report-kept, correction-kept, request-kept            reading a file that was written from words gives the values of these words
 --     response-as-default                                   a response file is read as a default file is
+use Rattle.std.specs.Prelude.{is_some}
 use Rattle.std.specs.Prelude.{Option, Some, None}
 use Prim.Native.Nat.{ℕ, zero, suc, ◌+◌, ◌<◌}
 use native.Mathlib.Omega.{arith}
@@ -18,13 +19,13 @@ use Rattle.layout.specs.declared.report.Report.{Report}
 use Rattle.layout.specs.declared.correction.Correction.{Correction}
 use Rattle.layout.specs.declared.request.Request.{Request}
 use Rattle.layout.specs.Report.{report_of, report_of_words, report_text}
-use Rattle.layout.specs.Correction.{correction_of, correction_of_words, correction_text, is_report}
+use Rattle.layout.specs.Correction.{correction_of, correction_of_words, correction_text}
 use Rattle.layout.specs.Request.{request_of, request_of_words, request_text}
 use Rattle.layout.proofs.ReportLaws.{report-back}
 use Rattle.layout.proofs.CorrectionTrip.{correction-back}
 use Rattle.layout.proofs.RequestTrip.{request-back}
 use Rattle.records.specs.declared.names.kind.FileKind.{FileKind}
-use Rattle.records.specs.Record.{is_correction, is_request, is_record, fits, text_of}
+use Rattle.records.specs.Record.{is_record, fits, text_of}
 use Rattle.records.proofs.RecordTrip.{report-same, correction-same, request-same}
 use Rattle.files.specs.declared.judge.Judged.{Judged}
 use Rattle.files.specs.declared.judge.Judged.TheVariants.{Records}
@@ -97,7 +98,7 @@ pub report-there : (file : List ℕ) (k : ℕ) → found_at FileKind.Default fil
 unfolding report_at is_record
 report-there file k e = go (report_of (piece_of 13 file k)) refl (found-line FileKind.Default file k e).1
   where
-    go : (r : Option Report) → report_of (piece_of 13 file k) ≡ r → is_report r ≡ true → (x : Report) × (report_at file k ≡ ReportAt.Report x) × (report_text x ≡ record_at FileKind.Default file k)
+    go : (r : Option Report) → report_of (piece_of 13 file k) ≡ r → is_some r ≡ true → (x : Report) × (report_at file k ≡ ReportAt.Report x) × (report_text x ≡ record_at FileKind.Default file k)
     go (Some x) q t = (x, rw (e, q), (report-back (piece_of 13 file k) x q).0 ∙ sym (found-line FileKind.Default file k e).0)
     go None q t = never t
 
@@ -113,7 +114,7 @@ pub correction-there : (file : List ℕ) (k : ℕ) → found_at FileKind.Correct
 unfolding correction_at is_record
 correction-there file k e = go (correction_of (piece_of 13 file k)) refl (found-line FileKind.Correction file k e).1
   where
-    go : (r : Option Correction) → correction_of (piece_of 13 file k) ≡ r → is_correction r ≡ true → (x : Correction) × (correction_at file k ≡ CorrectionAt.Correction x) × (correction_text x ≡ record_at FileKind.Correction file k)
+    go : (r : Option Correction) → correction_of (piece_of 13 file k) ≡ r → is_some r ≡ true → (x : Correction) × (correction_at file k ≡ CorrectionAt.Correction x) × (correction_text x ≡ record_at FileKind.Correction file k)
     go (Some x) q t = (x, rw (e, q), (correction-back (piece_of 13 file k) x q).0 ∙ sym (found-line FileKind.Correction file k e).0)
     go None q t = never t
 
@@ -129,7 +130,7 @@ pub request-there : (file : List ℕ) (k : ℕ) → found_at FileKind.Request fi
 unfolding request_at is_record
 request-there file k e = go (request_of (piece_of 13 file k)) refl (found-line FileKind.Request file k e).1
   where
-    go : (r : Option Request) → request_of (piece_of 13 file k) ≡ r → is_request r ≡ true → (x : Request) × (request_at file k ≡ RequestAt.Request x) × (request_text x ≡ record_at FileKind.Request file k)
+    go : (r : Option Request) → request_of (piece_of 13 file k) ≡ r → is_some r ≡ true → (x : Request) × (request_at file k ≡ RequestAt.Request x) × (request_text x ≡ record_at FileKind.Request file k)
     go (Some x) q t = (x, rw (e, q), (request-back (piece_of 13 file k) x q).0 ∙ sym (found-line FileKind.Request file k e).0)
     go None q t = never t
 

@@ -1,4 +1,5 @@
 -- What a correction is read as, which corrections it can hold, and how they are written. Assumes nothing: these are definitions.
+use Rattle.std.specs.Prelude.{is_some}
 use Rattle.layout.specs.declared.report.Report.{Report}
 use Rattle.std.specs.Prelude.{Option, Some, None}
 use Rattle.std.specs.Prelude.{ℕ, ◌-◌, ◌+◌, Bool, true, false, cond, not, ◌&&◌, ◌||◌, List, ◌∷◌, ◌++◌, eqb, leb, length, get_or, take}
@@ -31,13 +32,9 @@ unfoldable pub reported_of : List ℕ → Option Part
 reported_of f =
     cond (leb 2 (length f) && (eqb (get_or f (length f - 2) 0) 44 && eqb (get_or f (length f - 2 + 1) 0) 75)) (part_of (take (length f - 2) f)) None
 
-abbrev pub is_report : Option Report → Bool
-is_report (Some r) = true
-is_report None = false
-
 -- with code 25XX the U part is a whole report; with any other at least one part has a number
 unfoldable pub is_sound : CorrectionCode → Part → Part → Bool
-is_sound code u k = cond (is_objection code) (is_report (whole_of u)) (not (is_empty u.number.first) || not (is_empty k.number.first))
+is_sound code u k = cond (is_objection code) (is_some (whole_of u)) (not (is_empty u.number.first) || not (is_empty k.number.first))
 
 unfoldable pub sound_of : CorrectionCode → Part → Part → Option Correction
 sound_of code u k = cond (is_sound code u k) (Some (record { code = code; u = u; k = k })) None

@@ -1,28 +1,23 @@
 -- The records of files of each kind: which lines are records, which words are the values of one, and how it is spelt.
+use Rattle.layout.specs.declared.correction.Correction.{Correction as ACorrection}
+use Rattle.layout.specs.declared.request.Request.{Request as ARequest}
 -- Assumes nothing: these are definitions.
+use Rattle.std.specs.Prelude.{is_some}
 use Rattle.layout.specs.declared.report.Report.{Report}
 use Rattle.std.specs.Prelude.{Option, Some, None}
-use Rattle.std.specs.Prelude.{ℕ, Bool, true, false, List, []}
+use Rattle.std.specs.Prelude.{ℕ, Bool, List, []}
 use Rattle.layout.specs.Report.{report_of, report_of_words, report_text}
-use Rattle.layout.specs.Correction.{correction_of, correction_of_words, correction_text, is_report}
+use Rattle.layout.specs.Correction.{correction_of, correction_of_words, correction_text}
 use Rattle.layout.specs.Request.{request_of, request_of_words, request_text}
 use Rattle.records.specs.declared.names.kind.FileKind.{FileKind}
 use Rattle.records.specs.declared.names.kind.FileKind.TheVariants.{Default, Correction, Request, Response}
 
-abbrev pub is_correction : Option Correction → Bool
-is_correction (Some c) = true
-is_correction None = false
-
-abbrev pub is_request : Option Request → Bool
-is_request (Some q) = true
-is_request None = false
-
 -- whether a line is a record of a file of this kind
 unfoldable pub is_record : FileKind → List ℕ → Bool
-is_record Default l = is_report (report_of l)
-is_record Correction l = is_correction (correction_of l)
-is_record Request l = is_request (request_of l)
-is_record Response l = is_report (report_of l)
+is_record Default l = is_some (report_of l)
+is_record Correction l = is_some (correction_of l)
+is_record Request l = is_some (request_of l)
+is_record Response l = is_some (report_of l)
 
 -- how many words a record is given by
 abbrev pub width_of : FileKind → ℕ
@@ -33,21 +28,21 @@ width_of Response = 6
 
 -- whether words are the values of a record that the layout can hold
 unfoldable pub fits : FileKind → List ℕ → Bool
-fits Default w = is_report (report_of_words w)
-fits Correction w = is_correction (correction_of_words w)
-fits Request w = is_request (request_of_words w)
-fits Response w = is_report (report_of_words w)
+fits Default w = is_some (report_of_words w)
+fits Correction w = is_some (correction_of_words w)
+fits Request w = is_some (request_of_words w)
+fits Response w = is_some (report_of_words w)
 
 -- how the record is spelt; nothing where there is none
 abbrev pub report_spelt : Option Report → List ℕ
 report_spelt (Some r) = report_text r
 report_spelt None = []
 
-abbrev pub correction_spelt : Option Correction → List ℕ
+abbrev pub correction_spelt : Option ACorrection → List ℕ
 correction_spelt (Some c) = correction_text c
 correction_spelt None = []
 
-abbrev pub request_spelt : Option Request → List ℕ
+abbrev pub request_spelt : Option ARequest → List ℕ
 request_spelt (Some q) = request_text q
 request_spelt None = []
 

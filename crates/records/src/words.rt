@@ -2,9 +2,9 @@
 ghost use Rattle.std.specs.Prelude.{◌≡◌, ◌+◌, ◌≤◌, length};
 ghost use Rattle.laws.specs.Overlay.{Laid};
 ghost use Rattle.layout.specs.Report.{report_of_words};
-ghost use Rattle.layout.specs.Correction.{correction_of_words, is_report};
+ghost use Rattle.layout.specs.Correction.{correction_of_words};
 ghost use Rattle.layout.specs.Request.{request_of_words};
-ghost use Rattle.records.specs.Record.{is_correction, is_request, report_spelt, correction_spelt, request_spelt, width_of, fits, text_of};
+ghost use Rattle.records.specs.Record.{report_spelt, correction_spelt, request_spelt, width_of, fits, text_of};
 
 use crate::names::kind::FileKind;
 use layout::correction::Correction;
@@ -23,42 +23,15 @@ pub fn width(kind: FileKind) -> usize
     }
 }
 
-fn fits_report(words: &[u64]) -> bool
-    ensures { result ≡ is_report (report_of_words words.now) }
-{
-    match Report::of_words(words) {
-        Some(_) => true,
-        None => false,
-    }
-}
-
-fn fits_correction(words: &[u64]) -> bool
-    ensures { result ≡ is_correction (correction_of_words words.now) }
-{
-    match Correction::of_words(words) {
-        Some(_) => true,
-        None => false,
-    }
-}
-
-fn fits_request(words: &[u64]) -> bool
-    ensures { result ≡ is_request (request_of_words words.now) }
-{
-    match Request::of_words(words) {
-        Some(_) => true,
-        None => false,
-    }
-}
-
 // Whether words are the values of a record that the layout of this kind can hold.
+#[tactic(auto, unfolding(crate::specs::Record::fits))]
 pub fn fits(kind: FileKind, words: &[u64]) -> bool
     ensures { result ≡ fits kind words.now }
 {
     match kind {
-        FileKind::Default => fits_report(words),
-        FileKind::Correction => fits_correction(words),
-        FileKind::Request => fits_request(words),
-        FileKind::Response => fits_report(words),
+        FileKind::Default | FileKind::Response => Report::of_words(words).is_some(),
+        FileKind::Correction => Correction::of_words(words).is_some(),
+        FileKind::Request => Request::of_words(words).is_some(),
     }
 }
 

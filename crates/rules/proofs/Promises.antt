@@ -7,7 +7,7 @@
 --     count-is-what-is-folded                      the count of answer 0 is that of the records that working out goes through
 --     same-history, standing-entry                 where a number stands, with the pair that confirmed last, has the store's entry
 --     unknown-number                               a record whose number is not in the table gets 12, whatever it says
-use Rattle.std.specs.Prelude.{Option, None}
+use Rattle.std.specs.Prelude.{None}
 use mathlib.Core.Path.{◌≡◌, refl, ap, ◌∙◌}
 use mathlib.Core.Bool.{false}
 use mathlib.Core.List.{List, [], ◌∷◌, map, foldl, Perm}

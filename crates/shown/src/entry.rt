@@ -1,5 +1,6 @@
 // An entry on a page: HOLDER, LAST, OPEN.
 use crate::piece;
+use calendar::dates::CalendarDays;
 use desk::{Host, page};
 use entries::entry::{Entry, PLACES, Place};
 use page::{Page, ROOM};

@@ -2,9 +2,9 @@
 ghost use Rattle.std.specs.Prelude.{◌≡◌, ◌+◌, ◌*◌, ◌≤◌, length};
 ghost use Rattle.laws.specs.Lists.{table, all};
 ghost use Rattle.laws.specs.Slots.{slot_at};
-ghost use Rattle.layout.specs.Correction.{correction_of, is_report};
+ghost use Rattle.layout.specs.Correction.{correction_of};
 ghost use Rattle.layout.specs.Report.{report_of};
-ghost use Rattle.store.specs.Records.{is_correction, good_report, good_correction};
+ghost use Rattle.store.specs.Records.{good_report, good_correction};
 
 use crate::journals::records::{CORRECTION_SLOT, REPORT_SLOT};
 use crate::slots::record;
@@ -13,7 +13,7 @@ use layout::report::Report;
 
 // Whether bytes are a report.
 fn is_report(bytes: &[u8]) -> bool
-    ensures { result ≡ is_report (report_of bytes.now) }
+    ensures { result ≡ is_some (report_of bytes.now) }
 {
     let Some(_) = Report::read(bytes) else {
         return false;
@@ -23,7 +23,7 @@ fn is_report(bytes: &[u8]) -> bool
 
 // Whether bytes are a correction.
 fn is_correction(bytes: &[u8]) -> bool
-    ensures { result ≡ is_correction (correction_of bytes.now) }
+    ensures { result ≡ is_some (correction_of bytes.now) }
 {
     let Some(_) = Correction::read(bytes) else {
         return false;

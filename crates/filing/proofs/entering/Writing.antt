@@ -1,4 +1,5 @@
 -- The loop that writes the first lines of a text, and what is known of the lines of a file that was judged. Assumes nothing.
+use Rattle.std.specs.Prelude.{is_some}
 use Rattle.layout.specs.declared.report.Report.{Report}
 use Rattle.std.specs.Prelude.{Option, Some, None}
 use mathlib.Core.Path.{◌≡◌, refl, sym, ap, ◌∙◌}
@@ -23,10 +24,10 @@ use Rattle.files.proofs.FileTrip.{file-written}
 use Rattle.files.specs.Judged.{judged_file, records_of}
 use Rattle.files.specs.declared.judge.Judged.TheVariants.{Records}
 use Rattle.layout.specs.Report.{report_of}
-use Rattle.layout.specs.Correction.{correction_of, is_report}
+use Rattle.layout.specs.Correction.{correction_of}
 use Rattle.layout.proofs.ReportLaws.{report-record}
 use Rattle.layout.proofs.CorrectionTrip.{correction-record}
-use Rattle.records.specs.Record.{is_correction, is_record}
+use Rattle.records.specs.Record.{is_record}
 use Rattle.filing.specs.declared.entering.kind.Filable.{Filable}
 use Rattle.filing.specs.declared.entering.kind.Filable.TheVariants.{Default, Correction}
 use Rattle.filing.specs.entering.Entering.{file_kind, journal_with, shorter, first_lines, Lines}
@@ -105,11 +106,11 @@ abbrev pub slot_width : Filable → ℕ
 slot_width Default = 45
 slot_width Correction = 98
 
-report-short : (l : List ℕ) (r : Option Report) → report_of l ≡ r → is_report r ≡ true → length l < 45
+report-short : (l : List ℕ) (r : Option Report) → report_of l ≡ r → is_some r ≡ true → length l < 45
 report-short l (Some x) q e = omega (arith, report-record l x q)
 report-short l None q e = absurd (let z : ◌≡◌ {A = ℕ} 0 1 = cc in omega arith)
 
-correction-short : (l : List ℕ) (c : Option Correction) → correction_of l ≡ c → is_correction c ≡ true → length l < 98
+correction-short : (l : List ℕ) (c : Option Correction) → correction_of l ≡ c → is_some c ≡ true → length l < 98
 correction-short l (Some x) q e = omega (arith, correction-record l x q)
 correction-short l None q e = absurd (let z : ◌≡◌ {A = ℕ} 0 1 = cc in omega arith)
 

@@ -1,4 +1,5 @@
--- `store::records::is_correction` meets its contract. Assumes nothing.
+-- `store::records::is_some` meets its contract. Assumes nothing.
+use Rattle.std.specs.Prelude.{is_some}
 use mathlib.Core.Path.{sym, ◌∙◌}
 use Rattle.store.proofs.records.is_correction.Goals as goal
 
