@@ -1,6 +1,6 @@
 -- The element at a place of a list. Assumes nothing: these are definitions.
+use Rattle.std.specs.Prelude.{Option}
 use mathlib.Core.List.{List, head?}
-use Rattle.std.proofs.Math.Option.{Option}
 use Rattle.std.specs.Prelude.{ℕ, drop}
 
 -- counted from 0; none for a place beyond the list
