@@ -1,15 +1,15 @@
 -- The line that is found in the buffer is the model's line of the number, and the entry beside it the model's. Assumes nothing.
+use Rattle.std.proofs.lemmas.Option.{slice_get-get_or, slice_get_past}
 use Rattle.std.specs.Option.{option_map}
-use Rattle.std.specs.Prelude.{Option, Some, None}
+use Rattle.std.specs.Prelude.{Some, None}
 use mathlib.Core.Path.{◌≡◌, refl, sym, ap, ◌∙◌}
 use mathlib.Core.Bool.{Bool, true, false, cond}
-use mathlib.Core.List.{List, [], ◌∷◌, map}
+use mathlib.Core.List.{◌++◌, [], ◌∷◌, List, [], ◌∷◌, map}
 use Prim.Native.Nat.{ℕ, suc, ◌+◌, ◌*◌, ◌≤◌, ◌<◌}
 use native.Mathlib.Omega.{arith}
 use borrow.Author.Tests.{ltb-true, ltb-false, le-leb}
 use lib.Dec.{ltb}
-use lib.ListN.{length, get_or, drop_of_length-le}
-use lib.Seq.{drop-cons}
+use lib.ListN.{length, get_or}
 use Rattle.laws.specs.Lists.{table, first_at}
 use Rattle.laws.proofs.Tables.{length-table, get_or-table}
 use Rattle.fields.specs.Number.{same_number}
@@ -26,10 +26,17 @@ use Rattle.asking.specs.Standing.{lines_in}
 
 -- ---- the element at a place
 pub item-at : {A : Type 0} (l : List A) (i : ℕ) (d : A) → i < length l → item_at l i ≡ Some (get_or l i d)
-item-at l i d h = rw (drop-cons l i d h)
+item-at l i d h = slice_get-get_or l i d h
 
 pub item-none : {A : Type 0} (l : List A) (i : ℕ) → length l ≤ i → item_at l i ≡ None
-item-none l i h = rw (drop_of_length-le l h)
+item-none l i h = slice_get_past l i h
+
+-- behind a list in front of it
+pub item-behind : {A : Type 0} (l m : List A) (i : ℕ) → item_at (l ++ m) (length l + i) ≡ item_at m i
+item-behind [] m i = let e : 0 + i ≡ i = omega arith in rw e refl
+item-behind (x ∷ l) m i =
+    let e : length (x ∷ l) + i ≡ suc (length l + i) = omega arith in
+    rw e (item-behind l m i)
 
 pub item-table : {A : Type 0} (n i : ℕ) (f : ℕ → A) → i < n → item_at (table n f) i ≡ Some (f i)
 item-table n i f h = item-at (table n f) i (f i) (rw (length-table n f) h) ∙ ap Some (get_or-table n i f (f i) h)

@@ -2,7 +2,7 @@
 use Rattle.std.specs.Prelude.{Option, Some, None}
 use mathlib.Core.Path.{◌≡◌, refl, sym, ap, ◌∙◌}
 use mathlib.Core.Bool.{Bool, true, false, cond}
-use mathlib.Core.List.{List, [], ◌∷◌, ◌++◌, head?, flat_map}
+use mathlib.Core.List.{List, [], ◌∷◌, ◌++◌, flat_map}
 use Prim.Native.Nat.{ℕ, zero, suc, ◌+◌, ◌-◌, ◌*◌, ◌≤◌, ◌<◌}
 use native.Mathlib.Decide.{ℕ_discrete}
 use native.Mathlib.Numerals.{add-one}
@@ -10,7 +10,7 @@ use native.Mathlib.Omega.{arith}
 use borrow.Author.Tests.{eqb-true, ne_eqb}
 use lib.Dec.{eqb}
 use lib.ListN.{length, take, length-append, get_or-append}
-use lib.Seq.{take_all, drop-append-add}
+use lib.Seq.{take_all}
 use Rattle.laws.specs.Lists.{table, keep, total}
 use Rattle.laws.proofs.Tables.{length-table, get_or-table}
 use Rattle.fields.specs.declared.number.Number.{Number}
@@ -38,7 +38,7 @@ use Rattle.asking.specs.Showable.{is_showable}
 use Rattle.asking.specs.Standing.{lines_in}
 use Rattle.asking.specs.Record.{kind_of, InFileAt, said_by, point_verdict, asked_as, asked_of, asked_in}
 use Rattle.asking.specs.Looks.{record_look, record_looked}
-use Rattle.asking.proofs.Lines.{item-at, item-none, item-table, found-line, no_line}
+use Rattle.asking.proofs.Lines.{item-behind, item-at, item-none, item-table, found-line, no_line}
 use Rattle.asking.proofs.Standings.{length-first}
 
 -- ---- a turn of the search for the file
@@ -134,7 +134,7 @@ module _ (r : ℕ → ℕ → List ℕ) (file : ℕ → File) (kind : ℕ) where
       here =
           ap (λ (l : List Event). item_at l (records_of kind (table k file) + i)) (journal-yes k e)
           ∙ ap (λ (m : ℕ). item_at (journal_of kind (first k) ++ events (own k)) (m + i)) (sym (journal-length k))
-          ∙ ap (λ (l : List Event). head? l) (drop-append-add (journal_of kind (first k)) (events (own k)) i)
+          ∙ item-behind (journal_of kind (first k)) (events (own k)) i
           ∙ event-in k i b
 
   event-same : (k i : ℕ) → i < (file k).count → event_at (own k) i ≡ record { kind = (file k).kind; publisher = (file k).publisher; day = (file k).day; place = i; bytes = r (file k).kind (records_of (file k).kind (table k file) + i) }

@@ -1,4 +1,5 @@
 -- What a store in use answers, from asking's promises about a store that the model reaches: all citations of these stand here. Assumes nothing.
+use Rattle.std.specs.Option.{option_map}
 use Rattle.std.specs.Prelude.{Option, Some, None}
 use mathlib.Core.Path.{◌≡◌, refl, sym, ap, ◌∙◌}
 use mathlib.Core.Logic.{◌⊎◌, inl, inr, ⊎_elim}
@@ -155,7 +156,7 @@ module _ {b : Buffers} (u : InUse b) where
       go : (x : Option Number) → before_asked (Some (held b)) n x ≡ entry_asked (Some (held c)) x
       go None = refl
       go (Some x) = unfold entry_before entry_in in
-          ap held_as ((λ i. map (entry_over rules (sym files i)) (line_of rules (sym lines i) x)) ∙ sym (entry-worked-afresh (in-use-reached v).1 x))
+          ap held_as ((λ i. option_map (entry_over rules (sym files i)) (line_of rules (sym lines i) x)) ∙ sym (entry-worked-afresh (in-use-reached v).1 x))
 
   -- ---- the figure
   pub figure-nought : figure_asked (reads b) ≡ FigureAnswer.Differ 0

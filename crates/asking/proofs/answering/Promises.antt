@@ -6,6 +6,7 @@
 --     verdict-promise        the verdict shown is the model's, at the record's own point of the history
 --     figure-promise         whatever was written over the entries, the figure is the number of those that were changed
 --     figure-of-changes, figure-nothing, changed-at (`Figures`), part-bytes, record-promise (`Parts`)
+use Rattle.std.specs.Option.{option_map}
 use Rattle.std.specs.Prelude.{Option, Some, None}
 use mathlib.Core.Path.{◌≡◌, refl, sym, ap, subst, ◌∙◌}
 use mathlib.Core.Logic.{◌⊎◌, inl, inr, ⊎_elim}
@@ -116,7 +117,7 @@ module _ {s : Store rules} (reached : Reached rules s) (number : Number) (line :
   worked = entry_over rules s.files line
 
   held-worked : entry_of rules s.lines s.entries number ≡ Some worked
-  held-worked = entry-worked-afresh reached number ∙ ap (map (entry_over rules s.files)) listed
+  held-worked = entry-worked-afresh reached number ∙ ap (option_map (entry_over rules s.files)) listed
 
   worked-stands : worked ≡ stand.entry
   worked-stands = sym (standing-entry s.files line) ∙ ap (λ (t : Standing). t.entry) (stands-over s.files line)

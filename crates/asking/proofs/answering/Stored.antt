@@ -5,7 +5,7 @@ use Rattle.std.specs.Prelude.{Option, Some, None}
 use mathlib.Core.Path.{◌≡◌, refl, sym, ap, ◌∙◌}
 use mathlib.Core.Bool.{Bool, true, false, cond, ◌&&◌, true≢false}
 use mathlib.Core.List.Memᴰ
-use mathlib.Core.List.{List, [], ◌∷◌, ◌++◌, head?, flat_map, Memᴰ}
+use mathlib.Core.List.{List, [], ◌∷◌, ◌++◌, flat_map, Memᴰ}
 use Prim.Native.Nat.{ℕ, zero, suc, ◌+◌, ◌<◌}
 use native.Mathlib.Decide.{ℕ_discrete}
 use native.Mathlib.Nat.{zero-add}
@@ -13,7 +13,6 @@ use native.Mathlib.Omega.{arith}
 use borrow.Author.Tests.{eqb-true, eq-eqb, ne_eqb}
 use lib.Dec.{eqb}
 use lib.ListN.{length, length-append, get_or-append}
-use lib.Seq.{drop-append-add}
 use Rattle.laws.specs.Lists.{table, keep}
 use Rattle.laws.proofs.Lists.{mem-keep, mem_below}
 use Rattle.laws.proofs.Order.{mem-in_order}
@@ -35,7 +34,7 @@ use Rattle.rules.specs.Records.{says_in, objected, corrected}
 use Rattle.rules.specs.Rules.{rules}
 use Rattle.asking.specs.Items.{item_at}
 use Rattle.asking.specs.Why.{is_file_of, reports_in, start_in, stored_as}
-use Rattle.asking.proofs.Lines.{item-at}
+use Rattle.asking.proofs.Lines.{item-behind, item-at}
 use Rattle.asking.proofs.answering.Roots.{Root}
 
 -- ---- only a record of a default file is a report
@@ -113,7 +112,7 @@ module _ (publisher day : ℕ) where
       passed e ih = elim (ℕ_discrete g.kind 0) [
         | yes q ↦
             ap (λ (n : ℕ). item_at (journal_of 0 (g ∷ fs)) n) (place-yes e q) ∙ ap (λ (l : List Event). item_at l (length (events g) + (start_in publisher day fs + i))) (journal-yes g fs q)
-            ∙ ap (λ (l : List Event). head? l) (drop-append-add (events g) (journal_of 0 fs) (start_in publisher day fs + i)) ∙ ih
+            ∙ item-behind (events g) (journal_of 0 fs) (start_in publisher day fs + i) ∙ ih
         | no q ↦ ap (λ (n : ℕ). item_at (journal_of 0 (g ∷ fs)) n) (place-no e q) ∙ ap (λ (l : List Event). item_at l (start_in publisher day fs + i)) (journal-no g fs q) ∙ ih
       ]
 
