@@ -1,16 +1,16 @@
 -- The words of `Lists` and `Split` are those in which the contracts of std's iterators and slices speak. Assumes nothing.
-use mathlib.Core.Path.{◌≡◌, refl, sym, ap, ◌∙◌}
-use mathlib.Core.Bool.{Bool, true, false, cond, ◌||◌, ◌&&◌}
+use mathlib.Core.Path.{◌≡◌, refl, ap, ◌∙◌}
+use mathlib.Core.Bool.{Bool, cond, ◌||◌, ◌&&◌}
 use mathlib.Core.List.{List, [], ◌∷◌}
 use Prim.Native.Nat.{ℕ, ◌+◌, ◌-◌}
 use native.Mathlib.Omega.{arith}
 use lib.Dec.{eqb}
 use lib.ListN.{length}
 use Rattle.std.specs.List.{list_any, list_all, filter, count_by, position_or_len}
-use Rattle.std.proofs.lemmas.List.Recursion.{is_position_or_len, is_count_by}
+use Rattle.std.proofs.lemmas.List.Recursion.{is_position_or_len}
 use Rattle.std.proofs.lemmas.List.Sums.{sum_by-cons}
 use Rattle.laws.specs.Lists.{any, all, keep, first_at}
-use Rattle.laws.specs.Split.{split, before, is_sep}
+use Rattle.laws.specs.Split.{split, is_sep}
 use Rattle.laws.proofs.Split.{split-some, before-count}
 
 module _ {A : Type 0} (p : A → Bool) where

@@ -20,3 +20,4 @@ pub mod Twice
 pub mod Split
 pub mod Ended
 pub mod Chains
+pub mod Sorting

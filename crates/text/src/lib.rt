@@ -32,7 +32,7 @@ pub fn piece(s: &[u8], sep: u8, k: usize) -> &[u8]
     ensures { result.now ≡ piece_of sep s.now k }
 {
     let mut at: usize = 0;
-    for _ in 0..k {
+    for _passed in 0..k {
         let e = field_end(s, at, sep);
         if s.len() <= e {
             return &[];

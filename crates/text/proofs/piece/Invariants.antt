@@ -5,5 +5,5 @@ use lib.ListN.{length, drop}
 use Rattle.laws.specs.Split.{piece_of}
 use Rattle.text.proofs.piece.Given as goal
 
-abbrev pub invariant-loop : goal.invariant-loop
-invariant-loop l = (l.at ≤ length l.s) × (piece_of l.sep l.s l.k ≡ piece_of l.sep (drop l.at l.s) (l.k - l.counter))
+abbrev pub invariant-loop-passed : goal.invariant-loop-passed
+invariant-loop-passed l = (l.at ≤ length l.s) × (piece_of l.sep l.s l.k ≡ piece_of l.sep (drop l.at l.s) (l.k - l._passed))
