@@ -1,3 +1,4 @@
+pub mod Spelt
 pub mod Code
 pub mod CorrectionCode
 pub mod Kind
