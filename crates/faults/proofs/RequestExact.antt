@@ -27,14 +27,14 @@ use Rattle.faults.specs.Field.{code_alone}
 use Rattle.faults.specs.Record.{commas, request_fault}
 use Rattle.faults.proofs.CutLaws.{fields-counted}
 use Rattle.faults.proofs.FieldExact.{needed, code-right, date-right, nothing_right}
-use Rattle.faults.proofs.SixExact.{field-then, commas-then, date_right, date-reads}
+use Rattle.faults.proofs.SixExact.{field-then, commas-then, right_or, date-reads}
 
-three-exact : (a b c : List ℕ) → is_some (three_of a b c) ≡ (is_some (code_of a) && (date_right true (maybe_date_of b) && eqb (length c) 0))
+three-exact : (a b c : List ℕ) → is_some (three_of a b c) ≡ (is_some (code_of a) && (right_or true (maybe_date_of b) && eqb (length c) 0))
 unfolding three_of
 three-exact a b c = go (code_of a) (maybe_date_of b) (eqb (length c) 0)
   where
     go : (x : Option Code) (y : Option (Option CalendarDays)) (t : Bool)
-        → is_some (on_sender x λ code. on_date y None λ from. cond t (Some (record { code = code; from = from })) None) ≡ (is_some x && (date_right true y && t))
+        → is_some (on_sender x λ code. on_date y None λ from. cond t (Some (record { code = code; from = from })) None) ≡ (is_some x && (right_or true y && t))
     go (Some code) (Some from) t = chosen is_some (Some (record { code = code; from = from })) None refl refl t
     go (Some code) None t = refl
     go None y t = refl
@@ -49,7 +49,7 @@ empty-bytes [] e = unfold all in refl
 empty-bytes (b ∷ f) e = absurd (omega (arith, eqb-true (length (b ∷ f)) 0 e))
 
 module _ (s : List ℕ) where
-  request-tests : is_ok (request_fault s) ≡ (is_some (code_of (field_at s 0)) && (date_right true (maybe_date_of (field_at s 1)) && (eqb (length (rest_at s 2)) 0 && leb 2 (commas s))))
+  request-tests : is_ok (request_fault s) ≡ (is_some (code_of (field_at s 0)) && (right_or true (maybe_date_of (field_at s 1)) && (eqb (length (rest_at s 2)) 0 && leb 2 (commas s))))
   unfolding request_fault
   request-tests = simp (field-then, code-needed, date-right, date-reads, nothing_right, commas-then)
 
@@ -57,7 +57,7 @@ module _ (s : List ℕ) where
   three-without-fault : is_ok (request_fault s) ≡ true → length (split 44 s) ≡ 3
   three-without-fault h =
       let h₁ = and_right (is_some (code_of (field_at s 0))) _ (sym request-tests ∙ h) in
-      let h₂ = and_right (date_right true (maybe_date_of (field_at s 1))) _ h₁ in
+      let h₂ = and_right (right_or true (maybe_date_of (field_at s 1))) _ h₁ in
       let most = fields-counted s 2 (empty-bytes (rest_at s 2) (and_left (eqb (length (rest_at s 2)) 0) _ h₂)) in
       let least = leb-true 2 (commas s) (and_right (eqb (length (rest_at s 2)) 0) _ h₂) in
       omega arith

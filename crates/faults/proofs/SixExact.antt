@@ -68,36 +68,16 @@ allowed-right : (c : Result ⊤ Cause) (rule : Bool) → is_ok (allowed c rule) 
 allowed-right c rule h = and_left (is_ok c) rule (sym (allowed_then c rule) ∙ h)
 
 -- ---- what each field asks, by what it is read as. Where one may be missing, `may` is true
-abbrev has_date : Option CalendarDays → Bool
-has_date (Some d) = true
-has_date None = false
-
-abbrev has_code : Option Code → Bool
-has_code (Some c) = true
-has_code None = false
-
-abbrev has_kind : Option Kind → Bool
-has_kind (Some k) = true
-has_kind None = false
-
 abbrev returns : Option Kind → Bool
 returns (Some k) = is_return k
 returns None = false
 
-abbrev pub date_right : Bool → Option (Option CalendarDays) → Bool
-date_right may (Some d) = may || has_date d
-date_right may None = false
-
-abbrev code_right : Bool → Option (Option Code) → Bool
-code_right may (Some c) = may || has_code c
-code_right may None = false
-
-abbrev kind_right : Bool → Option (Option Kind) → Bool
-kind_right may (Some k) = may || has_kind k
-kind_right may None = false
+abbrev pub right_or : {A : Type 0} → Bool → Option (Option A) → Bool
+right_or may (Some x) = may || is_some x
+right_or may None = false
 
 abbrev code_there : Option (Option Code) → Bool
-code_there (Some c) = has_code c
+code_there (Some c) = is_some c
 code_there None = true
 
 abbrev return_there : Option (Option Kind) → Bool
@@ -105,30 +85,30 @@ return_there (Some k) = returns k
 return_there None = false
 
 module _ (may : Bool) where
-  pub date-reads : (f : List ℕ) → cond (eqb (length f) 0) may (is_some (date_field_of f)) ≡ date_right may (maybe_date_of f)
+  pub date-reads : (f : List ℕ) → cond (eqb (length f) 0) may (is_some (date_field_of f)) ≡ right_or may (maybe_date_of f)
   unfolding maybe_date_of maybe_date_from
   date-reads [] = sym (or-false may)
   date-reads (b ∷ f) = rw (ne_eqb (length (b ∷ f)) 0 (λ z. omega arith)) (go (date_field_of (b ∷ f)))
     where
-      go : (r : Option CalendarDays) → is_some r ≡ date_right may (maybe_date_from r)
+      go : (r : Option CalendarDays) → is_some r ≡ right_or may (maybe_date_from r)
       go (Some d) = sym (or-true may)
       go None = refl
 
-  code_reads : (f : List ℕ) → cond (eqb (length f) 0) may (is_some (code_of f)) ≡ code_right may (maybe_code_of f)
+  code_reads : (f : List ℕ) → cond (eqb (length f) 0) may (is_some (code_of f)) ≡ right_or may (maybe_code_of f)
   unfolding maybe_code_of maybe_code_from
   code_reads [] = sym (or-false may)
   code_reads (b ∷ f) = rw (ne_eqb (length (b ∷ f)) 0 (λ z. omega arith)) (go (code_of (b ∷ f)))
     where
-      go : (r : Option Code) → is_some r ≡ code_right may (maybe_code_from r)
+      go : (r : Option Code) → is_some r ≡ right_or may (maybe_code_from r)
       go (Some c) = sym (or-true may)
       go None = refl
 
-  kind-reads : (f : List ℕ) → cond (eqb (length f) 0) may (is_some (kind_of f)) ≡ kind_right may (maybe_kind_of f)
+  kind-reads : (f : List ℕ) → cond (eqb (length f) 0) may (is_some (kind_of f)) ≡ right_or may (maybe_kind_of f)
   unfolding maybe_kind_of maybe_kind_from
   kind-reads [] = sym (or-false may)
   kind-reads (b ∷ f) = rw (ne_eqb (length (b ∷ f)) 0 (λ z. omega arith)) (go (kind_of (b ∷ f)))
     where
-      go : (r : Option Kind) → is_some r ≡ kind_right may (maybe_kind_from r)
+      go : (r : Option Kind) → is_some r ≡ right_or may (maybe_kind_from r)
       go (Some k) = sym (or-true may)
       go None = refl
 
@@ -169,7 +149,7 @@ range-reads None (b ∷ f) = simp and-false
 
 -- ---- six fields
 abbrev pub is_filled : Part → Bool
-is_filled p = has_date p.date && (has_code p.losing && (has_kind p.kind && (has_code p.gaining || returns p.kind)))
+is_filled p = is_some p.date && (is_some p.losing && (is_some p.kind && (is_some p.gaining || returns p.kind)))
 
 -- a part, and a filled one where nothing may be missing
 abbrev pub filled_or : Bool → Option Part → Bool
@@ -188,7 +168,7 @@ rest_of number date gaining losing kind =
 
 -- by what the fields are read as
 read-rest : (may : Bool) (number : Option Number) (date : Option (Option CalendarDays)) (gaining losing : Option (Option Code)) (kind : Option (Option Kind))
-    → (is_some number && (date_right may date && (code_right true gaining && (code_right may losing && (kind_right may kind && (may || (code_there gaining || return_there kind)))))))
+    → (is_some number && (right_or may date && (right_or true gaining && (right_or may losing && (right_or may kind && (may || (code_there gaining || return_there kind)))))))
     ≡ filled_or may (rest_of number date gaining losing kind)
 read-rest may None date gaining losing kind = refl
 read-rest may (Some n) None gaining losing kind = refl
@@ -199,7 +179,7 @@ read-rest true (Some n) (Some x) (Some g) (Some l) (Some k) = refl
 read-rest false (Some n) (Some x) (Some g) (Some l) (Some k) = refl
 
 read-six : (some may : Bool) (first : Option Digits) (b : List ℕ) (date : Option (Option CalendarDays)) (gaining losing : Option (Option Code)) (kind : Option (Option Kind))
-    → ((some && is_some first) && (range_from first b && (date_right may date && (code_right true gaining && (code_right may losing && (kind_right may kind && (may || (code_there gaining || return_there kind))))))))
+    → ((some && is_some first) && (range_from first b && (right_or may date && (right_or true gaining && (right_or may losing && (right_or may kind && (may || (code_there gaining || return_there kind))))))))
     ≡ (some && filled_or may (on_digits first None (λ d. rest_of (number_of d b) date gaining losing kind)))
 read-six some may (Some d) b date gaining losing kind = ap₂ ◌&&◌ (and-true some) (read-rest may (number_of d b) date gaining losing kind)
 read-six some may None b date gaining losing kind = simp and-false
@@ -301,7 +281,7 @@ first-empty a b c d e f p h = go (digits_field_of a) refl h
     go None q k = absurd (no_part p k)
 
 -- ---- a report
-named-exact : (g : Option Code) (k : Kind) → part_named g k ≡ (has_code g || is_return k)
+named-exact : (g : Option Code) (k : Kind) → part_named g k ≡ (is_some g || is_return k)
 named-exact (Some c) k = refl
 named-exact None P = refl
 named-exact None L = refl
@@ -313,7 +293,7 @@ whole-exact p = go (is_empty p.number.first) p.date p.losing p.kind
   where
     go : (t : Bool) (date : Option CalendarDays) (losing : Option Code) (kind : Option Kind)
         → is_some (cond t None (on_some_date date λ d. on_some_code losing λ l. on_some_kind kind λ k. cond (part_named p.gaining k) (Some (record { number = p.number; date = d; gaining = gaining_of p.gaining; losing = l; kind = k })) None))
-        ≡ (not t && (has_date date && (has_code losing && (has_kind kind && (has_code p.gaining || returns kind)))))
+        ≡ (not t && (is_some date && (is_some losing && (is_some kind && (is_some p.gaining || returns kind)))))
     go true date losing kind = refl
     go false None losing kind = refl
     go false (Some d) None kind = refl

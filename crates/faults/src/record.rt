@@ -4,7 +4,7 @@ ghost use Rattle.laws.specs.Split.{piece_of};
 ghost use Rattle.faults.specs.Record.{on_commas, report_fault, whole_for, number_for, u_fault, k_fault, correction_from, correction_fault, request_fault, record_fault, end_pos};
 
 use crate::cause::{Cause, FieldFault};
-use crate::six::{at, six};
+use crate::six::{Fields, at, six};
 use crate::{cut, field};
 use records::names::kind::FileKind;
 
@@ -36,12 +36,14 @@ fn report(s: &[u8]) -> Result<(), FieldFault>
         1,
         missing,
         missing,
-        field_at(s, 0),
-        field_at(s, 1),
-        field_at(s, 2),
-        field_at(s, 3),
-        field_at(s, 4),
-        cut::rest(s, 5),
+        Fields {
+            first: field_at(s, 0),
+            last: field_at(s, 1),
+            date: field_at(s, 2),
+            gaining: field_at(s, 3),
+            losing: field_at(s, 4),
+            status: cut::rest(s, 5),
+        },
     )
 }
 
@@ -70,12 +72,14 @@ fn u_part(code: &[u8], first: &[u8], s: &[u8]) -> Result<(), FieldFault>
         3,
         missing,
         missing,
-        first,
-        field_at(s, 1),
-        field_at(s, 2),
-        field_at(s, 3),
-        field_at(s, 4),
-        field_at(s, 5),
+        Fields {
+            first,
+            last: field_at(s, 1),
+            date: field_at(s, 2),
+            gaining: field_at(s, 3),
+            losing: field_at(s, 4),
+            status: field_at(s, 5),
+        },
     )
 }
 
@@ -87,12 +91,14 @@ fn k_part(code: &[u8], first: &[u8], s: &[u8]) -> Result<(), FieldFault>
         16,
         number_for(code, first),
         Ok(()),
-        cut::behind(field_at(s, 6), 2),
-        field_at(s, 7),
-        field_at(s, 8),
-        field_at(s, 9),
-        field_at(s, 10),
-        cut::rest(s, 11),
+        Fields {
+            first: cut::behind(field_at(s, 6), 2),
+            last: field_at(s, 7),
+            date: field_at(s, 8),
+            gaining: field_at(s, 9),
+            losing: field_at(s, 10),
+            status: cut::rest(s, 11),
+        },
     )
 }
 

@@ -19,38 +19,40 @@ fn is_named_or(missing: Result<(), Cause>, gaining: &[u8], status: &[u8]) -> boo
     missing.is_ok() || field::is_named(gaining, status)
 }
 
+// The fields as they stand, each maybe damaged.
+#[derive(Clone, Copy)]
+pub(crate) struct Fields<'a> {
+    pub first: &'a [u8],
+    pub last: &'a [u8],
+    pub date: &'a [u8],
+    pub gaining: &'a [u8],
+    pub losing: &'a [u8],
+    pub status: &'a [u8],
+}
+
 // The six fields, at every second "Pos." from `pos` on; what an empty first number field is, and what a missing date, losing network or status.
 #[tactic(auto, unfolding(crate::specs::Six::six_fault))]
 pub(crate) fn six(
     pos: usize,
     none: Result<(), Cause>,
     missing: Result<(), Cause>,
-    first: &[u8],
-    last: &[u8],
-    date: &[u8],
-    gaining: &[u8],
-    losing: &[u8],
-    status: &[u8],
+    f: Fields,
 ) -> Result<(), FieldFault>
     requires { pos ≤ 16 }
-    ensures { result ≡ six_fault pos none missing first.now last.now date.now gaining.now losing.now status.now }
+    ensures { result ≡ six_fault pos none missing f.entry.first.now f.entry.last.now f.entry.date.now f.entry.gaining.now f.entry.losing.now f.entry.status.now }
 {
-    at(pos, field::digits_alone(first, none))?;
+    let range = field::is_range(f.first, f.last);
+    let named = is_named_or(missing, f.gaining, f.status);
+    at(pos, field::digits_alone(f.first, none))?;
     at(
         pos + 2,
-        field::allowed(
-            field::digits_alone(last, Ok(())),
-            field::is_range(first, last),
-        ),
+        field::allowed(field::digits_alone(f.last, Ok(())), range),
     )?;
-    at(pos + 4, field::date_alone(date, missing))?;
-    at(pos + 6, field::code_alone(gaining, Ok(())))?;
-    at(pos + 8, field::code_alone(losing, missing))?;
+    at(pos + 4, field::date_alone(f.date, missing))?;
+    at(pos + 6, field::code_alone(f.gaining, Ok(())))?;
+    at(pos + 8, field::code_alone(f.losing, missing))?;
     at(
         pos + 10,
-        field::allowed(
-            field::kind_alone(status, missing),
-            is_named_or(missing, gaining, status),
-        ),
+        field::allowed(field::kind_alone(f.status, missing), named),
     )
 }
