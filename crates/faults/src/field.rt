@@ -137,10 +137,7 @@ pub(crate) fn allowed(itself: Result<(), Cause>, rule: bool) -> Result<(), Cause
 pub(crate) fn is_range(a: &[u8], b: &[u8]) -> bool
     ensures { result ≡ is_range a.now b.now }
 {
-    let Some(first) = Digits::read(a) else {
-        return false;
-    };
-    Number::read(first, b).is_some()
+    Digits::read(a).is_some_and(|first| Number::read(first, b).is_some())
 }
 
 fn is_return(k: Kind) -> bool
@@ -154,13 +151,7 @@ fn is_return(k: Kind) -> bool
 pub(crate) fn is_named(gaining: &[u8], status: &[u8]) -> bool
     ensures { result ≡ is_named gaining.now status.now }
 {
-    if !gaining.is_empty() {
-        return true;
-    }
-    let Some(k) = Kind::read(status) else {
-        return false;
-    };
-    is_return(k)
+    !gaining.is_empty() || Kind::read(status).is_some_and(is_return)
 }
 
 // The code of an objection.
@@ -168,8 +159,5 @@ pub(crate) fn is_named(gaining: &[u8], status: &[u8]) -> bool
 pub(crate) fn objects(code: &[u8]) -> bool
     ensures { result ≡ objects code.now }
 {
-    let Some(c) = CorrectionCode::read(code) else {
-        return false;
-    };
-    c.is_objection()
+    CorrectionCode::read(code).is_some_and(CorrectionCode::is_objection)
 }
