@@ -9,7 +9,7 @@ pub(crate) fn rest(s: &[u8], k: usize) -> &[u8]
 {
     let mut at: usize = 0;
     for i in 0..k {
-        let e = text::field_end(s, at, 44);
+        let e = text::field_end(s, at, b',');
         if s.len() <= e {
             return &s[0..0];
         }
@@ -33,11 +33,11 @@ pub(crate) fn behind(s: &[u8], n: usize) -> &[u8]
 }
 
 // How many bytes the code of a correction has: up to `U:`, or four where that is missing.
-#[tactic(auto, unfolding(crate::specs::Cut::code_width))]
+#[tactic(auto, using(std::proofs::lemmas::Bool::Decides::nat_tests, crate::proofs::CutLaws::colon_first), unfolding(crate::specs::Cut::code_width))]
 pub fn code_width(head: &[u8]) -> usize
     ensures { result ≡ code_width head.now }
 {
-    let colon = text::field_end(head, 0, 58);
+    let colon = text::field_end(head, 0, b':');
     if colon < head.len() && 0 < colon && head[colon - 1] == b'U' {
         colon - 1
     } else {

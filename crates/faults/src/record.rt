@@ -11,7 +11,7 @@ use records::names::kind::FileKind;
 fn field_at(s: &[u8], k: usize) -> &[u8]
     ensures { result.now ≡ piece_of 44 s.now k }
 {
-    text::piece(s, 44, k)
+    text::piece(s, b',', k)
 }
 
 // The first comma that is missing, where there are fewer than `most`.
@@ -20,7 +20,7 @@ fn on_commas(most: usize, pos: usize, s: &[u8]) -> Result<(), FieldFault>
     requires { (most ≤ 11) × (pos ≤ 5) }
     ensures { result ≡ on_commas most pos s.now }
 {
-    let n = text::cuts(s, 44);
+    let n = text::cuts(s, b',');
     if most <= n {
         return Ok(());
     }

@@ -1,6 +1,6 @@
 // The six fields of a report, or of a part of a correction.
-ghost use Rattle.std.specs.Prelude.{◌≡◌, ◌≤◌, Result, ⊤};
-ghost use Rattle.faults.specs.Six.{at_field, is_named_or, six_fault};
+ghost use Rattle.std.specs.Prelude.{◌≡◌, ◌≤◌, Result, Ok, ⊤};
+ghost use Rattle.faults.specs.Six.{at_field, is_named_or, on_numbers, on_networks, six_fault};
 
 use crate::cause::{Cause, FieldFault};
 use crate::field;
@@ -30,6 +30,29 @@ pub(crate) struct Fields<'a> {
     pub status: &'a [u8],
 }
 
+// The two number fields; what an empty first one is.
+fn numbers(pos: usize, none: Result<(), Cause>, f: Fields) -> Result<(), FieldFault>
+    requires { pos ≤ 16 }
+    ensures { result ≡ on_numbers pos none f.entry.first.now f.entry.last.now (Ok tt) }
+{
+    let range = field::is_range(f.first, f.last);
+    let last = field::allowed(field::digits_alone(f.last, Ok(())), range);
+    at(pos, field::digits_alone(f.first, none))?;
+    at(pos + 2, last)
+}
+
+// The networks and the status, the gaining network at `pos`; what a missing losing network or status is.
+fn networks(pos: usize, missing: Result<(), Cause>, f: Fields) -> Result<(), FieldFault>
+    requires { pos ≤ 22 }
+    ensures { result ≡ on_networks pos missing f.entry.gaining.now f.entry.losing.now f.entry.status.now }
+{
+    let named = is_named_or(missing, f.gaining, f.status);
+    let status = field::allowed(field::kind_alone(f.status, missing), named);
+    at(pos, field::code_alone(f.gaining, Ok(())))?;
+    at(pos + 2, field::code_alone(f.losing, missing))?;
+    at(pos + 4, status)
+}
+
 // The six fields, at every second "Pos." from `pos` on; what an empty first number field is, and what a missing date, losing network or status.
 #[tactic(auto, unfolding(crate::specs::Six::six_fault))]
 pub(crate) fn six(
@@ -41,18 +64,7 @@ pub(crate) fn six(
     requires { pos ≤ 16 }
     ensures { result ≡ six_fault pos none missing f.entry.first.now f.entry.last.now f.entry.date.now f.entry.gaining.now f.entry.losing.now f.entry.status.now }
 {
-    let range = field::is_range(f.first, f.last);
-    let named = is_named_or(missing, f.gaining, f.status);
-    at(pos, field::digits_alone(f.first, none))?;
-    at(
-        pos + 2,
-        field::allowed(field::digits_alone(f.last, Ok(())), range),
-    )?;
+    numbers(pos, none, f)?;
     at(pos + 4, field::date_alone(f.date, missing))?;
-    at(pos + 6, field::code_alone(f.gaining, Ok(())))?;
-    at(pos + 8, field::code_alone(f.losing, missing))?;
-    at(
-        pos + 10,
-        field::allowed(field::kind_alone(f.status, missing), named),
-    )
+    networks(pos + 6, missing, f)
 }
