@@ -23,7 +23,7 @@ use Rattle.faults.specs.declared.cause.FaultPlace.{FaultPlace}
 use Rattle.faults.specs.declared.cause.RecordCheck.{RecordCheck}
 use Rattle.faults.specs.declared.cause.RecordCheck.TheVariants.{Right, Wrong}
 use Rattle.faults.specs.Record.{record_fault, end_pos}
-use Rattle.faults.proofs.RecordExact.{record-right, right-record}
+use Rattle.faults.proofs.RecordExact.{record_has_no_fault, right-record}
 use Rattle.files.specs.declared.judge.Judged.TheVariants.{Records, Fault}
 use Rattle.files.specs.Judged.{place_at, is_end, closed, on_line, unended, last_line, judged, judged_one}
 use Rattle.files.proofs.JudgeLaws.{judged-line}
@@ -47,7 +47,7 @@ module _ (kind : FileKind) where
       let good = and_left (is_record kind t) (all (is_record kind) ts) e in
       let a : i + suc (length ts) ≡ i + 1 + length ts = omega arith in
       judged-line kind i t (ts ++ end_of_file (i + suc (length ts) + 1)) (more-lines ts (i + suc (length ts) + 1))
-      ∙ rw (plain t good, record-right kind t good, a) (lines-read plain ts (i + 1) (and_right (is_record kind t) (all (is_record kind) ts) e))
+      ∙ rw (plain t good, record_has_no_fault kind t good, a) (lines-read plain ts (i + 1) (and_right (is_record kind t) (all (is_record kind) ts) e))
 
   -- what lines that were judged are made of
   pub record Whole (i n : ℕ) (ls : List (List ℕ)) : Type 0 where
@@ -120,7 +120,7 @@ module _ (kind : FileKind) where
   -- ---- one record
   pub one-read : (t : List ℕ) → is_record kind t ≡ true → judged_one kind (t ∷ [] ∷ []) ≡ Records 1
   unfolding judged_one
-  one-read t e = rw (record-right kind t e)
+  one-read t e = rw (record_has_no_fault kind t e)
 
   pub record WholeOne (n : ℕ) (ls : List (List ℕ)) : Type 0 where
     pub text : List ℕ
