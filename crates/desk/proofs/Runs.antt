@@ -61,10 +61,6 @@ copied-then {o} {a} {b} {o₁} {o₂} {at} {m} {n} p q =
     }
 
 -- ---- a path: with no folder nothing is written, else the folder, a slash and the name, one behind the other
-pub path-none : (f n o : List ℕ) (r : ℕ) → length f ≡ 0 → r ≡ min 0 (length o) → Copied o 0 (path_of f n) o r
-path-none [] n o r e h = record { bytes = overlay-none o 0; ends = h }
-path-none (b ∷ f) n o r e h = absurd (omega arith)
-
 pub path-copied : (f : List ℕ) {n o o₁ o₂ o₃ : List ℕ} {a b r : ℕ} → (length f ≡ 0 → ⊥) → Copied o 0 f o₁ a → Copied o₁ a (47 ∷ []) o₂ b → Copied o₂ b n o₃ r → Copied o 0 (path_of f n) o₃ r
 path-copied [] some p q s = absurd (some refl)
 path-copied (x ∷ f) some p q s = copied-then p (copied-then q s)
