@@ -1,10 +1,9 @@
 -- The answers on where a line stands and on a number's entry, put together from what the code found. Assumes nothing.
-use Rattle.std.specs.Prelude.{Option, Some, None}
+use Rattle.std.specs.Option.{option_map}
+use Rattle.std.specs.Prelude.{Some, None}
 use mathlib.Core.Path.{◌≡◌, refl, sym, ap, ◌∙◌}
 use mathlib.Core.Bool.{Bool, true, false, cond, ◌&&◌}
 use mathlib.Core.List.{List, [], ◌∷◌, ◌++◌}
-use mathlib.Core.Option
-use mathlib.Core.Option.{Option, none, some}
 use Prim.Native.Nat.{ℕ, suc, ◌+◌, ◌*◌, ◌≤◌, ◌<◌}
 use native.Mathlib.Omega.{arith}
 use borrow.Author.Tests.{ltb-true, ltb-false, leb-true, lt-leb, le-leb}
@@ -129,11 +128,11 @@ module _ (t : List ℕ) (x : Number) (room : 2 + line_count t * 14 ≤ length t)
   module _ (files : List Filed) (n : ℕ) where
     pub before-unknown : None ≡ found_line t x → not_held UnknownNumber ≡ entry_before (lines_in t) files n x
     unfolding entry_before
-    before-unknown q = sym (ap (λ l. held_as (Option.map (entry_over rules (take n files)) l)) (no_line t x room q))
+    before-unknown q = sym (ap (λ l. held_as (option_map (entry_over rules (take n files)) l)) (no_line t x room q))
 
     pub before_here : (i : ℕ) (y : Entry) (s : Standing) → Some i ≡ found_line t x → s ≡ entry_over standings (take n files) (table_line (line_at t i)) → y ≡ s.entry
         → ◌≡◌ {A = EntryAnswer} (record { answer = Shown; entry = y }) (entry_before (lines_in t) files n x)
     unfolding entry_before
     before_here i y s q e p =
         (λ k. record { answer = Shown; entry = (p ∙ ap (λ (u : Standing). u.entry) e ∙ standing-entry (take n files) (table_line (line_at t i))) k })
-        ∙ sym (ap (λ l. held_as (Option.map (entry_over rules (take n files)) l)) (found-line t x room i q))
+        ∙ sym (ap (λ l. held_as (option_map (entry_over rules (take n files)) l)) (found-line t x room i q))

@@ -1,8 +1,8 @@
 -- A look: it shows from any bytes that can be shown from what a store answers, without judging whether all of it reads. It is no answer of paper 01, and
 -- has no number there. Assumes nothing: these are definitions.
+use Rattle.std.specs.Prelude.{Some}
 use Rattle.std.specs.Prelude.{Option, None}
 use Rattle.std.specs.Prelude.{cond, List, ℕ, take}
-use Rattle.std.proofs.Math.Option.{Option, none, some}
 use Rattle.laws.specs.Lists.{table}
 use Rattle.fields.specs.declared.number.Number.{Number}
 use Rattle.entries.specs.Entry.{line_in}
@@ -84,8 +84,8 @@ abbrev pub not_stood : Look → LookedStanding
 not_stood l = record { look = l; standing = first_standing (line_in None) }
 
 abbrev pub stood_on : List Filed → Option (TableLine Number) → LookedStanding
-stood_on files none = not_stood Look.UnknownNumber
-stood_on files (some line) = record { look = Look.Shown; standing = entry_over standings files line }
+stood_on files None = not_stood Look.UnknownNumber
+stood_on files (Some line) = record { look = Look.Shown; standing = entry_over standings files line }
 
 unfoldable pub stood_at : List (TableLine Number) → List Filed → ℕ → ℕ → LookedStanding
 stood_at lines files n i = stood_on (take n files) (item_at lines i)

@@ -1,7 +1,7 @@
 -- A filed record by journal and place (paper 01, "Verdicts on reports", the last paragraph). Assumes nothing: these are definitions.
+use Rattle.std.specs.Prelude.{None}
 use Rattle.std.specs.Prelude.{Option, Some}
 use Rattle.std.specs.Prelude.{◌≡◌, List, ℕ, ◌+◌, ◌≤◌, ◌<◌}
-use Rattle.std.proofs.Math.Option.{Option, none, some}
 use Rattle.laws.specs.Lists.{table}
 use Rattle.fields.specs.declared.number.Number.{Number}
 use Rattle.verdict.specs.declared.verdicts.Verdict.{Verdict}
@@ -34,8 +34,8 @@ said_by e = record { number = number_of rules e; rec = record_of e }
 -- ---- the verdict at a record's own point of the history of its number: on the entry that the records processed before it lead to. Without a line
 -- it is 12
 abbrev pub point_verdict : List Filed → Event → Record → Option (TableLine Number) → Verdict
-point_verdict files e rec none = UnknownNumber
-point_verdict files e rec (some line) = verdict_on (Some (line_by line)) (worked rules line (before rules e (history rules files line.number))) rec
+point_verdict files e rec None = UnknownNumber
+point_verdict files e rec (Some line) = verdict_on (Some (line_by line)) (worked rules line (before rules e (history rules files line.number))) rec
 
 -- ---- the record
 abbrev pub asked_as : List (TableLine Number) → List Filed → Event → AskedRecord
@@ -47,8 +47,8 @@ asked_as lines files e = record {
 }
 
 abbrev pub asked_of : List (TableLine Number) → List Filed → Journal → ℕ → Option Event → Asked
-asked_of lines files which place none = Asked.Beyond
-asked_of lines files which place (some e) = Asked.Record which place (asked_as lines files e)
+asked_of lines files which place None = Asked.Beyond
+asked_of lines files which place (Some e) = Asked.Record which place (asked_as lines files e)
 
 -- the one at a place of a journal
 unfoldable pub asked_in : List (TableLine Number) → List Filed → Journal → ℕ → Asked

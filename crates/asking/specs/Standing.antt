@@ -1,8 +1,8 @@
 -- A number's entry, as the store holds it and as it stood before a file arrived. Assumes nothing: these are definitions.
+use Rattle.std.specs.Option.{option_map}
+use Rattle.std.specs.Prelude.{Some}
 use Rattle.std.specs.Prelude.{Option, None}
 use Rattle.std.specs.Prelude.{Bool, ◌&&◌, List, map, ℕ, leb, length, take}
-use Rattle.std.proofs.Math.Option
-use Rattle.std.proofs.Math.Option.{Option, none, some}
 use Rattle.fields.specs.declared.number.Number.{Number}
 use Rattle.entries.specs.declared.entry.Entry.{Entry}
 use Rattle.entries.specs.Entry.{first_entry, line_in}
@@ -28,8 +28,8 @@ abbrev pub not_held : Answer → EntryAnswer
 not_held a = record { answer = a; entry = no_entry }
 
 abbrev pub held_as : Option Entry → EntryAnswer
-held_as none = not_held UnknownNumber
-held_as (some e) = record { answer = Shown; entry = e }
+held_as None = not_held UnknownNumber
+held_as (Some e) = record { answer = Shown; entry = e }
 
 -- as the store holds it
 unfoldable pub entry_in : List (TableLine Number) → List Entry → Number → EntryAnswer
@@ -37,7 +37,7 @@ entry_in lines entries number = held_as (entry_of rules lines entries number)
 
 -- as it stood before the file at n arrived
 unfoldable pub entry_before : List (TableLine Number) → List Filed → ℕ → Number → EntryAnswer
-entry_before lines files n number = held_as (Option.map (entry_over rules (take n files)) (line_of rules lines number))
+entry_before lines files n number = held_as (option_map (entry_over rules (take n files)) (line_of rules lines number))
 
 -- what has to hold of any bytes before a stored entry is shown from them: room, and at most 1,024 lines
 unfoldable pub has_entries : List ℕ → List ℕ → Bool

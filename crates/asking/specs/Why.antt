@@ -1,6 +1,6 @@
 -- Why a number stands where it does (paper 01, "Verdicts on reports", the last paragraph). Assumes nothing: these are definitions.
+use Rattle.std.specs.Prelude.{Option, Some, None}
 use Rattle.std.specs.Prelude.{Bool, cond, ◌&&◌, List, [], ◌∷◌, ℕ, ◌+◌, eqb, length}
-use Rattle.std.proofs.Math.Option.{Option, none, some}
 use Rattle.fields.specs.declared.number.Number.{Number}
 use Rattle.entries.specs.declared.entry.Place.{Place}
 use Rattle.entries.specs.Report.{publisher_of}
@@ -41,8 +41,8 @@ pair_of files Why.Nothing = WhyAnswer.Nothing
 pair_of files (Why.Pair a b) = WhyAnswer.Pair (stored_as files a) (stored_as files b)
 
 abbrev pub why_on : List Filed → Option (TableLine Number) → WhyAnswer
-why_on files none = UnknownNumber
-why_on files (some line) = pair_of files (entry_over standings files line).why
+why_on files None = UnknownNumber
+why_on files (Some line) = pair_of files (entry_over standings files line).why
 
 unfoldable pub why_in : List (TableLine Number) → List Filed → Number → WhyAnswer
 why_in lines files number = why_on files (line_of rules lines number)

@@ -1,6 +1,6 @@
 // A filed record by journal and place: its file, its verdict at its own point of the history, and its bytes as a part of its journal.
+ghost use Rattle.std.specs.Prelude.{Some, None};
 ghost use Rattle.std.specs.Prelude.{◌≡◌, ◌+◌, ◌*◌, ◌≤◌, ◌<◌, length, take};
-ghost use Rattle.std.proofs.Math.Option.{some};
 ghost use Rattle.store.specs.journals.Files.{file_at};
 ghost use Rattle.store.specs.journals.Reads.{read_files};
 ghost use Rattle.store.specs.numbers.Lines.{line_count, line_at};
@@ -132,7 +132,7 @@ fn verdict_at<'a>(
     requires sound { Sound n files.now regular.now corrections.now }
     requires k_lt_n { (k < n) × (at < (file_at files.now k).count) }
     requires i_in_bounds { 2 + i * 14 + 14 ≤ length table.now }
-    ensures { result ≡ point_verdict (take n (read_files files.now regular.now corrections.now)) (record_in files.now regular.now corrections.now k at) rec (some (table_line (line_at table.now i))) }
+    ensures { result ≡ point_verdict (take n (read_files files.now regular.now corrections.now)) (record_in files.now regular.now corrections.now k at) rec (Some (table_line (line_at table.now i))) }
 {
     let l = lines::line_at(table, i);
     let number = l.number;

@@ -1,6 +1,6 @@
 -- What reworking tells other languages. Assumes nothing: these are definitions.
+use Rattle.std.specs.Prelude.{Option}
 use Rattle.std.specs.Prelude.{◌≡◌, List, ℕ}
-use Rattle.std.proofs.Math.Option.{Option}
 use Rattle.laws.specs.Told.{value_at}
 use Rattle.store.specs.Reads.{Buffers, Held}
 use Rattle.reworking.specs.declared.rework.Reworked.{Reworked}

@@ -22,7 +22,7 @@ fn name_at(path: &[u8]) -> usize
 }
 
 // The kind and the publication day that a path's last component tells.
-pub fn name_of(path: &[u8]) -> records::names::name::NameRead
+pub fn name_of(path: &[u8]) -> Option<records::names::name::Name>
     ensures { result ≡ name_in path.now }
 {
     let at = name_at(path);

@@ -46,8 +46,7 @@ pub fn read_correction(file: &[u8], place: usize) -> CorrectionAt
         Found::Fault(at, cause) => CorrectionAt::Fault(at, cause),
         Found::Beyond => CorrectionAt::Beyond,
         Found::Record => {
-            let Some(x) = Correction::read(text::piece(file, 13, place))
-            else {
+            let Some(x) = Correction::read(text::piece(file, 13, place)) else {
                 return CorrectionAt::Beyond;
             };
             CorrectionAt::Correction(x)

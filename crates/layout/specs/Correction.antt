@@ -1,8 +1,7 @@
 -- What a correction is read as, which corrections it can hold, and how they are written. Assumes nothing: these are definitions.
 use Rattle.std.specs.Prelude.{is_some}
-use Rattle.layout.specs.declared.report.Report.{Report}
 use Rattle.std.specs.Prelude.{Option, Some, None}
-use Rattle.std.specs.Prelude.{ℕ, ◌-◌, ◌+◌, Bool, true, false, cond, not, ◌&&◌, ◌||◌, List, ◌∷◌, ◌++◌, eqb, leb, length, get_or, take}
+use Rattle.std.specs.Prelude.{ℕ, ◌-◌, ◌+◌, Bool, cond, not, ◌&&◌, ◌||◌, List, ◌∷◌, ◌++◌, eqb, leb, length, get_or, take}
 use Rattle.laws.specs.Split.{split, piece_of, between}
 use Rattle.fields.specs.declared.correction_code.CorrectionCode.{CorrectionCode}
 use Rattle.fields.specs.declared.number.Number.{Number}

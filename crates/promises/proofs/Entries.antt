@@ -1,7 +1,7 @@
 -- The stored entries, line by line, and those that reworking leaves. Assumes nothing.
+use Rattle.std.specs.Prelude.{Option, Some}
 use mathlib.Core.Path.{◌≡◌, sym, ap, ◌∙◌}
 use mathlib.Core.List.{List, map}
-use mathlib.Core.Option.{Option, some}
 use Prim.Native.Nat.{ℕ, ◌<◌}
 use lib.ListN.{get_or, take}
 use Rattle.laws.specs.Lists.{table}
@@ -38,9 +38,9 @@ module _ {b : Buffers} (u : InUse b) where
 
 -- after reworking over the first n files
 pub reworked-entries : {b : Buffers} {n count : ℕ} {list entries listed : List ℕ} → Reworks b n list (Reworked.Changed count) entries listed
-    → reads (with_entries b entries) ≡ some (record { lines = (held b).lines; files = (held b).files; entries = map (entry_over rules (take n (held b).files)) (held b).lines })
+    → reads (with_entries b entries) ≡ Some (record { lines = (held b).lines; files = (held b).files; entries = map (entry_over rules (take n (held b).files)) (held b).lines })
 unfolding held
 reworked-entries {b} {n} {count} {list} {entries} s =
     let a = accepted b n count list s.answers in
-    let left : entries ≡ entries_after n (some (held b)) b.entries = s.leaves ∙ ap (λ (h : Option Held). entries_after n h b.entries) a.1 in
+    let left : entries ≡ entries_after n (Some (held b)) b.entries = s.leaves ∙ ap (λ (h : Option Held). entries_after n h b.entries) a.1 in
     ap (λ (l : List ℕ). reads (with_entries b l)) left ∙ reworked-reads b a.0 n

@@ -1,8 +1,8 @@
 -- What a refusal leaves, function by function. Assumes nothing.
+use Rattle.std.specs.Prelude.{Option, Some, None}
 use mathlib.Core.Path.{◌≡◌, refl, ap, ◌∙◌}
 use mathlib.Core.Bool.{Bool, true, false, cond, not}
 use mathlib.Core.List.{List, [], ◌∷◌}
-use mathlib.Core.Option.{Option, none, some}
 use Prim.Native.Nat.{ℕ}
 use borrow.Author.Tests.{ne_eqb}
 use lib.ListN.{length}
@@ -53,10 +53,10 @@ unfolding start_answer
 start-by-table {text} {before} s = ap started_number s.answers ∙ go (long_enough before) (table_of text)
   where
     go : (t : Bool) (o : Option (List Line)) → started_number (cond t (answer_of o) Started.Short) ≡ first_line ((not t, 44) ∷ (is_no_table o, 6) ∷ []) 0
-    go true (some lines) = refl
-    go true none = refl
-    go false (some lines) = refl
-    go false none = refl
+    go true (Some lines) = refl
+    go true None = refl
+    go false (Some lines) = refl
+    go false None = refl
 
 -- ---- filing
 file-stays : {b after : Buffers} {kind : Filable} {publisher : List ℕ} {day : ℕ} {text : List ℕ} {answer : Answer} → Files b kind publisher day text answer after
@@ -73,8 +73,8 @@ pub rework-stays : {b : Buffers} {n : ℕ} {list : List ℕ} {answer : Reworked}
 rework-stays {b} {n} {list} {answer} {entries} {listed} s not-0 = go (with_room list b) s.answers s.leaves s.lists
   where
     go : (o : Option Held) → answer ≡ rework_answer n o → entries ≡ entries_after n o b.entries → listed ≡ list_after n o list → (entries ≡ b.entries) × (listed ≡ list)
-    go none q e l = (e, l)
-    go (some h) q e l = absurd (not-0 (ap reworked_number q))
+    go None q e l = (e, l)
+    go (Some h) q e l = absurd (not-0 (ap reworked_number q))
 
 -- ---- writing
 written-stays : (right : Written) (text before after : List ℕ) → after ≡ after_writing right text before → (wrote_number right ≡ 0 → ⊥) → after ≡ before

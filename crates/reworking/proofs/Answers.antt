@@ -1,8 +1,8 @@
 -- What reworking answers and leaves: for a list without room, for buffers that don't read, and for a store. Assumes nothing.
+use Rattle.std.specs.Prelude.{Option, Some, None}
 use mathlib.Core.Path.{◌≡◌, sym, ap, ap₂, ◌∙◌}
 use mathlib.Core.Bool.{Bool, true, false, cond}
 use mathlib.Core.List.{List, map, flat_map}
-use mathlib.Core.Option.{Option, none, some}
 use Prim.Native.Nat.{ℕ, ◌≤◌, ◌<◌}
 use native.Mathlib.Omega.{arith}
 use borrow.Author.Tests.{le-leb, lt-leb}
@@ -58,14 +58,14 @@ module _ (b : Buffers) (n : ℕ) (list : List ℕ) where
 
     pub rework-unread : is_readable b ≡ false → Reworks b n list Reworked.Unreadable b.entries list
     rework-unread h =
-        let e : with_room list b ≡ none = with-room ∙ reads_none b h in
+        let e : with_room list b ≡ None = with-room ∙ reads_none b h in
         record { answers = ap (rework_answer n) (sym e); leaves = ap (λ (s : Option Held). entries_after n s b.entries) (sym e); lists = ap (λ (s : Option Held). list_after n s list) (sym e) }
 
     pub rework-done : is_readable b ≡ true → (k m count : ℕ) (after listed : List ℕ) → k ≡ cond (ltb n (file_count b.files)) n (file_count b.files) → m ≡ line_count b.table
         → LinesReworked (take k (read_files b.files b.regular b.corrections)) b.table m b.entries after list listed count → Reworks b n list (Reworked.Changed count) after listed
     unfolding held lines_of reworked_entries
     rework-done h k m count after listed ek em done =
-        let e : with_room list b ≡ some (held b) = with-room ∙ reads-some b h in
+        let e : with_room list b ≡ Some (held b) = with-room ∙ reads-some b h in
         let fs = read_files b.files b.regular b.corrections in
         let files : take k fs ≡ take n fs = among-files b.files b.regular b.corrections n k ek in
         let lines : table m (line_of b.table) ≡ map table_line (lines_of b.table) = ap (λ (j : ℕ). table j (line_of b.table)) em ∙ sym (map-table table_line (line_count b.table) (line_at b.table)) in

@@ -6,12 +6,12 @@
 --     verdict-promise        the verdict shown is the model's, at the record's own point of the history
 --     figure-promise         whatever was written over the entries, the figure is the number of those that were changed
 --     figure-of-changes, figure-nothing, changed-at (`Figures`), part-bytes, record-promise (`Parts`)
+use Rattle.std.specs.Option.{option_map}
 use Rattle.std.specs.Prelude.{Option, Some, None}
 use mathlib.Core.Path.{◌≡◌, refl, sym, ap, subst, ◌∙◌}
 use mathlib.Core.Logic.{◌⊎◌, inl, inr, ⊎_elim}
 use mathlib.Core.Bool.{true, false, not, true≢false}
 use mathlib.Core.List.{List, [], ◌∷◌, ◌++◌}
-use mathlib.Core.Option.{Option, none, some, map}
 use Prim.Native.Nat.{ℕ}
 use native.Mathlib.Omega.{arith}
 use borrow.Author.Tests.{not-true}
@@ -64,15 +64,15 @@ pub record PairShown (s : Store rules) (number : Number) (line : TableLine Numbe
   -- both are reports of the history, published by the network that has to, and stored at the places shown
   pub first-record : Root (line_by line).owner (records_on s line) first
   pub second-record : Root (line_by line).owner (records_on s line) second
-  pub first-stored : item_at (journal_of 0 s.files) (stored_as s.files first).place ≡ some first-record.event
-  pub second-stored : item_at (journal_of 0 s.files) (stored_as s.files second).place ≡ some second-record.event
+  pub first-stored : item_at (journal_of 0 s.files) (stored_as s.files first).place ≡ Some first-record.event
+  pub second-stored : item_at (journal_of 0 s.files) (stored_as s.files second).place ≡ Some second-record.event
   -- the report processed first comes first
   pub in_order : processed_before first-record.event second-record.event ≡ true
   -- they match
   pub pairing : Pairing first second
   -- and the stored entry has their gaining network as holder, and their date
   pub entry : Entry
-  pub held : entry_of rules s.lines s.entries number ≡ some entry
+  pub held : entry_of rules s.lines s.entries number ≡ Some entry
   pub holder : entry.holder ≡ second.report.gaining
   pub last : entry.last ≡ Some second.report.date
 
@@ -81,7 +81,7 @@ pub record NoneShown (s : Store rules) (number : Number) (line : TableLine Numbe
   pub shown : why_in s.lines s.files number ≡ WhyAnswer.Nothing
   pub none-confirmed : none_confirms (line_by line) (first_entry (line_by line)) (records_on s line) ≡ true
   pub entry : Entry
-  pub held : entry_of rules s.lines s.entries number ≡ some entry
+  pub held : entry_of rules s.lines s.entries number ≡ Some entry
   pub holder : entry.holder ≡ (line_by line).owner
   pub last : entry.last ≡ None
 
@@ -99,7 +99,7 @@ unfolding none_confirms stand_on entry_after
 none-at line s [] e m h = not-true _ (and_left (not (confirms line s.entry e)) (none_confirms line (entry_after line s.entry (record_of e)) m) h)
 none-at line s (x ∷ l) e m h = none-at line (stand_on line s (record_of x)) l e m (and_right (not (confirms line s.entry x)) (none_confirms line (entry_after line s.entry (record_of x)) (l ++ (e ∷ m))) h)
 
-module _ {s : Store rules} (reached : Reached rules s) (number : Number) (line : TableLine Number) (listed : line_of rules s.lines number ≡ some line) where
+module _ {s : Store rules} (reached : Reached rules s) (number : Number) (line : TableLine Number) (listed : line_of rules s.lines number ≡ Some line) where
   abbrev own : Line
   own = line_by line
 
@@ -116,8 +116,8 @@ module _ {s : Store rules} (reached : Reached rules s) (number : Number) (line :
   abbrev worked : Entry
   worked = entry_over rules s.files line
 
-  held-worked : entry_of rules s.lines s.entries number ≡ some worked
-  held-worked = entry-worked-afresh reached number ∙ ap (map (entry_over rules s.files)) listed
+  held-worked : entry_of rules s.lines s.entries number ≡ Some worked
+  held-worked = entry-worked-afresh reached number ∙ ap (option_map (entry_over rules s.files)) listed
 
   worked-stands : worked ≡ stand.entry
   worked-stands = sym (standing-entry s.files line) ∙ ap (λ (t : Standing). t.entry) (stands-over s.files line)
@@ -186,13 +186,13 @@ module _ {s : Store rules} (reached : Reached rules s) (number : Number) (line :
 -- ---- verdicts
 verdict-by : (files : List Filed) (e : Event) (l : Option (TableLine Number)) → number_of (point_verdict files e (record_of e) l) ≡ judged rules files e l
 unfolding judged
-verdict-by files e none = refl
-verdict-by files e (some line) = unfold model.verdict_over in refl
+verdict-by files e None = refl
+verdict-by files e (Some line) = unfold model.verdict_over in refl
 
 pub verdict-promise : (s : Store rules) (e : Event) → number_of (asked_as s.lines s.files e).verdict ≡ verdict_of rules s e
 unfolding verdict_of
 verdict-promise s e = verdict-by s.files e (line_of rules s.lines (model.number_of rules e))
 
 -- ---- the figure of buffers whose table and files are those of a reached store, whatever was written over the entries
-pub figure-promise : (h : Held) {s : Store rules} → Reached rules s → h.lines ≡ s.lines → h.files ≡ s.files → figure_asked (some h) ≡ FigureAnswer.Differ (changes s.entries h.entries)
+pub figure-promise : (h : Held) {s : Store rules} → Reached rules s → h.lines ≡ s.lines → h.files ≡ s.files → figure_asked (Some h) ≡ FigureAnswer.Differ (changes s.entries h.entries)
 figure-promise h {s} r el ef = ap FigureAnswer.Differ ((λ j. figure_of (el j) (ef j) h.entries) ∙ figure-of-changes r h.entries)

@@ -3,7 +3,6 @@ use Rattle.std.specs.Prelude.{Option, Some, None}
 use mathlib.Core.Path.{◌≡◌, refl, sym, ap, ◌∙◌}
 use mathlib.Core.Bool.{Bool, true, false, cond}
 use mathlib.Core.List.{List}
-use mathlib.Core.Option.{Option, none, some}
 use Prim.Native.Nat.{ℕ, ◌≤◌}
 use borrow.Author.Tests.{le-leb}
 use Rattle.laws.specs.Lists.{table}
@@ -85,7 +84,7 @@ module _ (t f r c e : List ℕ) where
     unfolding has_entries
     entries-too = rw (le-leb 14338 _ room.long-table, le-leb 102400 _ room.long-entries, le-leb (line_count t) 1024 few)
 
-    read : reads b ≡ some (held b)
+    read : reads b ≡ Some (held b)
     read = reads-some b whole
 
     -- ---- the answers of a store that reads
@@ -125,7 +124,7 @@ module _ (t f r c e : List ℕ) where
 
   -- ---- 44 before all else
   module _ (not : is_readable b ≡ false) where
-    nothing : reads b ≡ none
+    nothing : reads b ≡ None
     nothing = reads_none b not
 
     pub entry-unread : (x : Option Number) → not_held Answer.Unreadable ≡ entry_asked (reads b) x

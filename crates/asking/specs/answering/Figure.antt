@@ -1,7 +1,7 @@
 -- The figure: how many stored entries differ from those worked out from the journals. Assumes nothing: these are definitions.
+use Rattle.std.specs.Prelude.{Option, Some, None}
 use Rattle.std.specs.Prelude.{Bool, not, ℕ, length}
 use mathlib.Core.List.{List, [], ◌∷◌, zip_with}
-use Rattle.std.proofs.Math.Option.{Option, none, some}
 use Rattle.laws.specs.Lists.{table, keep}
 use Rattle.laws.specs.Told.{Told, told}
 use Rattle.fields.specs.declared.number.Number.{Number}
@@ -33,8 +33,8 @@ figure_told (FigureAnswer.Differ n) = told 0 (n ∷ [])
 figure_told FigureAnswer.Unreadable = told 44 []
 
 abbrev pub figure_asked : Option Held → FigureAnswer
-figure_asked none = FigureAnswer.Unreadable
-figure_asked (some h) = FigureAnswer.Differ (figure_of h.lines h.files h.entries)
+figure_asked None = FigureAnswer.Unreadable
+figure_asked (Some h) = FigureAnswer.Differ (figure_of h.lines h.files h.entries)
 
 -- ---- as it is counted: how many of the first m entries differ
 unfoldable pub differing : List Filed → List ℕ → List ℕ → ℕ → ℕ

@@ -3,7 +3,6 @@ use Rattle.fields.specs.declared.number.Number.{Number}
 use Rattle.fields.specs.declared.number.Digits.{Digits}
 use Rattle.std.specs.Prelude.{Option, Some, None}
 use Rattle.std.specs.Prelude.{List, ℕ}
-use Rattle.std.proofs.Math.Option.{Option, none, some}
 use Rattle.fields.specs.Number.{digits_field_of, number_of}
 use Rattle.store.specs.declared.journals.records.Journal.{Journal}
 use Rattle.store.specs.Reads.{Held}
@@ -24,20 +23,20 @@ abbrev pub number_given : List ℕ → List ℕ → Option Number
 number_given first last = second_field (digits_field_of first) last
 
 abbrev pub entry_asked : Option Held → Option Number → EntryAnswer
-entry_asked none x = not_held Answer.Unreadable
-entry_asked (some h) (Some x) = entry_in h.lines h.entries x
-entry_asked (some h) None = not_held Answer.UnknownNumber
+entry_asked None x = not_held Answer.Unreadable
+entry_asked (Some h) (Some x) = entry_in h.lines h.entries x
+entry_asked (Some h) None = not_held Answer.UnknownNumber
 
 abbrev pub before_asked : Option Held → ℕ → Option Number → EntryAnswer
-before_asked none n x = not_held Answer.Unreadable
-before_asked (some h) n (Some x) = entry_before h.lines h.files n x
-before_asked (some h) n None = not_held Answer.UnknownNumber
+before_asked None n x = not_held Answer.Unreadable
+before_asked (Some h) n (Some x) = entry_before h.lines h.files n x
+before_asked (Some h) n None = not_held Answer.UnknownNumber
 
 abbrev pub why_asked : Option Held → Option Number → WhyAnswer
-why_asked none x = WhyAnswer.Unreadable
-why_asked (some h) (Some x) = why_in h.lines h.files x
-why_asked (some h) None = WhyAnswer.UnknownNumber
+why_asked None x = WhyAnswer.Unreadable
+why_asked (Some h) (Some x) = why_in h.lines h.files x
+why_asked (Some h) None = WhyAnswer.UnknownNumber
 
 abbrev pub record_asked : Option Held → Journal → ℕ → Asked
-record_asked none which place = Asked.Unreadable
-record_asked (some h) which place = asked_in h.lines h.files which place
+record_asked None which place = Asked.Unreadable
+record_asked (Some h) which place = asked_in h.lines h.files which place
