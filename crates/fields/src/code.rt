@@ -3,7 +3,7 @@ ghost use Rattle.std.specs.Prelude.{◌≡◌, true, ◌+◌, ◌≤◌, length}
 ghost use Rattle.laws.specs.Overlay.{Laid};
 ghost use Rattle.fields.specs.Code.{code_of, code_fits, code_of_word, code_text, maybe_code_of_word, maybe_code_fits, maybe_code_text};
 
-#[derive(Clone, Copy)]
+#[derive(Clone, Copy, PartialEq, Eq)]
 pub struct Code(pub u16);
 
 impl Code {

@@ -4,7 +4,7 @@ ghost use Rattle.fields.specs.Gaining.{gaining_of, gaining_field};
 
 use crate::code::Code;
 
-#[derive(Clone, Copy)]
+#[derive(Clone, Copy, PartialEq, Eq)]
 pub enum Gaining {
     Code(Code),
     Owner,

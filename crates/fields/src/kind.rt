@@ -3,7 +3,7 @@ ghost use Rattle.std.specs.Prelude.{◌≡◌, ◌+◌, ◌≤◌, length};
 ghost use Rattle.laws.specs.Overlay.{Laid};
 ghost use Rattle.fields.specs.Kind.{kind_of, kind_of_word, kind_text, maybe_kind_of_word, maybe_kind_text};
 
-#[derive(Clone, Copy)]
+#[derive(Clone, Copy, PartialEq, Eq)]
 pub enum Kind {
     P,
     L,
