@@ -9,5 +9,6 @@ pub fn search(keys: &[u64; 10240], n: usize, key: u64) -> usize
     requires keys_value { sorted (take n keys.now) ≡ take n keys.now }
     ensures { result ≡ below key (take n keys.now) }
 {
-    keys[..n].partition_point(|&k| k < key)
+    let first = &keys[..n];
+    first.partition_point(|&k| k < key)
 }

@@ -1,21 +1,21 @@
--- `calendar::dates::full_year` meets its contract: each return rewrites with the tests that led there.
--- Assumes nothing.
-use borrow.Author.Tests.{lt-ltb, le-ltb, le-leb, lt-leb}
+-- `calendar::dates::full_year` meets its contract. Assumes nothing.
+use native.Mathlib.Omega.{arith}
+use Rattle.std.proofs.lemmas.Bool.Decides.{nat_tests}
 use Rattle.calendar.specs.Answers.{full_year}
 use Rattle.calendar.proofs.dates.full_year.Goals as goal
 
-pub returns-then-two-lt50 : goal.returns-then-two-lt50
+pub returns-in-0-to-49 : goal.returns-in-0-to-49
 unfolding full_year
-returns-then-two-lt50 c = simp (lt-ltb _ _ c.if-two-lt50.true)
+returns-in-0-to-49 c = grind (arith, nat_tests)
 
-pub returns-then-two-lt98 : goal.returns-then-two-lt98
+pub returns-in-98 : goal.returns-in-98
 unfolding full_year
-returns-then-two-lt98 c = simp (le-ltb _ _ c.if-two-lt50.false, lt-ltb _ _ c.if-two-lt98.true)
+returns-in-98 c = grind (arith, nat_tests)
 
-pub returns-then-two-gt99 : goal.returns-then-two-gt99
+pub returns-in_default : goal.returns-in_default
 unfolding full_year
-returns-then-two-gt99 c = simp (le-ltb _ _ c.if-two-lt50.false, le-ltb _ _ c.if-two-lt98.false, lt-leb _ _ c.if-two-gt99.true)
+returns-in_default c = grind (arith, nat_tests)
 
-pub returns : goal.returns
+pub returns-in_default-2 : goal.returns-in_default-2
 unfolding full_year
-returns c = simp (le-ltb _ _ c.if-two-lt50.false, le-ltb _ _ c.if-two-lt98.false, le-leb _ _ c.if-two-gt99.false)
+returns-in_default-2 c = grind (arith, nat_tests)
