@@ -12,7 +12,7 @@ use Rattle.laws.proofs.Tables.{all_weaker}
 use Rattle.fields.specs.declared.code.Code.{Code}
 use Rattle.fields.specs.declared.kind.Kind.TheVariants.{P, L, Z}
 use Rattle.fields.specs.Bytes.{field_byte}
-use Rattle.fields.specs.Spelt.{maybe_text}
+use Rattle.fields.specs.Field.{maybe_text}
 use Rattle.fields.specs.Code.{code_text}
 use Rattle.fields.specs.Date.{date_text, spelling}
 use Rattle.fields.specs.Kind.{kind_text}
@@ -43,3 +43,12 @@ pub bytes-maybe : {A : Type 0} (text : A → List ℕ) → ((x : A) → all fiel
 unfolding all
 bytes-maybe text b (Some x) = b x
 bytes-maybe text b None = refl
+
+pub bytes-maybe-code : (c : Option Code) → all field_byte (maybe_text code_text c) ≡ true
+bytes-maybe-code = bytes-maybe code_text bytes-code
+
+pub bytes-maybe-date : (d : Option CalendarDays) → all field_byte (maybe_text date_text d) ≡ true
+bytes-maybe-date = bytes-maybe date_text bytes-date
+
+pub bytes-maybe-kind : (k : Option Kind) → all field_byte (maybe_text kind_text k) ≡ true
+bytes-maybe-kind = bytes-maybe kind_text bytes-kind

@@ -14,10 +14,10 @@ use Rattle.laws.proofs.Digits.{length_digits}
 use Rattle.text.specs.Spelt.{digits_of}
 use Rattle.text.proofs.Spelling.{fixed-trip, fixed_back}
 use Rattle.fields.specs.declared.code.Code.{Code}
-use Rattle.fields.specs.Spelt.{Trips, IsFixed}
+use Rattle.fields.specs.Field.{Trips, IsFixed}
 use Rattle.fields.specs.Code.{code_from, code_of, code_fits, code_text, maybe_code_of, maybe_code_fits, maybe_code_text}
 use Rattle.fields.proofs.ByteLaws.{bytes-code}
-use Rattle.fields.proofs.SpeltLaws.{maybe_trips}
+use Rattle.fields.proofs.FieldLaws.{maybe_trips}
 
 module _ (f : List ℕ) where
   pub code-length : (length f ≡ 4 → ⊥) → code_of f ≡ None

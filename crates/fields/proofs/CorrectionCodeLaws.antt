@@ -12,7 +12,7 @@ use Rattle.laws.proofs.Digits.{length_digits}
 use Rattle.text.specs.Spelt.{digits_of}
 use Rattle.text.proofs.Spelling.{fixed-trip, fixed_back}
 use Rattle.fields.specs.declared.correction_code.CorrectionCode.{CorrectionCode}
-use Rattle.fields.specs.Spelt.{Trips}
+use Rattle.fields.specs.Field.{Trips}
 use Rattle.fields.specs.CorrectionCode.{correction_code_from, correction_code_of, correction_code_fits, correction_code_text}
 
 -- what was written is read back

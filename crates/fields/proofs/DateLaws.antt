@@ -21,9 +21,9 @@ use Rattle.calendar.specs.Answers.{day_of, date_in, date_of}
 use Rattle.calendar.proofs.DateLaws.{month_days-none, month_days-le}
 use Rattle.calendar.proofs.Dating.{date-back, day-back}
 use Rattle.fields.specs.Date.{date_spelt, date_found, date_from, date_field_of, date_fits, spelling, date_text, maybe_date_of, maybe_date_fits, maybe_date_text}
-use Rattle.fields.specs.Spelt.{Trips, IsFixed}
+use Rattle.fields.specs.Field.{Trips, IsFixed}
 use Rattle.fields.proofs.ByteLaws.{bytes-date}
-use Rattle.fields.proofs.SpeltLaws.{maybe_trips}
+use Rattle.fields.proofs.FieldLaws.{maybe_trips}
 
 -- ---- a date of the calendar has two digits for the day, two for the month and four for the year
 valid-small : (y m d : ℕ) → valid y m d ≡ true → (y < 10000) × (m < 100) × (d < 100)

@@ -11,9 +11,9 @@ use borrow.Author.Tests.{eqb-true, ne_eqb}
 use Rattle.fields.specs.declared.kind.Kind.{Kind}
 use Rattle.fields.specs.declared.kind.Kind.TheVariants.{P, L, Z}
 use Rattle.fields.specs.Kind.{kind_by, kind_of, kind_fits, kind_text, maybe_kind_of, maybe_kind_text}
-use Rattle.fields.specs.Spelt.{Trips, IsFixed, maybe_fits}
+use Rattle.fields.specs.Field.{Trips, IsFixed, maybe_fits}
 use Rattle.fields.proofs.ByteLaws.{bytes-kind}
-use Rattle.fields.proofs.SpeltLaws.{maybe_trips}
+use Rattle.fields.proofs.FieldLaws.{maybe_trips}
 
 pub length-kind : (k : Kind) → length (kind_text k) ≡ 1
 length-kind P = refl

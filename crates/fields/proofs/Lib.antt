@@ -1,4 +1,4 @@
-pub mod SpeltLaws
+pub mod FieldLaws
 pub mod CodeLaws
 pub mod BlockLaws
 pub mod KindLaws

@@ -16,7 +16,7 @@ use Rattle.text.specs.Spelt.{digits_of}
 use Rattle.text.proofs.Spelling.{value_of, value-inv}
 use Rattle.fields.specs.declared.number.Digits.{Digits}
 use Rattle.fields.specs.declared.number.Number.{Number}
-use Rattle.fields.specs.Spelt.{Trips}
+use Rattle.fields.specs.Field.{Trips}
 use Rattle.fields.specs.Block.{some_decade, block}
 use Rattle.fields.specs.Number.{digits_from, digits_field_of, digits_size, digits_fits, digits_text, is_empty, block_fits, number_from, number_of, number_fits, same_number}
 

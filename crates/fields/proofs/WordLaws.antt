@@ -11,7 +11,7 @@ use Rattle.fields.specs.declared.code.Code.{Code}
 use Rattle.fields.specs.declared.correction_code.CorrectionCode.{CorrectionCode}
 use Rattle.fields.specs.Code.{code_of_word, code_fits, maybe_code_of_word, maybe_code_fits}
 use Rattle.fields.specs.CorrectionCode.{correction_code_of_word, correction_code_fits}
-use Rattle.fields.proofs.SpeltLaws.{maybe-word}
+use Rattle.fields.proofs.FieldLaws.{maybe-word}
 use Rattle.fields.specs.Date.{date_of_word, date_fits, maybe_date_of_word, maybe_date_fits}
 
 pub code-word : (w : ℕ) (c : Code) → code_of_word w ≡ Some c → code_fits c ≡ true

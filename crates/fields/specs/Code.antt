@@ -3,7 +3,7 @@ use Rattle.std.specs.Prelude.{Option, Some, None}
 use Rattle.std.specs.Prelude.{ℕ, Bool, false, cond, ◌&&◌, List, ◌∷◌, leb, eqb, length, get_or, drop}
 use Rattle.laws.specs.Digits.{digits}
 use Rattle.text.specs.Spelt.{digits_of}
-use Rattle.fields.specs.Spelt.{maybe_of, maybe_fits, maybe_of_word, maybe_text}
+use Rattle.fields.specs.Field.{maybe_of, maybe_fits, maybe_of_word, maybe_text}
 use Rattle.fields.specs.declared.code.Code.{Code}
 
 unfoldable pub code_from : Option ℕ → Option Code

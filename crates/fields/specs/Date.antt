@@ -3,7 +3,7 @@ use Rattle.std.specs.Prelude.{Option, Some, None}
 use Rattle.std.specs.Prelude.{ℕ, ◌+◌, ◌*◌, ◌/◌, ◌%◌, Bool, false, cond, List, eqb, length}
 use Rattle.laws.specs.Digits.{digits}
 use Rattle.text.specs.Spelt.{digits_of}
-use Rattle.fields.specs.Spelt.{maybe_of, maybe_fits, maybe_of_word, maybe_text}
+use Rattle.fields.specs.Field.{maybe_of, maybe_fits, maybe_of_word, maybe_text}
 use Rattle.calendar.specs.declared.dates.CalendarDays.{CalendarDays}
 use Rattle.calendar.specs.declared.dates.Date.{Date}
 use Rattle.calendar.specs.Dates.{in_calendar}

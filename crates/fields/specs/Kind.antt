@@ -1,7 +1,7 @@
 -- What a status field is read as, and how a kind is written. Assumes nothing: these are definitions.
 use Rattle.std.specs.Prelude.{Option, Some, None}
 use Rattle.std.specs.Prelude.{ℕ, Bool, true, cond, List, [], ◌∷◌, eqb, length, get_or}
-use Rattle.fields.specs.Spelt.{maybe_of, maybe_of_word, maybe_text}
+use Rattle.fields.specs.Field.{maybe_of, maybe_of_word, maybe_text}
 use Rattle.fields.specs.declared.kind.Kind.{Kind}
 use Rattle.fields.specs.declared.kind.Kind.TheVariants.{P, L, Z}
 

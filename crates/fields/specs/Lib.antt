@@ -1,4 +1,4 @@
-pub mod Spelt
+pub mod Field
 pub mod Code
 pub mod CorrectionCode
 pub mod Kind

@@ -9,18 +9,16 @@ use Rattle.fields.specs.CorrectionCode.{correction_code_of, correction_code_of_w
 use Rattle.fields.specs.Number.{is_empty}
 use Rattle.layout.specs.declared.part.Part.{Part}
 use Rattle.layout.specs.declared.correction.Correction.{Correction}
-use Rattle.layout.specs.Part.{part_of, part_of_words, part_fits, part_text}
+use Rattle.layout.specs.Part.{on, part_of, part_of_words, part_fits, part_text}
 use Rattle.layout.specs.Report.{whole_of}
 
 -- ---- what is found goes on to what makes the correction of it; a fault is the correction's
 
 abbrev pub on_head : Option CorrectionCode → (CorrectionCode → Option Correction) → Option Correction
-on_head (Some c) k = k c
-on_head None k = None
+on_head c k = on c None k
 
 abbrev pub on_part : Option Part → (Part → Option Correction) → Option Correction
-on_part (Some p) k = k p
-on_part None k = None
+on_part p k = on p None k
 
 -- before the first colon: the code, and 'U' (85)
 unfoldable pub head_of : List ℕ → Option CorrectionCode

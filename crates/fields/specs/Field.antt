@@ -1,4 +1,4 @@
--- Values that bytes spell: what bytes are read as (`of`), which values can be written (`fits`) and how (`text`). Assumes nothing: these are definitions.
+-- What stands in a field: what its bytes are read as (`of`), which values it can hold (`fits`) and how they are written (`text`). Assumes nothing: these are definitions.
 use Rattle.std.specs.Prelude.{ℕ, ◌≡◌, ◌<◌, Bool, true, cond, Option, Some, None, List, [], eqb, length}
 use Rattle.laws.specs.Lists.{all}
 use Rattle.fields.specs.Bytes.{field_byte}

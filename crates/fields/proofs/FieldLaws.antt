@@ -8,7 +8,7 @@ use mathlib.Core.List.{List, [], ◌∷◌}
 use lib.Dec.{eqb}
 use lib.ListN.{length}
 use borrow.Author.Tests.{ne_eqb}
-use Rattle.fields.specs.Spelt.{Trips, IsFixed, maybe_from, maybe_of, maybe_fits, maybe_of_word, maybe_text}
+use Rattle.fields.specs.Field.{Trips, IsFixed, maybe_from, maybe_of, maybe_fits, maybe_of_word, maybe_text}
 
 module _ {A : Type 0} {of : List ℕ → Option A} {fits : A → Bool} {text : A → List ℕ} (t : Trips of fits text) where
   -- no value of a fixed width is spelt in no bytes
