@@ -105,7 +105,7 @@ fn judge_one(kind: FileKind, file: &[u8]) -> Result<usize, Fault>
         return judge_unended(kind, file, 0);
     }
     check(kind, &file[..end], 0)?;
-    if end + 1 < file.len() {
+    if end + 1 != file.len() {
         return Err(at_line(1, Cause::After));
     }
     Ok(1)

@@ -14,8 +14,8 @@ returns-in_err-check c =
 
 pub returns-then-end-file : goal.returns-then-end-file
 returns-then-end-file c =
-    rw (sym (one_more c.args.kind (ended_at _ 0 _ (omega arith) c.field_end-end.ensures) (omega arith) (sym c.check.ensures ∙ c.in_ok-check.was) c.if-end-file.true)) (search rules)
+    rw (sym (one_more c.args.kind (ended_at _ 0 _ (omega arith) c.field_end-end.ensures) (omega arith) (sym c.check.ensures ∙ c.in_ok-check.was) (omega arith))) (search rules)
 
 pub returns : goal.returns
 returns c =
-    one-record c.args.kind (ended_at _ 0 _ (omega arith) c.field_end-end.ensures) (omega arith) (sym c.check.ensures ∙ c.in_ok-check.was) c.if-end-file.false
+    one-record c.args.kind (ended_at _ 0 _ (omega arith) c.field_end-end.ensures) (omega arith) (sym c.check.ensures ∙ c.in_ok-check.was) (omega arith)
