@@ -1,4 +1,5 @@
 -- What was written reads back, from the writer's contract. Assumes nothing.
+use Rattle.std.specs.Prelude.{Ok}
 use Rattle.std.specs.Prelude.{Some}
 use mathlib.Core.Path.{◌≡◌, refl, sym, ap, ◌∙◌}
 use mathlib.Core.Bool.{Bool, true, false, cond}
@@ -18,7 +19,6 @@ use Rattle.records.specs.declared.names.kind.FileKind.{FileKind}
 use Rattle.records.specs.declared.names.written.Written.{Written}
 use Rattle.records.specs.names.Written.{after_writing, Wrote}
 use Rattle.records.specs.Record.{text_of}
-use Rattle.files.specs.declared.judge.Judged.TheVariants.{Records}
 use Rattle.files.specs.Judged.{judged_file, records_of}
 use Rattle.files.specs.Writing.{Holding, held, values_in, file_of, answer_to, file_answer}
 use Rattle.files.specs.declared.read.Found.{Found}
@@ -51,10 +51,10 @@ module _ (kind : FileKind) (words : List ℕ) {before after : List ℕ} {n : ℕ
     ends = found.3 ∙ sym (zero-add (length (file_of kind words)));
   })
 
-  pub reads-back : (judged_file kind (take n after) ≡ Records (length (values_in kind words))) × (records_of kind (take n after) ≡ map (text_of kind) (values_in kind words))
+  pub reads-back : (judged_file kind (take n after) ≡ Ok (length (values_in kind words))) × (records_of kind (take n after) ≡ map (text_of kind) (values_in kind words))
   reads-back =
       let w = (words-read kind words found.0 found.1).0 in
-      rw front (w.count ∙ ap Records (length-map (values_in kind words) (text_of kind)), w.texts)
+      rw front (w.count ∙ ap Ok (length-map (values_in kind words) (text_of kind)), w.texts)
 
   -- as many records as there are values
   inside : (k : ℕ) → k < length (values_in kind words) → k < found.0
