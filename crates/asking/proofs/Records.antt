@@ -1,5 +1,5 @@
 -- The record at a place of a journal is the one of its file. Assumes nothing.
-use Rattle.std.specs.Prelude.{Option, Some, None}
+use Rattle.std.specs.Prelude.{Option, Some, None, Ok, Err}
 use mathlib.Core.Path.{◌≡◌, refl, sym, ap, ◌∙◌}
 use mathlib.Core.Bool.{Bool, true, false, cond}
 use mathlib.Core.List.{List, [], ◌∷◌, ◌++◌, flat_map}
@@ -29,8 +29,8 @@ use Rattle.store.specs.numbers.Find.{found_line}
 use Rattle.store.specs.Reads.{table_line}
 use Rattle.working.specs.Working.{record_in}
 use Rattle.working.proofs.SlipLaws.{records-more, own-records, records-grow}
-use Rattle.asking.specs.declared.record.Asked.{Asked}
-use Rattle.asking.specs.declared.looks.LookedRecord.{LookedRecord}
+use Rattle.asking.specs.declared.looks.RecordNotSeen.{RecordNotSeen}
+use Rattle.asking.specs.declared.record.ShownRecord.{ShownRecord}
 use Rattle.asking.specs.declared.record.AskedRecord.{AskedRecord}
 use Rattle.asking.specs.declared.record.Said.{Said}
 use Rattle.asking.specs.Items.{item_at}
@@ -182,15 +182,19 @@ module _ (t f r c : List ℕ) (files : List Filed) (k at : ℕ) (room : 2 + line
       ∙ as-asked (Some (table_line (line_at t i))) (found-line t s.number room i q)
 
 module _ (t f r c : List ℕ) (which : Journal) (place : ℕ) where
-  pub record-unshowable : is_showable t f r c ≡ false → LookedRecord.Unshowable ≡ record_looked t f r c which place
+  pub record-unshowable : is_showable t f r c ≡ false → Err RecordNotSeen.Unshowable ≡ record_looked t f r c which place
   unfolding record_looked
   record-unshowable e = rw e
 
   module _ (yes : is_showable t f r c ≡ true) (n : ℕ) (en : n ≡ file_count f) where
+    -- what is shown of a record at this place
+    abbrev at-place : AskedRecord → ShownRecord
+    at-place a = record { journal = which; place = place; shown = a }
+
     all-files : first_files n f r c ≡ read_files f r c
     all-files = ap (λ (k : ℕ). first_files k f r c) en
 
-    pub asked-beyond : records_of (kind_of which) (table n (file_at f)) ≤ place → LookedRecord.Beyond ≡ record_looked t f r c which place
+    pub asked-beyond : records_of (kind_of which) (table n (file_at f)) ≤ place → Err RecordNotSeen.Beyond ≡ record_looked t f r c which place
     unfolding record_looked asked_in
     asked-beyond h =
         rw yes
@@ -199,12 +203,12 @@ module _ (t f r c : List ℕ) (which : Journal) (place : ℕ) where
         ∙ ap (asked_of (lines_in t) (read_files f r c) which place) (record-beyond f r c n (kind_of which) place h))))
 
     pub asked-record : (k at : ℕ) (a : AskedRecord) → InFileAt (file_at f) n (kind_of which) place k at → a ≡ asked_as (lines_in t) (take n (read_files f r c)) (record_in f r c k at)
-        → LookedRecord.Record which place a ≡ record_looked t f r c which place
+        → Ok (at-place a) ≡ record_looked t f r c which place
     unfolding record_looked asked_in
     asked-record k at a w ea =
         rw yes
         (ap record_look
-        (ap (Asked.Record which place) ea
-        ∙ ap (λ (fs : List Filed). Asked.Record which place (asked_as (lines_in t) fs (record_in f r c k at))) (take_all n (read_files f r c) (omega (arith, length-first (file_count f) f r c)))
+        (ap (λ (b : AskedRecord). Ok (at-place b)) ea
+        ∙ ap (λ (fs : List Filed). Ok (at-place (asked_as (lines_in t) fs (record_in f r c k at)))) (take_all n (read_files f r c) (omega (arith, length-first (file_count f) f r c)))
         ∙ sym (ap (λ (fs : List Filed). asked_of (lines_in t) (read_files f r c) which place (item_at (journal_of (kind_of which) fs) place)) (sym all-files)
         ∙ ap (asked_of (lines_in t) (read_files f r c) which place) (record-located f r c n (kind_of which) place k at w))))
