@@ -11,7 +11,7 @@ pub enum FileKind {
 }
 
 impl FileKind {
-    // The kind that the second letter of a file's name tells.
+    // The kind that the second letter of a file's name tells. An Option, as every reader answers: a TryFrom would need an error with nothing to say.
     #[tactic(auto, using(std::proofs::lemmas::Bool::Decides::nat_tests), unfolding(crate::specs::names::Kind::kind_of))]
     pub fn of_letter(letter: u8) -> Option<FileKind>
         ensures { result ≡ kind_of letter }
