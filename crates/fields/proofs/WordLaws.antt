@@ -12,6 +12,8 @@ use Rattle.fields.specs.declared.correction_code.CorrectionCode.{CorrectionCode}
 use Rattle.fields.specs.Code.{code_of_word, code_fits, maybe_code_of_word, maybe_code_fits}
 use Rattle.fields.specs.CorrectionCode.{correction_code_of_word, correction_code_fits}
 use Rattle.fields.proofs.FieldLaws.{maybe-word}
+use Rattle.fields.specs.declared.kind.Kind.{Kind}
+use Rattle.fields.specs.Kind.{kind_of_word, kind_fits}
 use Rattle.fields.specs.Date.{date_of_word, date_fits, maybe_date_of_word, maybe_date_fits}
 
 pub code-word : (w : ℕ) (c : Code) → code_of_word w ≡ Some c → code_fits c ≡ true
@@ -43,3 +45,6 @@ date-word w d h = go (in_calendar w) refl h
 
 pub maybe-date-word : (w : ℕ) (d : Option CalendarDays) → maybe_date_of_word w ≡ Some d → maybe_date_fits d ≡ true
 maybe-date-word = maybe-word 65535 date-word
+
+pub kind-word : (w : ℕ) (k : Kind) → kind_of_word w ≡ Some k → kind_fits k ≡ true
+kind-word w k h = refl

@@ -29,7 +29,7 @@ impl Code {
         self.0 <= Code::HIGHEST.0
     }
 
-    // From a plain word.
+    // From a plain word. An Option, as `read` answers: a TryFrom would need an error with nothing to say.
     #[tactic(auto, using(std::proofs::lemmas::Bool::Decides::nat_tests), unfolding(crate::specs::Code::code_of_word))]
     pub fn of_word(w: u64) -> Option<Code>
         ensures { result ≡ code_of_word w }

@@ -18,6 +18,7 @@ impl CorrectionCode {
         Some(CorrectionCode(n as u16))
     }
 
+    // From a plain word. An Option, as `read` answers: a TryFrom would need an error with nothing to say.
     #[tactic(auto, using(std::proofs::lemmas::Bool::Decides::nat_tests), unfolding(crate::specs::CorrectionCode::correction_code_of_word))]
     pub fn of_word(w: u64) -> Option<CorrectionCode>
         ensures { result ≡ correction_code_of_word w }

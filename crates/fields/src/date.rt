@@ -21,7 +21,7 @@ pub fn read(f: &[u8]) -> Option<CalendarDays>
     })
 }
 
-// From a plain word: the number of a day of the calendar.
+// From a plain word: the number of a day of the calendar. An Option, as `read` answers: a TryFrom would need an error with nothing to say.
 #[tactic(auto, using(std::proofs::lemmas::Bool::Decides::nat_tests), unfolding(crate::specs::Date::date_of_word))]
 pub fn of_word(w: u64) -> Option<CalendarDays>
     ensures { result ≡ date_of_word w }

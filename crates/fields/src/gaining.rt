@@ -1,4 +1,5 @@
-// The gaining network of a report: a code, or nothing, which stands for the owner of the number.
+// The gaining network of a report: a code, or nothing, which stands for the owner of the number. No `Option<Code>`, which is what its field holds: that nothing
+// stands there names a network too, and only `From` says which.
 ghost use Rattle.std.specs.Prelude.{◌≡◌};
 ghost use Rattle.fields.specs.Gaining.{gaining_of, gaining_field};
 

@@ -26,7 +26,7 @@ impl Kind {
         }
     }
 
-    // From a plain word: P is 0, L is 1, Z is 2.
+    // From a plain word: P is 0, L is 1, Z is 2. An Option, as `read` answers: a TryFrom would need an error with nothing to say.
     #[tactic(auto, using(std::proofs::lemmas::Bool::Decides::nat_tests), unfolding(crate::specs::Kind::kind_by))]
     pub fn of_word(w: u64) -> Option<Kind>
         ensures { result ≡ kind_of_word w }

@@ -1,5 +1,5 @@
 // What stands in a field, whatever kind of field it is: its reader and its writer, which undo each other. A field that may be empty is an `Option`.
-ghost use Rattle.std.specs.Prelude.{◌≡◌, true, Option, ℕ, Bool, List, ◌+◌, ◌≤◌, length};
+ghost use Rattle.std.specs.Prelude.{◌≡◌, true, Option, Some, ℕ, Bool, List, ◌+◌, ◌≤◌, length};
 ghost use Rattle.laws.specs.Overlay.{Laid};
 ghost use Rattle.fields.specs.Code.{code_of, code_fits, code_of_word, code_text};
 ghost use Rattle.fields.specs.Date.{date_field_of, date_fits, date_of_word, date_text};
@@ -11,6 +11,7 @@ ghost use Rattle.fields.proofs.DateLaws.{dates, date-fixed};
 ghost use Rattle.fields.proofs.FieldLaws.{maybe_trips};
 ghost use Rattle.fields.proofs.KindLaws.{kinds, kind-fixed};
 ghost use Rattle.fields.proofs.NumberLaws.{digits-trips};
+ghost use Rattle.fields.proofs.WordLaws.{code-word, date-word, kind-word};
 
 use calendar::dates::CalendarDays;
 use fields::code::Code;
@@ -58,11 +59,11 @@ impl Field for Digits {
 
     #[tactic(auto, using(laws::proofs::Digits::length_digits))]
     fn len(self) -> usize {
-        self.len()
+        Digits::len(self)
     }
 
     fn write(self, out: &mut [u8], at: usize) -> usize {
-        self.write(out, at)
+        Digits::write(self, out, at)
     }
 }
 
@@ -85,7 +86,7 @@ impl Field for Code {
     }
 
     fn write(self, out: &mut [u8], at: usize) -> usize {
-        self.write(out, at)
+        Code::write(self, out, at)
     }
 }
 
@@ -130,7 +131,7 @@ impl Field for Kind {
     }
 
     fn write(self, out: &mut [u8], at: usize) -> usize {
-        self.write(out, at)
+        Kind::write(self, out, at)
     }
 }
 
@@ -202,22 +203,29 @@ impl<T: Fixed> Field for Option<T> {
 
 // A field that a plain word gives, and the word for an empty one.
 pub trait Worded: Field {
-    ghost EMPTY: { ℕ };
+    ghost empty: { ℕ };
 
-    const EMPTY: u64;
+    fn empty() -> u64
+        ensures { result ≡ empty };
 
     ghost of_word: { ℕ → Option Self };
 
     fn of_word(w: u64) -> Option<Self>
         ensures { result ≡ of_word w };
+
+    ghost fitting: { (w : ℕ) (x : Self) → of_word w ≡ Some x → Self.fits x ≡ true };
 }
 
 impl Worded for Code {
-    ghost EMPTY = { 1000 };
-
-    const EMPTY: u64 = 1000;
+    ghost empty = { 1000 };
 
     ghost of_word = { code_of_word };
+
+    ghost fitting = { code-word };
+
+    fn empty() -> u64 {
+        1000
+    }
 
     fn of_word(w: u64) -> Option<Code> {
         Code::of_word(w)
@@ -225,11 +233,15 @@ impl Worded for Code {
 }
 
 impl Worded for CalendarDays {
-    ghost EMPTY = { 65535 };
-
-    const EMPTY: u64 = 65535;
+    ghost empty = { 65535 };
 
     ghost of_word = { date_of_word };
+
+    ghost fitting = { date-word };
+
+    fn empty() -> u64 {
+        65535
+    }
 
     fn of_word(w: u64) -> Option<CalendarDays> {
         date::of_word(w)
@@ -237,11 +249,15 @@ impl Worded for CalendarDays {
 }
 
 impl Worded for Kind {
-    ghost EMPTY = { 3 };
-
-    const EMPTY: u64 = 3;
+    ghost empty = { 3 };
 
     ghost of_word = { kind_of_word };
+
+    ghost fitting = { kind-word };
+
+    fn empty() -> u64 {
+        3
+    }
 
     fn of_word(w: u64) -> Option<Kind> {
         Kind::of_word(w)
@@ -251,9 +267,9 @@ impl Worded for Kind {
 // What a plain word gives for a field that may be empty.
 #[tactic(auto, using(std::proofs::lemmas::Bool::Decides::nat_tests), unfolding(fields::specs::Field::maybe_of_word, fields::specs::Field::maybe_from))]
 pub fn maybe_of_word<T: Worded>(w: u64) -> Option<Option<T>>
-    ensures { result ≡ maybe_of_word T.EMPTY T.of_word w }
+    ensures { result ≡ maybe_of_word T.empty T.of_word w }
 {
-    if w == T::EMPTY {
+    if w == T::empty() {
         return Some(None);
     }
     Some(Some(T::of_word(w)?))
