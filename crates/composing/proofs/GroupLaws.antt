@@ -11,9 +11,10 @@ use Rattle.records.specs.declared.names.kind.FileKind.{FileKind}
 use Rattle.records.specs.declared.names.kind.FileKind.TheVariants.{Default, Correction, Request, Response}
 use Rattle.records.specs.Record.{width_of, fits, text_of}
 use Rattle.records.proofs.RecordLaws.{fits_width, fits-short}
-use Rattle.composing.specs.declared.measure.Measured.TheVariants.{Length, Fault}
 use Rattle.files.specs.Writing.{groups_to, groups, values_in}
-use Rattle.composing.specs.Measuring.{measured_from}
+use Rattle.std.specs.Prelude.{Err}
+use Rattle.records.specs.declared.names.written.NotWritten.{NotWritten}
+use Rattle.composing.specs.Measuring.{measured, measured_from}
 
 pub width_some : (k : FileKind) → 1 ≤ width_of k
 width_some Default = omega arith
@@ -77,10 +78,10 @@ module _ (kind : FileKind) (ws : List ℕ) (at w : ℕ) (g : List ℕ) (ew : w �
     unfolding measured_from
     measure-on n h e en = rw (group-more h, e, en)
 
-    pub measure-stop : at < length ws → fits kind g ≡ false → measured_from kind k total (values_in kind (drop at ws)) ≡ Fault k
+    pub measure-stop : at < length ws → fits kind g ≡ false → measured_from kind k total (values_in kind (drop at ws)) ≡ Err (NotWritten.Fault k)
     unfolding measured_from
     measure-stop h e = rw (group-more h, e)
 
-pub measure-done : (kind : FileKind) (ws : List ℕ) (at k total : ℕ) → length ws ≤ at → measured_from kind k total (values_in kind (drop at ws)) ≡ Length k total
+pub measure-done : (kind : FileKind) (ws : List ℕ) (at k total : ℕ) → length ws ≤ at → measured_from kind k total (values_in kind (drop at ws)) ≡ measured k total
 unfolding measured_from
 measure-done kind ws at k total h = rw (groups-end (width_of kind) ws at h)

@@ -14,9 +14,11 @@ use Rattle.laws.proofs.Overlay.{overlay-append, laid_then, laid-length}
 use Rattle.records.specs.closing.Closing.{closing_text}
 use Rattle.records.specs.declared.names.kind.FileKind.{FileKind}
 use Rattle.records.specs.Record.{width_of, fits, text_of}
-use Rattle.composing.specs.declared.measure.Measured.{Measured}
 use Rattle.files.specs.Writing.{Holding, values_in, unfit, held_all}
-use Rattle.composing.specs.Measuring.{measured_from, record_lines, closed_text}
+use Rattle.std.specs.Prelude.{Err}
+use Rattle.records.specs.declared.names.written.NotWritten.{NotWritten}
+use Rattle.composing.specs.declared.measure.Measured.{Measured}
+use Rattle.composing.specs.Measuring.{measured, measured_from, record_lines, closed_text}
 use Rattle.composing.proofs.GroupLaws.{groups-end, group-more}
 
 -- ---- the lines of records
@@ -38,8 +40,8 @@ lines_long kind (v ∷ vs) = omega (arith, length-lines kind v vs, lines_long ki
 
 -- ---- what was measured
 fits-cons : (kind : FileKind) (k total : ℕ) (v : List ℕ) (vs : List (List ℕ)) (t : Bool) → fits kind v ≡ t
-    → measured_from kind (k + 1) (total + (length (text_of kind v) + 1)) vs ≡ cond (all (fits kind) vs) (Measured.Length (k + 1 + length vs) (total + (length (text_of kind v) + 1) + length (record_lines kind vs))) (Measured.Fault (k + 1 + first_at (unfit kind) vs))
-    → measured_from kind k total (v ∷ vs) ≡ cond (all (fits kind) (v ∷ vs)) (Measured.Length (k + length (v ∷ vs)) (total + length (record_lines kind (v ∷ vs)))) (Measured.Fault (k + first_at (unfit kind) (v ∷ vs)))
+    → measured_from kind (k + 1) (total + (length (text_of kind v) + 1)) vs ≡ cond (all (fits kind) vs) (measured (k + 1 + length vs) (total + (length (text_of kind v) + 1) + length (record_lines kind vs))) (Err (NotWritten.Fault (k + 1 + first_at (unfit kind) vs)))
+    → measured_from kind k total (v ∷ vs) ≡ cond (all (fits kind) (v ∷ vs)) (measured (k + length (v ∷ vs)) (total + length (record_lines kind (v ∷ vs)))) (Err (NotWritten.Fault (k + first_at (unfit kind) (v ∷ vs))))
 unfolding measured_from all unfit
 fits-cons kind k total v vs true e ih =
     let a : k + 1 + length vs ≡ k + suc (length vs) = omega arith in
@@ -48,16 +50,16 @@ fits-cons kind k total v vs true e ih =
     rw e (ih ∙ rw (a, b, d))
 fits-cons kind k total v vs false e ih = rw (e, add-zero)
 
-measured-is : (kind : FileKind) (k total : ℕ) (vs : List (List ℕ)) → measured_from kind k total vs ≡ cond (all (fits kind) vs) (Measured.Length (k + length vs) (total + length (record_lines kind vs))) (Measured.Fault (k + first_at (unfit kind) vs))
+measured-is : (kind : FileKind) (k total : ℕ) (vs : List (List ℕ)) → measured_from kind k total vs ≡ cond (all (fits kind) vs) (measured (k + length vs) (total + length (record_lines kind vs))) (Err (NotWritten.Fault (k + first_at (unfit kind) vs)))
 unfolding measured_from all record_lines ended
 measured-is kind k total [] = rw (add-zero, add-zero)
 measured-is kind k total (v ∷ vs) = fits-cons kind k total v vs (fits kind v) refl (measured-is kind (k + 1) (total + (length (text_of kind v) + 1)) vs)
 
-pub measured-fault : (kind : FileKind) (vs : List (List ℕ)) (i : ℕ) → measured_from kind 0 0 vs ≡ Measured.Fault i → held_all kind vs ≡ Holding.Fault i
+pub measured-fault : (kind : FileKind) (vs : List (List ℕ)) (i : ℕ) → measured_from kind 0 0 vs ≡ Err (NotWritten.Fault i) → held_all kind vs ≡ Holding.Fault i
 unfolding held_all
 measured-fault kind vs i e = go (all (fits kind) vs) (sym (measured-is kind 0 0 vs) ∙ e)
   where
-    go : (t : Bool) → cond t (Measured.Length (0 + length vs) (0 + length (record_lines kind vs))) (Measured.Fault (0 + first_at (unfit kind) vs)) ≡ Measured.Fault i
+    go : (t : Bool) → cond t (measured (0 + length vs) (0 + length (record_lines kind vs))) (Err (NotWritten.Fault (0 + first_at (unfit kind) vs))) ≡ Err (NotWritten.Fault i)
         → cond t (Holding.Records (length vs)) (Holding.Fault (first_at (unfit kind) vs)) ≡ Holding.Fault i
     go true e = absurd (let z : ◌≡◌ {A = ℕ} 0 1 = cc in omega arith)
     go false e =
@@ -65,20 +67,26 @@ measured-fault kind vs i e = go (all (fits kind) vs) (sym (measured-is kind 0 0 
         let q : first_at (unfit kind) vs ≡ i = omega arith in
         ap Holding.Fault q
 
+pub measured-never-long : (kind : FileKind) (vs : List (List ℕ)) → measured_from kind 0 0 vs ≡ Err NotWritten.Long → ⊥
+measured-never-long kind vs e = go (all (fits kind) vs) (sym (measured-is kind 0 0 vs) ∙ e)
+  where
+    go : (t : Bool) → cond t (measured (0 + length vs) (0 + length (record_lines kind vs))) (Err (NotWritten.Fault (0 + first_at (unfit kind) vs))) ≡ Err NotWritten.Long → ⊥
+    go true e = cc
+    go false e = cc
+
 -- what is known of records that were measured
 pub record Whole (kind : FileKind) (vs : List (List ℕ)) (n total : ℕ) : Type 0 where
   pub fit : all (fits kind) vs ≡ true
   pub count : n ≡ length vs
   pub bytes : total ≡ length (record_lines kind vs)
 
-pub measured-length : (kind : FileKind) (vs : List (List ℕ)) (n total : ℕ) → measured_from kind 0 0 vs ≡ Measured.Length n total → Whole kind vs n total
+pub measured-length : (kind : FileKind) (vs : List (List ℕ)) (n total : ℕ) → measured_from kind 0 0 vs ≡ measured n total → Whole kind vs n total
 measured-length kind vs n total e = go (all (fits kind) vs) refl (sym (measured-is kind 0 0 vs) ∙ e)
   where
-    go : (t : Bool) → all (fits kind) vs ≡ t → cond t (Measured.Length (0 + length vs) (0 + length (record_lines kind vs))) (Measured.Fault (0 + first_at (unfit kind) vs)) ≡ Measured.Length n total → Whole kind vs n total
+    go : (t : Bool) → all (fits kind) vs ≡ t → cond t (measured (0 + length vs) (0 + length (record_lines kind vs))) (Err (NotWritten.Fault (0 + first_at (unfit kind) vs))) ≡ measured n total → Whole kind vs n total
     go true p e =
-        let a : 0 + length vs ≡ n = cc in
-        let b : 0 + length (record_lines kind vs) ≡ total = cc in
-        record { fit = p; count = omega arith; bytes = omega arith }
+        let same : ◌≡◌ {A = Measured} (record { count = 0 + length vs; bytes = 0 + length (record_lines kind vs) }) (record { count = n; bytes = total }) = cc in
+        record { fit = p; count = omega (arith, ap (λ (m : Measured). m.count) same); bytes = omega (arith, ap (λ (m : Measured). m.bytes) same) }
     go false p e = absurd (let z : ◌≡◌ {A = ℕ} 0 1 = cc in omega arith)
 
 pub held_all_lem : (kind : FileKind) (vs : List (List ℕ)) → all (fits kind) vs ≡ true → held_all kind vs ≡ Holding.Records (length vs)

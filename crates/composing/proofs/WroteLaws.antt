@@ -1,4 +1,6 @@
 -- What a writer of files answered and left in the buffer. Assumes nothing.
+use Rattle.std.specs.Prelude.{Ok, Err}
+use Rattle.records.specs.declared.names.written.NotWritten.{NotWritten}
 use Prim.Native.Nat.{ℕ, zero, suc, ◌+◌, ◌≤◌, ◌<◌}
 use native.Mathlib.Nat.{zero-add, min-le_right}
 use native.Mathlib.Omega.{arith}
@@ -14,30 +16,35 @@ use Rattle.laws.proofs.Ended.{ended-append}
 use Rattle.laws.proofs.Overlay.{laid_then}
 use Rattle.records.specs.closing.Closing.{closing_text}
 use Rattle.records.specs.declared.names.kind.FileKind.{FileKind}
-use Rattle.records.specs.declared.names.written.Written.{Written}
 use Rattle.records.specs.names.Kind.{has_closing}
 use Rattle.records.specs.names.Written.{Wrote}
 use Rattle.records.specs.Record.{width_of, fits, text_of}
 use Rattle.records.proofs.RecordLaws.{fits_width}
 use Rattle.files.specs.Writing.{Holding, values_in, held_all, held_one, held, lines_of, file_text, file_of, answer_to}
-use Rattle.composing.specs.Measuring.{record_lines, closed_text}
+use Rattle.composing.specs.Measuring.{measured_from, record_lines, closed_text}
 use Rattle.composing.proofs.GroupLaws.{groups-end, group-more, width_some}
-use Rattle.composing.proofs.LayLaws.{length-lines, lines_none}
+use Rattle.composing.proofs.LayLaws.{measured-fault, measured-never-long, length-lines, lines_none}
 
 -- ---- each answer
 module _ (h : Holding) (text before : List ℕ) where
-  pub wrote-fault : (i : ℕ) → h ≡ Holding.Fault i → Wrote (answer_to h text (length before)) text before before (Written.Fault i)
+  pub wrote-fault : (i : ℕ) → h ≡ Holding.Fault i → Wrote (answer_to h text (length before)) text before before (Err (NotWritten.Fault i))
   wrote-fault i e = record { answer = rw e; bytes = rw e }
 
-  pub wrote-long : (n : ℕ) → h ≡ Holding.Records n → length before < length text → Wrote (answer_to h text (length before)) text before before Written.Long
+  pub wrote-long : (n : ℕ) → h ≡ Holding.Records n → length before < length text → Wrote (answer_to h text (length before)) text before before (Err NotWritten.Long)
   wrote-long n e l = record { answer = rw (e, lt-leb (length text) (length before) l); bytes = rw (e, lt-leb (length text) (length before) l) }
 
-  pub wrote-whole : (n : ℕ) {after : List ℕ} {r : ℕ} → h ≡ Holding.Records n → length text ≤ length before → Laid before 0 text after r → Wrote (answer_to h text (length before)) text before after (Written.Length r)
+  pub wrote-whole : (n : ℕ) {after : List ℕ} {r : ℕ} → h ≡ Holding.Records n → length text ≤ length before → Laid before 0 text after r → Wrote (answer_to h text (length before)) text before after (Ok r)
   wrote-whole n e l p =
       record {
-        answer = rw (e, le-leb (length text) (length before) l) (ap Written.Length (p.ends ∙ zero-add (length text)));
+        answer = rw (e, le-leb (length text) (length before) l) (ap Ok (p.ends ∙ zero-add (length text)));
         bytes = rw (e, le-leb (length text) (length before) l) p.bytes;
       }
+
+-- records of which one can't be held
+pub wrote_unfit : (kind : FileKind) (vs : List (List ℕ)) (text before : List ℕ) (why : NotWritten) → measured_from kind 0 0 vs ≡ Err why
+    → Wrote (answer_to (held_all kind vs) text (length before)) text before before (Err why)
+wrote_unfit kind vs text before (NotWritten.Fault i) e = wrote-fault (held_all kind vs) text before i (measured-fault kind vs i e)
+wrote_unfit kind vs text before NotWritten.Long e = absurd (measured-never-long kind vs e)
 
 -- ---- a file of one record
 module _ (kind : FileKind) (ws : List ℕ) (w : ℕ) (g : List ℕ) (ew : w ≡ width_of kind) (eg : g ≡ take w (drop 0 ws)) where

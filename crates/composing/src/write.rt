@@ -7,9 +7,8 @@ ghost use Rattle.records.specs.Record.{fits};
 ghost use Rattle.files.specs.Writing.{values_in, held_all, held_one, answer_to, file_of, file_answer};
 ghost use Rattle.composing.specs.Measuring.{record_lines, closed_text};
 
-use crate::measure::Measured;
 use records::names::kind::FileKind;
-use records::names::written::Written;
+use records::names::written::NotWritten;
 
 // Each record with its CR, from the start of a lent buffer on; what follows them is the answer.
 fn put_records(kind: FileKind, words: &[u64], out: &mut [u8]) -> usize
@@ -39,46 +38,41 @@ fn put_closed(kind: FileKind, words: &[u64], lines: u64, out: &mut [u8]) -> usiz
 }
 
 // A file with a closing record.
-fn write_closed(kind: FileKind, words: &[u64], out: &mut [u8]) -> Written
+fn write_closed(kind: FileKind, words: &[u64], out: &mut [u8]) -> Result<usize, NotWritten>
     ensures { Wrote (answer_to (held_all kind (values_in kind words.now)) (closed_text kind (values_in kind words.now)) (length out.old)) (closed_text kind (values_in kind words.now)) out.old out.new result }
 {
-    let m = crate::measure::measure(kind, words);
-    match m {
-        Measured::Fault(place) => Written::Fault(place),
-        Measured::Length(count, total) => {
-            if out.len() < total {
-                return Written::Long;
-            }
-            let lines = (count + 1) as u64;
-            if out.len() - total < records::closing::text_len(lines) + 1 {
-                return Written::Long;
-            }
-            Written::Length(put_closed(kind, words, lines, out))
-        }
+    let measured = crate::measure::measure(kind, words)?;
+    if out.len() < measured.bytes {
+        return Err(NotWritten::Long);
     }
+    let lines = (measured.count + 1) as u64;
+    if out.len() - measured.bytes < records::closing::text_len(lines) + 1 {
+        return Err(NotWritten::Long);
+    }
+    Ok(put_closed(kind, words, lines, out))
 }
 
 // A file of one record, without a closing record.
-fn write_one(kind: FileKind, words: &[u64], out: &mut [u8]) -> Written
+fn write_one(kind: FileKind, words: &[u64], out: &mut [u8]) -> Result<usize, NotWritten>
     ensures { Wrote (answer_to (held_one kind (values_in kind words.now)) (record_lines kind (values_in kind words.now)) (length out.old)) (record_lines kind (values_in kind words.now)) out.old out.new result }
 {
     let w = records::words::width(kind);
     let values = crate::measure::group(words, 0, w);
     if !records::words::fits(kind, values) {
-        return Written::Fault(0);
+        return Err(NotWritten::Fault(0));
     }
     if w < words.len() {
-        return Written::Fault(1);
+        return Err(NotWritten::Fault(1));
     }
     if out.len() < records::words::len(kind, values) + 1 {
-        return Written::Long;
+        return Err(NotWritten::Long);
     }
-    Written::Length(put_records(kind, words, out))
+    Ok(put_records(kind, words, out))
 }
 
 // A file of a kind, from the words of its records. 4 and the place of the first record whose values its layout can't hold, then 41
 // where the buffer is too short: on both the buffer keeps its bytes. Bytes behind a written file stay.
-pub fn write(kind: FileKind, words: &[u64], out: &mut [u8]) -> Written
+pub fn write(kind: FileKind, words: &[u64], out: &mut [u8]) -> Result<usize, NotWritten>
     ensures { Wrote (file_answer kind words.now (length out.old)) (file_of kind words.now) out.old out.new result }
 {
     if kind.has_closing() {
