@@ -1,11 +1,11 @@
 -- Records laid one after the other, and what was measured of them. Assumes nothing.
-use Prim.Native.Nat.{ℕ, suc, ◌+◌, ◌≤◌, ◌<◌}
+use Prim.Native.Nat.{ℕ, suc, ◌+◌, ◌≤◌}
 use native.Mathlib.Nat.{add-zero}
 use native.Mathlib.Omega.{arith}
 use mathlib.Core.Path.{◌≡◌, refl, sym, ap, ap₂, ◌∙◌}
 use mathlib.Core.Bool.{Bool, true, false, cond, ◌&&◌}
 use mathlib.Core.List.{List, [], ◌∷◌, ◌++◌, append_assoc}
-use lib.ListN.{length, take, drop, length-append}
+use lib.ListN.{length, length-append}
 use Rattle.laws.specs.Lists.{all, first_at}
 use Rattle.laws.specs.Ended.{ended}
 use Rattle.laws.specs.Overlay.{overlay, Laid}
@@ -19,7 +19,7 @@ use Rattle.std.specs.Prelude.{Err}
 use Rattle.records.specs.declared.names.written.NotWritten.{NotWritten}
 use Rattle.composing.specs.declared.measure.Measured.{Measured}
 use Rattle.composing.specs.Measuring.{measured, measured_from, record_lines, closed_text}
-use Rattle.composing.proofs.GroupLaws.{groups-end, group-more}
+use Rattle.composing.proofs.GroupLaws.{Cut, chunk-more, groups_none}
 
 -- ---- the lines of records
 pub lines_cons : (kind : FileKind) (v : List ℕ) (vs : List (List ℕ)) → record_lines kind (v ∷ vs) ≡ text_of kind v ++ 13 ∷ record_lines kind vs
@@ -114,23 +114,23 @@ module _ {o o₁ o₂ t : List ℕ} {at m n : ℕ} (p : Laid o at t o₁ m) (q :
   pub lay-length : length o₂ ≡ length o
   lay-length = laid-length q ∙ laid-length p
 
--- ---- the records from a place on
-module _ (kind : FileKind) (ws : List ℕ) (at w : ℕ) (g : List ℕ) (ew : w ≡ width_of kind) (eg : g ≡ take w (drop at ws)) (h : at < length ws) where
-  pub left-lines : record_lines kind (values_in kind (drop at ws)) ≡ text_of kind g ++ 13 ∷ record_lines kind (values_in kind (drop (at + w) ws))
-  left-lines = ap (record_lines kind) (group-more kind ws at w g ew eg h) ∙ lines_cons kind g (values_in kind (drop (at + w) ws))
+-- ---- the records that are left
+module _ {kind : FileKind} {left g right : List ℕ} (c : Cut kind left g right) where
+  pub left-lines : record_lines kind (values_in kind left) ≡ text_of kind g ++ 13 ∷ record_lines kind (values_in kind right)
+  left-lines = ap (record_lines kind) (chunk-more c) ∙ lines_cons kind g (values_in kind right)
 
-  pub left-length : length (record_lines kind (values_in kind (drop at ws))) ≡ length (text_of kind g) + 1 + length (record_lines kind (values_in kind (drop (at + w) ws)))
-  left-length = ap (λ (vs : List (List ℕ)). length (record_lines kind vs)) (group-more kind ws at w g ew eg h) ∙ length-lines kind g (values_in kind (drop (at + w) ws))
+  pub left-length : length (record_lines kind (values_in kind left)) ≡ length (text_of kind g) + 1 + length (record_lines kind (values_in kind right))
+  left-length = ap (λ (vs : List (List ℕ)). length (record_lines kind vs)) (chunk-more c) ∙ length-lines kind g (values_in kind right)
 
-  both : all (fits kind) (values_in kind (drop at ws)) ≡ true → (fits kind g && all (fits kind) (values_in kind (drop (at + w) ws))) ≡ true
+  both : all (fits kind) (values_in kind left) ≡ true → (fits kind g && all (fits kind) (values_in kind right)) ≡ true
   unfolding all
-  both e = sym (ap (all (fits kind)) (group-more kind ws at w g ew eg h)) ∙ e
+  both e = sym (ap (all (fits kind)) (chunk-more c)) ∙ e
 
-  pub first_fits : all (fits kind) (values_in kind (drop at ws)) ≡ true → fits kind g ≡ true
-  first_fits e = and_left (fits kind g) (all (fits kind) (values_in kind (drop (at + w) ws))) (both e)
+  pub first_fits : all (fits kind) (values_in kind left) ≡ true → fits kind g ≡ true
+  first_fits e = and_left (fits kind g) (all (fits kind) (values_in kind right)) (both e)
 
-  pub left-fit : all (fits kind) (values_in kind (drop at ws)) ≡ true → all (fits kind) (values_in kind (drop (at + w) ws)) ≡ true
-  left-fit e = and_right (fits kind g) (all (fits kind) (values_in kind (drop (at + w) ws))) (both e)
+  pub left-fit : all (fits kind) (values_in kind left) ≡ true → all (fits kind) (values_in kind right) ≡ true
+  left-fit e = and_right (fits kind g) (all (fits kind) (values_in kind right)) (both e)
 
-pub left-none : (kind : FileKind) (ws : List ℕ) (at : ℕ) → length ws ≤ at → record_lines kind (values_in kind (drop at ws)) ≡ []
-left-none kind ws at h = ap (record_lines kind) (groups-end (width_of kind) ws at h) ∙ lines_none kind
+pub left-none : (kind : FileKind) (left : List ℕ) → length left ≡ 0 → record_lines kind (values_in kind left) ≡ []
+left-none kind left h = ap (record_lines kind) (groups_none (width_of kind) left (omega arith)) ∙ lines_none kind

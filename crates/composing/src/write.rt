@@ -1,5 +1,5 @@
 // Files of each kind, written from plain words into a lent buffer.
-ghost use Rattle.std.specs.Prelude.{◌≡◌, true, ◌+◌, ◌≤◌, length};
+ghost use Rattle.std.specs.Prelude.{◌≡◌, true, ◌+◌, ◌≤◌, length, take};
 ghost use Rattle.laws.specs.Lists.{all};
 ghost use Rattle.laws.specs.Overlay.{Laid};
 ghost use Rattle.records.specs.names.Written.{Wrote};
@@ -16,13 +16,10 @@ fn put_records(kind: FileKind, words: &[u64], out: &mut [u8]) -> usize
     ensures { Laid out.old 0 (record_lines kind (values_in kind words.now)) out.new result }
 {
     let w = records::words::width(kind);
-    let mut at: usize = 0;
     let mut to: usize = 0;
-    while at < words.len() {
-        let values = crate::measure::group(words, at, w);
+    for values in words.chunks(w) {
         let end = records::words::put(kind, values, out, to);
-        to = text::put_byte(out, end, 13);
-        at = at + w;
+        to = text::put_byte(out, end, b'\r');
     }
     to
 }
@@ -34,7 +31,7 @@ fn put_closed(kind: FileKind, words: &[u64], lines: u64, out: &mut [u8]) -> usiz
 {
     let at = put_records(kind, words, out);
     let end = records::closing::put(out, at, lines);
-    text::put_byte(out, end, 13)
+    text::put_byte(out, end, b'\r')
 }
 
 // A file with a closing record.
@@ -52,12 +49,19 @@ fn write_closed(kind: FileKind, words: &[u64], out: &mut [u8]) -> Result<usize, 
     Ok(put_closed(kind, words, lines, out))
 }
 
+// The first `w` words, or what is there.
+fn group(words: &[u64], w: usize) -> &[u64]
+    ensures { result.now ≡ take w words.now }
+{
+    &words[..w.min(words.len())]
+}
+
 // A file of one record, without a closing record.
 fn write_one(kind: FileKind, words: &[u64], out: &mut [u8]) -> Result<usize, NotWritten>
     ensures { Wrote (answer_to (held_one kind (values_in kind words.now)) (record_lines kind (values_in kind words.now)) (length out.old)) (record_lines kind (values_in kind words.now)) out.old out.new result }
 {
     let w = records::words::width(kind);
-    let values = crate::measure::group(words, 0, w);
+    let values = group(words, w);
     if !records::words::fits(kind, values) {
         return Err(NotWritten::Fault(0));
     }
