@@ -51,8 +51,6 @@ use Rattle.records.specs.names.Written.{Wrote}
 use Rattle.records.specs.Record.{text_of}
 use Rattle.files.specs.Judged.{judged_file, records_of}
 use Rattle.files.specs.Writing.{values_in, file_text, file_of, file_answer}
-use Rattle.files.specs.declared.values.ReportAt.{ReportAt}
-use Rattle.files.specs.declared.values.CorrectionAt.{CorrectionAt}
 use Rattle.files.specs.Values.{report_at, correction_at}
 use Rattle.files.proofs.FileTrip.{file-written}
 use Rattle.model.specs.Rules.{TableLine, Event}
@@ -156,11 +154,11 @@ written-reads-back-c kind words s = reads-back (kind_by kind) words (wrote-c s)
 
 -- record by record: the report that was given at a place is the one that is read there, and a correction likewise
 pub written-report-reads-back : (words : List ℕ) {before after : List ℕ} {n : ℕ} (k : ℕ) → Wrote (file_answer FileKind.Default words (length before)) (file_of FileKind.Default words) before after (Ok n)
-    → k < length (values_in FileKind.Default words) → (x : Report) → report_of_words (get_or (values_in FileKind.Default words) k []) ≡ Some x → report_at (take n after) k ≡ ReportAt.Report x
+    → k < length (values_in FileKind.Default words) → (x : Report) → report_of_words (get_or (values_in FileKind.Default words) k []) ≡ Some x → report_at (take n after) k ≡ Ok x
 written-report-reads-back words k s = report-back words k s
 
 pub written-correction-reads-back : (words : List ℕ) {before after : List ℕ} {n : ℕ} (k : ℕ) → Wrote (file_answer FileKind.Correction words (length before)) (file_of FileKind.Correction words) before after (Ok n)
-    → k < length (values_in FileKind.Correction words) → (x : Correction) → correction_of_words (get_or (values_in FileKind.Correction words) k []) ≡ Some x → correction_at (take n after) k ≡ CorrectionAt.Correction x
+    → k < length (values_in FileKind.Correction words) → (x : Correction) → correction_of_words (get_or (values_in FileKind.Correction words) k []) ≡ Some x → correction_at (take n after) k ≡ Ok x
 written-correction-reads-back words k s = correction-back words k s
 
 -- and a file that reads is exactly its records, each with its CR, and the closing record where its kind has one

@@ -22,10 +22,7 @@ use Rattle.records.specs.names.Written.{after_writing, Wrote}
 use Rattle.records.specs.Record.{text_of}
 use Rattle.files.specs.Judged.{judged_file, records_of}
 use Rattle.files.specs.Writing.{Holding, held, values_in, file_of, answer_to, file_answer}
-use Rattle.files.specs.declared.read.Found.{Found}
-use Rattle.files.specs.declared.values.ReportAt.{ReportAt}
-use Rattle.files.specs.declared.values.CorrectionAt.{CorrectionAt}
-use Rattle.files.specs.Values.{report_found, report_at, correction_found, correction_at}
+use Rattle.files.specs.Values.{value_found, report_at, correction_at}
 use Rattle.files.proofs.FileTrip.{words-read}
 use Rattle.files.proofs.ValueTrip.{report-kept, correction-kept}
 use Rattle.capi.specs.Writing.{Writes}
@@ -64,18 +61,18 @@ module _ (kind : FileKind) (words : List ℕ) {before after : List ℕ} {n : ℕ
 -- ---- value by value
 module _ (words : List ℕ) {before after : List ℕ} {n : ℕ} (k : ℕ) where
   pub report-back : Wrote (file_answer FileKind.Default words (length before)) (file_of FileKind.Default words) before after (Ok n) → k < length (values_in FileKind.Default words)
-      → (x : Report) → report_of_words (get_or (values_in FileKind.Default words) k []) ≡ Some x → report_at (take n after) k ≡ ReportAt.Report x
+      → (x : Report) → report_of_words (get_or (values_in FileKind.Default words) k []) ≡ Some x → report_at (take n after) k ≡ Ok x
   report-back s h x e =
       ap (λ (file : List ℕ). report_at file k) (front FileKind.Default words s)
       ∙ report-kept words (found FileKind.Default words s).0 k (found FileKind.Default words s).1 (inside FileKind.Default words s k h)
-      ∙ ap (report_found Found.Record) e
+      ∙ ap (value_found (Ok tt)) e
 
   pub correction-back : Wrote (file_answer FileKind.Correction words (length before)) (file_of FileKind.Correction words) before after (Ok n) → k < length (values_in FileKind.Correction words)
-      → (x : Correction) → correction_of_words (get_or (values_in FileKind.Correction words) k []) ≡ Some x → correction_at (take n after) k ≡ CorrectionAt.Correction x
+      → (x : Correction) → correction_of_words (get_or (values_in FileKind.Correction words) k []) ≡ Some x → correction_at (take n after) k ≡ Ok x
   correction-back s h x e =
       ap (λ (file : List ℕ). correction_at file k) (front FileKind.Correction words s)
       ∙ correction-kept words (found FileKind.Correction words s).0 k (found FileKind.Correction words s).1 (inside FileKind.Correction words s k h)
-      ∙ ap (correction_found Found.Record) e
+      ∙ ap (value_found (Ok tt)) e
 
 -- ---- for other languages
 pub wrote-c : {right : Result ℕ NotWritten} {text before after : List ℕ} {more : ℕ} → Writes right text before after 0 more → Wrote right text before after (Ok more)
