@@ -6,7 +6,7 @@ ghost use Rattle.records.specs.names.Written.{Wrote};
 
 use crate::closing::put_all;
 use crate::names::kind::FileKind;
-use crate::names::written::Written;
+use crate::names::written::NotWritten;
 use calendar::dates::{CalendarDays, Date};
 
 #[derive(Clone, Copy)]
@@ -76,16 +76,16 @@ impl Name {
 
     // The name into a lent buffer; 4 where its day is past the calendar's end.
     #[tactic(auto, using(crate::proofs::names::NameLaws::writes))]
-    pub fn write(self, out: &mut [u8]) -> Written
+    pub fn write(self, out: &mut [u8]) -> Result<usize, NotWritten>
         ensures { Wrote (name_answer self (length out.old)) (name_text self) out.old out.new result }
     {
         let Some(date) = calendar::dates::date_of(self.day) else {
-            return Written::Fault(0);
+            return Err(NotWritten::Fault(0));
         };
         if out.len() < 12 {
-            return Written::Long;
+            return Err(NotWritten::Long);
         }
         put(out, self.kind.letter(), six(date));
-        Written::Length(12)
+        Ok(12)
     }
 }
