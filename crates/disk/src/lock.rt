@@ -1,10 +1,15 @@
 // The lock: STORE/lock, with the number of the process that changes the store.
-use desk::{Failure, Host, place};
+ghost use Rattle.std.specs.Prelude.{◌≡◌, IfErr};
+ghost use Rattle.desk.specs.declared.failure.Failure.TheVariants.{Fault};
+
+use desk::{Ended, Failure, Host, place};
 use std::io::{Error, ErrorKind, Write};
 use words::{complain, failed};
 
 // There is a lock already, or it can't be made.
-fn refused(rt: &impl Host, folder: &[u8], error: Error) -> Failure {
+fn refused(rt: &impl Host, folder: &[u8], error: Error) -> Failure
+    ensures { result ≡ Fault }
+{
     if error.kind() == ErrorKind::AlreadyExists {
         return complain(
             rt,
@@ -24,7 +29,9 @@ fn sign<F: Write>(file: &mut F, process: u32) -> Result<(), Error> {
 }
 
 // Takes the lock; where it can't, the reason has been told.
-pub fn take(rt: &impl Host, folder: &[u8]) -> Result<(), Failure> {
+pub fn take(rt: &impl Host, folder: &[u8]) -> Ended
+    ensures { IfErr result (λ why. why ≡ Fault) }
+{
     let mut file = place::create(rt, folder, b"lock").map_err(|e| refused(rt, folder, e))?;
     sign(&mut file, rt.process_id()).map_err(|e| {
         failed(rt, folder, e);

@@ -1,10 +1,12 @@
 // Loading and saving.
+ghost use Rattle.std.specs.Prelude.{◌≡◌, IfErr};
+ghost use Rattle.desk.specs.declared.failure.Failure.TheVariants.{Fault};
 ghost use Rattle.disk.specs.Saved.{Loads};
 
 use crate::parts::{Damaged, HolidayList};
 use crate::{Books, parts};
 use desk::place::EILSEQ;
-use desk::{Failure, Host, place};
+use desk::{Ended, Failure, Host, place};
 use std::io::{Error, ErrorKind};
 use words::{complain, failed};
 
@@ -53,7 +55,9 @@ pub fn load(rt: &impl Host, folder: &[u8], books: &mut Books) -> Result<HolidayL
 }
 
 // The new file could not be made: the old one is as it was, and nothing is beside it.
-fn given_up(rt: &impl Host, folder: &[u8], error: Error) -> Failure {
+fn given_up(rt: &impl Host, folder: &[u8], error: Error) -> Failure
+    ensures { result ≡ Fault }
+{
     failed(rt, folder, error);
     let _ = place::unlink(rt, folder, b"store.new");
     complain(rt, folder, b"the store can't be written, and is as it was")
@@ -66,7 +70,9 @@ fn write_new(rt: &impl Host, folder: &[u8], books: &Books) -> Result<(), Error> 
 }
 
 // Writes the store beside the old one, and has it take the old one's name. Where it is not on the device, the reason has been told.
-pub fn save(rt: &impl Host, folder: &[u8], books: &Books) -> Result<(), Failure> {
+pub fn save(rt: &impl Host, folder: &[u8], books: &Books) -> Ended
+    ensures { IfErr result (λ why. why ≡ Fault) }
+{
     // one that a process left that was killed
     let _ = place::unlink(rt, folder, b"store.new");
     write_new(rt, folder, books).map_err(|e| given_up(rt, folder, e))?;
