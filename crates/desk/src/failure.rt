@@ -1,4 +1,4 @@
-// Why a command did not do all that it was asked for.
+// How a command ended.
 #[derive(Clone, Copy, PartialEq, Eq)]
 pub enum Failure {
     // something was refused
@@ -6,3 +6,6 @@ pub enum Failure {
     // the command line, a file or the system is at fault
     Fault,
 }
+
+// All was done, or why not.
+pub type Ended = Result<(), Failure>;
