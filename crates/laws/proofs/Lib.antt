@@ -21,3 +21,4 @@ pub mod Split
 pub mod Ended
 pub mod Chains
 pub mod Sorting
+pub mod FirstLine

@@ -1,2 +1,1 @@
 pub mod Corrections
-pub mod Code

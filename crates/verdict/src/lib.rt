@@ -7,4 +7,5 @@ pub mod effects;
 pub mod report_rules;
 pub mod report_tests;
 pub mod step;
+mod table;
 pub mod verdicts;

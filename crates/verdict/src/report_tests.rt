@@ -18,38 +18,29 @@ pub const RETURN_PERIOD: WorkingDays = WorkingDays(5);
 pub fn to_other(owner: Code, r: Report) -> bool
     ensures { result ≡ to_other owner r }
 {
-    let k = r.kind;
-    match k {
-        Kind::P => false,
-        Kind::L => false,
-        Kind::Z => r.gaining.0 != owner.0,
+    match r.kind {
+        Kind::P | Kind::L => false,
+        Kind::Z => r.gaining != owner,
     }
 }
 
 pub fn before_last(date: CalendarDays, last: Option<CalendarDays>) -> bool
     ensures { result ≡ before_last date last }
 {
-    match last {
-        None => false,
-        Some(l) => date.0 < l.0,
-    }
+    last.is_some_and(|l| date.0 < l.0)
 }
 
 pub fn equals_last(date: CalendarDays, last: Option<CalendarDays>) -> bool
     ensures { result ≡ equals_last date last }
 {
-    match last {
-        None => false,
-        Some(l) => date.0 == l.0,
-    }
+    last == Some(date)
 }
 
 // P with a matching open L, or L with a matching open P.
 pub fn partner_open(places: [Place; PLACES], r: Report) -> bool
     ensures { result ≡ partner_open r places }
 {
-    let k = r.kind;
-    match k {
+    match r.kind {
         Kind::P => entries::places::is_open(places, Kind::L, r),
         Kind::L => entries::places::is_open(places, Kind::P, r),
         Kind::Z => false,
@@ -60,11 +51,9 @@ pub fn partner_open(places: [Place; PLACES], r: Report) -> bool
 pub fn zed_open(places: [Place; PLACES], r: Report) -> bool
     ensures { result ≡ zed_open r places }
 {
-    let k = r.kind;
-    match k {
+    match r.kind {
         Kind::P => entries::places::is_open(places, Kind::Z, r),
-        Kind::L => false,
-        Kind::Z => false,
+        Kind::L | Kind::Z => false,
     }
 }
 
@@ -72,18 +61,14 @@ pub fn zed_open(places: [Place; PLACES], r: Report) -> bool
 fn not_yet(day: CalendarDays, earliest: Option<CalendarDays>) -> bool
     ensures { result ≡ not_yet day earliest }
 {
-    match earliest {
-        Some(d) => day.0 < d.0,
-        None => true,
-    }
+    earliest.is_none_or(|d| day.0 < d.0)
 }
 
 // The publication day of the matching open Z.
 fn zed_day(places: [Place; PLACES], r: Report) -> CalendarDays
     ensures { result ≡ zed_day r places }
 {
-    let z = entries::places::place_at(places, entries::places::place_of(places, Kind::Z, r));
-    z.day
+    entries::places::place_at(places, entries::places::place_of(places, Kind::Z, r)).day
 }
 
 // The day from which on a P may answer a Z that was published on this one.

@@ -12,7 +12,7 @@ use entries::{entry, report};
 use fields::code::Code;
 
 // What a record says: a report, an objection, or any other correction.
-#[derive(Clone, Copy)]
+#[derive(Clone, Copy, PartialEq, Eq)]
 pub enum Says {
     Reported(Published),
     Objected(Objection),
@@ -20,7 +20,7 @@ pub enum Says {
 }
 
 // A record that names the number: its publisher, its publication day, its place in its file, and what it says.
-#[derive(Clone, Copy)]
+#[derive(Clone, Copy, PartialEq, Eq)]
 pub struct Record {
     pub publisher: Code,
     pub day: CalendarDays,
@@ -29,21 +29,21 @@ pub struct Record {
 }
 
 // What a record comes to: its verdict and the next entry.
-#[derive(Drop)]
+#[derive(Clone, Copy, PartialEq, Eq)]
 pub struct Outcome {
     pub verdict: Verdict,
     pub entry: Entry,
 }
 
 // Why the holder is who it is: the two reports that confirmed last, the one processed first coming first, or nothing yet.
-#[derive(Clone, Copy)]
+#[derive(Clone, Copy, PartialEq, Eq)]
 pub enum Why {
     Nothing,
     Pair(Place, Place),
 }
 
 // Where a number stands: its entry, and why.
-#[derive(Drop)]
+#[derive(Clone, Copy, PartialEq, Eq)]
 pub struct Standing {
     pub entry: Entry,
     pub why: Why,
@@ -53,11 +53,10 @@ pub struct Standing {
 fn placed(rec: Record, r: Report) -> Place
     ensures { result ≡ placed_as rec r }
 {
-    let day = rec.day;
     Place {
         taken: true,
         report: r,
-        day: day,
+        day: rec.day,
         at: rec.at,
     }
 }
@@ -66,8 +65,7 @@ fn placed(rec: Record, r: Report) -> Place
 pub fn verdict(n: Option<Line>, e: Entry, rec: Record) -> Verdict
     ensures { result ≡ verdict_on n e rec }
 {
-    let says = rec.says;
-    match says {
+    match rec.says {
         Says::Reported(p) => {
             let line = entry::line_in(n);
             let r = report::meant(line.owner, p);
@@ -82,16 +80,12 @@ pub fn verdict(n: Option<Line>, e: Entry, rec: Record) -> Verdict
 pub fn effect(d: Doing, line: Line, e: Entry, rec: Record) -> Entry
     ensures { result ≡ effect_on d line e rec }
 {
-    let says = rec.says;
-    match says {
+    match rec.says {
         Says::Reported(p) => {
             let r = report::meant(line.owner, p);
             crate::effects::reports::effect(d, e, placed(rec, r))
         }
-        Says::Objected(o) => {
-            let named = o.named;
-            crate::effects::corrections::effect(d, e, line.owner, named)
-        }
+        Says::Objected(o) => crate::effects::corrections::effect(d, e, line.owner, o.named),
         Says::Other => e,
     }
 }
@@ -101,10 +95,9 @@ pub fn step(line: Line, e: Entry, rec: Record) -> Outcome
     ensures { result ≡ step_on line e rec }
 {
     let v = verdict(Some(line), e, rec);
-    let next = effect(verdicts::does(v), line, e, rec);
     Outcome {
         verdict: v,
-        entry: next,
+        entry: effect(verdicts::does(v), line, e, rec),
     }
 }
 
@@ -125,9 +118,7 @@ fn pair_after(d: Doing, places: [Place; PLACES], second: Place, before: Why) -> 
 {
     match d {
         Doing::Confirms => paired(places, second),
-        Doing::Keeps => before,
-        Doing::Lapses => before,
-        Doing::Nothing => before,
+        Doing::Keeps | Doing::Lapses | Doing::Nothing => before,
     }
 }
 
@@ -135,14 +126,12 @@ fn pair_after(d: Doing, places: [Place; PLACES], second: Place, before: Why) -> 
 pub fn why_after(d: Doing, owner: Code, places: [Place; PLACES], before: Why, rec: Record) -> Why
     ensures { result ≡ why_by d owner places before rec rec.says }
 {
-    let says = rec.says;
-    match says {
+    match rec.says {
         Says::Reported(p) => {
             let r = report::meant(owner, p);
             pair_after(d, places, placed(rec, r), before)
         }
-        Says::Objected(_) => before,
-        Says::Other => before,
+        Says::Objected(_) | Says::Other => before,
     }
 }
 
@@ -150,9 +139,8 @@ pub fn why_after(d: Doing, owner: Code, places: [Place; PLACES], before: Why, re
 pub fn first(line: Line) -> Standing
     ensures { result ≡ first_standing line }
 {
-    let e = entry::first(line);
     Standing {
-        entry: e,
+        entry: entry::first(line),
         why: Why::Nothing,
     }
 }
@@ -161,15 +149,11 @@ pub fn first(line: Line) -> Standing
 pub fn stand(line: Line, s: Standing, rec: Record) -> Standing
     ensures { result ≡ stand_on line s rec }
 {
-    let e = s.entry;
-    let o = step(line, e, rec);
-    let v = o.verdict;
-    let next = o.entry;
-    let before = s.why;
-    let places = e.places;
-    let w = why_after(verdicts::does(v), line.owner, places, before, rec);
+    let places = s.entry.places;
+    let o = step(line, s.entry, rec);
+    let why = why_after(verdicts::does(o.verdict), line.owner, places, s.why, rec);
     Standing {
-        entry: next,
-        why: w,
+        entry: o.entry,
+        why,
     }
 }

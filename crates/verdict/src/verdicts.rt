@@ -4,56 +4,37 @@ ghost use Rattle.verdict.specs.verdicts.Numbers.{number_of};
 ghost use Rattle.verdict.specs.verdicts.Does.{does_by};
 
 // What a report or a correction gets.
-#[derive(Clone, Copy)]
+#[derive(Clone, Copy, PartialEq, Eq)]
 pub enum Verdict {
-    Kept,
-    Confirmed,
-    UnknownNumber,
-    WrongPublisher,
-    SameNetworks,
-    NotBeforePublication,
-    BeforeSetUp,
-    BeforeLast,
-    EqualsLast,
-    NotToOwner,
-    AlreadyOpen,
-    TooSoon,
-    Full,
-    Lapses,
-    NotPermitted,
-    OwnReport,
-    NotOpen,
-    OtherCode,
+    Kept = 10,
+    Confirmed = 11,
+    UnknownNumber = 12,
+    WrongPublisher = 13,
+    SameNetworks = 14,
+    NotBeforePublication = 15,
+    BeforeSetUp = 16,
+    BeforeLast = 17,
+    EqualsLast = 18,
+    NotToOwner = 19,
+    AlreadyOpen = 20,
+    TooSoon = 21,
+    Full = 22,
+    Lapses = 30,
+    NotPermitted = 31,
+    OwnReport = 32,
+    NotOpen = 33,
+    OtherCode = 34,
 }
 
 // A verdict's number in paper 01.
 pub fn number(v: Verdict) -> u8
     ensures { result ≡ number_of v }
 {
-    match v {
-        Verdict::Kept => 10,
-        Verdict::Confirmed => 11,
-        Verdict::UnknownNumber => 12,
-        Verdict::WrongPublisher => 13,
-        Verdict::SameNetworks => 14,
-        Verdict::NotBeforePublication => 15,
-        Verdict::BeforeSetUp => 16,
-        Verdict::BeforeLast => 17,
-        Verdict::EqualsLast => 18,
-        Verdict::NotToOwner => 19,
-        Verdict::AlreadyOpen => 20,
-        Verdict::TooSoon => 21,
-        Verdict::Full => 22,
-        Verdict::Lapses => 30,
-        Verdict::NotPermitted => 31,
-        Verdict::OwnReport => 32,
-        Verdict::NotOpen => 33,
-        Verdict::OtherCode => 34,
-    }
+    v as u8
 }
 
 // What a verdict does: the report is kept open, or confirmed; the named report lapses; nothing changes.
-#[derive(Drop)]
+#[derive(Clone, Copy, PartialEq, Eq)]
 pub enum Doing {
     Keeps,
     Confirms,
@@ -61,19 +42,14 @@ pub enum Doing {
     Nothing,
 }
 
-// What a verdict does, by its number.
+// What a verdict does.
 pub fn does(v: Verdict) -> Doing
     ensures { result ≡ does_by v }
 {
-    let n = number(v);
-    if n == 10 {
-        return Doing::Keeps;
+    match v {
+        Verdict::Kept => Doing::Keeps,
+        Verdict::Confirmed => Doing::Confirms,
+        Verdict::Lapses => Doing::Lapses,
+        _ => Doing::Nothing,
     }
-    if n == 11 {
-        return Doing::Confirms;
-    }
-    if n == 30 {
-        return Doing::Lapses;
-    }
-    Doing::Nothing
 }

@@ -12,23 +12,16 @@ use fields::code::Code;
 fn named_at(owner: Code, named: Published, places: [Place; PLACES]) -> usize
     ensures { result ≡ named_at owner named places }
 {
-    let r = report::meant(owner, named);
-    let k = named.kind;
-    entries::places::place_of(places, k, r)
+    entries::places::place_of(places, named.kind, report::meant(owner, named))
 }
 
 // The named report lapses.
 fn without_named(e: Entry, owner: Code, named: Published) -> Entry
     ensures { result ≡ without_named e owner named }
 {
-    let places = e.places;
-    let holder = e.holder;
-    let last = e.last;
-    let left = entries::places::freed(places, named_at(owner, named, places));
     Entry {
-        holder: holder,
-        last: last,
-        places: left,
+        places: entries::places::freed(e.places, named_at(owner, named, e.places)),
+        ..e
     }
 }
 
@@ -38,8 +31,6 @@ pub fn effect(d: Doing, e: Entry, owner: Code, named: Published) -> Entry
 {
     match d {
         Doing::Lapses => without_named(e, owner, named),
-        Doing::Keeps => e,
-        Doing::Confirms => e,
-        Doing::Nothing => e,
+        Doing::Keeps | Doing::Confirms | Doing::Nothing => e,
     }
 }

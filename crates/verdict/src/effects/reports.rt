@@ -11,14 +11,9 @@ use fields::kind::Kind;
 fn keep(e: Entry, p: Place) -> Entry
     ensures { result ≡ kept e p }
 {
-    let holder = e.holder;
-    let last = e.last;
-    let before = e.places;
-    let after = entries::places::keep(before, p);
     Entry {
-        holder: holder,
-        last: last,
-        places: after,
+        places: entries::places::keep(e.places, p),
+        ..e
     }
 }
 
@@ -26,14 +21,10 @@ fn keep(e: Entry, p: Place) -> Entry
 fn confirm(e: Entry, r: Report) -> Entry
     ensures { result ≡ confirmed e r }
 {
-    let holder = r.gaining;
-    let date = r.date;
-    let before = e.places;
-    let after = entries::places::lapse_all(before, date);
     Entry {
-        holder: holder,
-        last: Some(date),
-        places: after,
+        holder: r.gaining,
+        last: Some(r.date),
+        places: entries::places::lapse_all(e.places, r.date),
     }
 }
 
@@ -44,8 +35,7 @@ pub fn effect(d: Doing, e: Entry, p: Place) -> Entry
     match d {
         Doing::Keeps => keep(e, p),
         Doing::Confirms => confirm(e, p.report),
-        Doing::Lapses => e,
-        Doing::Nothing => e,
+        Doing::Lapses | Doing::Nothing => e,
     }
 }
 
@@ -53,8 +43,7 @@ pub fn effect(d: Doing, e: Entry, p: Place) -> Entry
 pub fn partner_at(places: [Place; PLACES], r: Report) -> usize
     ensures { result ≡ partner_at r places }
 {
-    let k = r.kind;
-    match k {
+    match r.kind {
         Kind::P => {
             if entries::places::is_open(places, Kind::L, r) {
                 return entries::places::place_of(places, Kind::L, r);

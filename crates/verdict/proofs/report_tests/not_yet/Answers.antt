@@ -1,5 +1,0 @@
--- `verdict::report_tests::not_yet` meets its contract: the arm's equation and computation. Assumes nothing.
-use Rattle.verdict.proofs.report_tests.not_yet.Goals as goal
-
-pub returns-in-Some : goal.returns-in-Some
-returns-in-Some c = cc

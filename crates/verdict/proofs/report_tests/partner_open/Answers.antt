@@ -1,8 +1,0 @@
--- `verdict::report_tests::partner_open` meets its contract: each arm rewrites with the kind that it knows. Assumes nothing.
-use Rattle.verdict.proofs.report_tests.partner_open.Goals as goal
-
-pub returns-in-P : goal.returns-in-P
-returns-in-P c = rw (c.is_open.ensures, c.in-P.is)
-
-pub returns-in-L : goal.returns-in-L
-returns-in-L c = rw (c.is_open-in-L.ensures, c.in-L.is)
