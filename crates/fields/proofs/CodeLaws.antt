@@ -8,7 +8,7 @@ use mathlib.Core.List.{List, [], ◌∷◌}
 use lib.Dec.{eqb}
 use lib.ListN.{length, get_or, take, drop, length-drop}
 use lib.Seq.{take_all}
-use borrow.Author.Tests.{eq-eqb, ne_eqb, eqb-true, leb-true, le-leb}
+use borrow.Author.Tests.{eq-eqb, eqb-true, leb-true, le-leb}
 use Rattle.laws.specs.Digits.{digits}
 use Rattle.laws.proofs.Digits.{length_digits}
 use Rattle.text.specs.Spelt.{digits_of}
@@ -20,14 +20,6 @@ use Rattle.fields.proofs.ByteLaws.{bytes-code}
 use Rattle.fields.proofs.FieldLaws.{maybe_trips}
 
 module _ (f : List ℕ) where
-  pub code-length : (length f ≡ 4 → ⊥) → code_of f ≡ None
-  unfolding code_of
-  code-length n = rw (ne_eqb (length f) 4 n)
-
-  pub code-letter : length f ≡ 4 → (get_or f 0 0 ≡ 68 → ⊥) → code_of f ≡ None
-  unfolding code_of
-  code-letter e n = rw (eq-eqb (length f) 4 e, ne_eqb (get_or f 0 0) 68 n)
-
   code-rest : length f ≡ 4 → get_or f 0 0 ≡ 68 → code_of f ≡ code_from (digits_of false (drop 1 f))
   unfolding code_of
   code-rest e d = rw (eq-eqb (length f) 4 e, eq-eqb (get_or f 0 0) 68 d)
@@ -35,10 +27,6 @@ module _ (f : List ℕ) where
 -- `&f[k..]`
 rest : (k : ℕ) (f : List ℕ) → take (length f - k) (drop k f) ≡ drop k f
 rest k f = take_all (length f - k) (drop k f) (simp length-drop (omega arith))
-
--- what `read` makes of the answer of `read_digits`
-pub code_read : (f : List ℕ) (r : Option ℕ) → length f ≡ 4 → get_or f 0 0 ≡ 68 → r ≡ digits_of false (take (length f - 1) (drop 1 f)) → code_of f ≡ code_from r
-code_read f r e d p = code-rest f e d ∙ ap code_from (ap (digits_of false) (sym (rest 1 f)) ∙ sym p)
 
 pub three-below : (f : List ℕ) (v : ℕ) → length f ≡ 4 → digits_of false (take (length f - 1) (drop 1 f)) ≡ Some v → v < 1000
 three-below f v e d = (fixed_back 3 (drop 1 f) v (simp length-drop (omega arith)) (rw rest at d)).1

@@ -6,24 +6,23 @@ use Rattle.std.specs.Prelude.{Option, Some, None}
 use Prim.Native.Nat.{ℕ, ◌+◌, ◌≤◌}
 use native.Mathlib.Omega.{arith}
 use mathlib.Core.Path.{◌≡◌, sym, ap, ◌∙◌}
-use mathlib.Core.Bool.{true, false}
 use mathlib.Core.List.{List, [], ◌∷◌, ◌++◌, append_assoc}
-use lib.ListN.{length, get_or, length-append}
-use borrow.Author.Tests.{eq-eqb, ne_eqb}
+use lib.ListN.{length, length-append}
+use borrow.Author.Tests.{ne_eqb}
 use Rattle.laws.proofs.Digits.{size-le}
 use Rattle.laws.proofs.Overlay.{Room}
 use Rattle.fields.specs.declared.number.Digits.{Digits}
 use Rattle.fields.specs.declared.number.Number.{Number}
-use Rattle.fields.specs.Code.{maybe_code_of, maybe_code_of_word, maybe_code_text}
-use Rattle.fields.specs.Date.{maybe_date_of, maybe_date_of_word, maybe_date_text}
-use Rattle.fields.specs.Kind.{maybe_kind_of, maybe_kind_of_word, maybe_kind_text}
-use Rattle.fields.specs.Number.{digits_field_of, digits_text, digits_size, number_of, number_fits}
+use Rattle.fields.specs.Code.{maybe_code_of, maybe_code_text}
+use Rattle.fields.specs.Date.{maybe_date_of, maybe_date_text}
+use Rattle.fields.specs.Kind.{maybe_kind_of, maybe_kind_text}
+use Rattle.fields.specs.Number.{digits_field_of, digits_text, digits_size, number_of}
 use Rattle.fields.proofs.CodeLaws.{length-code}
 use Rattle.fields.proofs.DateLaws.{length-date}
 use Rattle.fields.proofs.KindLaws.{length-kind}
 use Rattle.fields.proofs.NumberLaws.{length-field}
 use Rattle.layout.specs.declared.part.Part.{Part}
-use Rattle.layout.specs.Part.{six_of, rest_of_words, number_of_words, part_of_words, part_text}
+use Rattle.layout.specs.Part.{six_of, part_of_words, part_text}
 use Rattle.layout.specs.Putting.{followed, number_followed, networks_followed}
 
 -- ---- six fields that have their values
@@ -35,43 +34,9 @@ module _ (a b c d e f : List ℕ) {first : Digits} {number : Number} {date : Opt
   six-known p₁ p₂ p₃ p₄ p₅ p₆ = rw (p₁, p₂, p₃, p₄, p₅, p₆)
 
 -- ---- which way the words go
-module _ (w : List ℕ) where
-  pub words_count : (length w ≡ 6 → ⊥) → part_of_words w ≡ None
-  unfolding part_of_words
-  words_count n = rw (ne_eqb (length w) 6 n)
-
-  module _ (l : length w ≡ 6) where
-    pub words-number : number_fits (number_of_words w) ≡ false → part_of_words w ≡ None
-    unfolding part_of_words
-    words-number p = rw (eq-eqb (length w) 6 l, p)
-
-    pub words-rest : number_fits (number_of_words w) ≡ true → part_of_words w ≡ rest_of_words (number_of_words w) (get_or w 2 0) (get_or w 3 0) (get_or w 4 0) (get_or w 5 0)
-    unfolding part_of_words
-    words-rest p = rw (eq-eqb (length w) 6 l, p)
-
-module _ (number : Number) (c d e f : ℕ) where
-  pub rest-1 : maybe_date_of_word c ≡ None → rest_of_words number c d e f ≡ None
-  unfolding rest_of_words
-  rest-1 p₁ = rw p₁
-
-  module _ {date : Option CalendarDays} (p₁ : maybe_date_of_word c ≡ Some date) where
-    pub rest-2 : maybe_code_of_word d ≡ None → rest_of_words number c d e f ≡ None
-    unfolding rest_of_words
-    rest-2 p₂ = rw (p₁, p₂)
-
-    module _ {gaining : Option Code} (p₂ : maybe_code_of_word d ≡ Some gaining) where
-      pub rest-3 : maybe_code_of_word e ≡ None → rest_of_words number c d e f ≡ None
-      unfolding rest_of_words
-      rest-3 p₃ = rw (p₁, p₂, p₃)
-
-      module _ {losing : Option Code} (p₃ : maybe_code_of_word e ≡ Some losing) where
-        pub rest-4 : maybe_kind_of_word f ≡ None → rest_of_words number c d e f ≡ None
-        unfolding rest_of_words
-        rest-4 p₄ = rw (p₁, p₂, p₃, p₄)
-
-        pub rest-5 : {kind : Option Kind} → maybe_kind_of_word f ≡ Some kind → rest_of_words number c d e f ≡ Some (record { number = number; date = date; gaining = gaining; losing = losing; kind = kind })
-        unfolding rest_of_words
-        rest-5 p₄ = rw (p₁, p₂, p₃, p₄)
+pub words_count : (w : List ℕ) → (length w ≡ 6 → ⊥) → part_of_words w ≡ None
+unfolding part_of_words
+words_count w n = rw (ne_eqb (length w) 6 n)
 
 -- ---- the text as the calls of `write` lay it: fields with the comma behind each
 followed-on : (field rest : List ℕ) → followed field ++ rest ≡ field ++ (44 ∷ rest)
