@@ -157,3 +157,6 @@ module _ {k a b x y n : ℕ} (t : Turn k a b x y n) where
           nines = more-nines;
           nothing = any_next (decade_by (digits k a) (digits k b)) n suc t.nothing (here ∙ p);
         }
+
+-- what the loop needs
+pub ruleset turns = (turn-first, turn_end, turn-no-zero, turn-no-nine, turn-found, turn_on)

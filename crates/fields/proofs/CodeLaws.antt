@@ -14,7 +14,10 @@ use Rattle.laws.proofs.Digits.{length_digits}
 use Rattle.text.specs.Spelt.{digits_of}
 use Rattle.text.proofs.Spelling.{fixed-trip, fixed_back}
 use Rattle.fields.specs.declared.code.Code.{Code}
-use Rattle.fields.specs.Code.{code_from, code_of, code_fits, code_text, maybe_code_from, maybe_code_of, maybe_code_fits, maybe_code_text}
+use Rattle.fields.specs.Field.{Trips, IsFixed}
+use Rattle.fields.specs.Code.{code_from, code_of, code_fits, code_text, maybe_code_of, maybe_code_fits, maybe_code_text}
+use Rattle.fields.proofs.ByteLaws.{bytes-code}
+use Rattle.fields.proofs.FieldLaws.{maybe_trips}
 
 module _ (f : List ℕ) where
   pub code-length : (length f ≡ 4 → ⊥) → code_of f ≡ None
@@ -71,20 +74,14 @@ code-back f c h = go f (eqb (length f) 4) (eqb (get_or f 0 0) 68) refl refl (dig
     go f false t p q v r e = absurd (let z : ◌≡◌ {A = ℕ} 0 1 = cc in omega arith)
 
 -- ---- a field that may be empty
+pub codes : Trips code_of code_fits code_text
+codes = record { trip = code-trip; back = code-back }
+
+pub code-fixed : IsFixed 4 code_text
+code-fixed = record { some = omega arith; size = length-code; bytes = bytes-code }
+
 pub maybe-code-trip : (c : Option Code) → maybe_code_fits c ≡ true → maybe_code_of (maybe_code_text c) ≡ Some c
-unfolding maybe_code_of maybe_code_from
-maybe-code-trip (Some c) h = rw (length-code c) (ap maybe_code_from (code-trip c h))
-maybe-code-trip None h = refl
+maybe-code-trip = (maybe_trips codes code-fixed).trip
 
 pub maybe-code-back : (f : List ℕ) (c : Option Code) → maybe_code_of f ≡ Some c → (maybe_code_text c ≡ f) × (maybe_code_fits c ≡ true)
-unfolding maybe_code_of maybe_code_from
-maybe-code-back [] c h =
-    let e : None ≡ c = cc in
-    (rw (← e), rw (← e))
-maybe-code-back (b ∷ f) c h = go (code_of (b ∷ f)) refl (rw (ne_eqb (length (b ∷ f)) 0 (λ z. omega arith)) at h)
-  where
-    go : (r : Option Code) → code_of (b ∷ f) ≡ r → maybe_code_from r ≡ Some c → (maybe_code_text c ≡ b ∷ f) × (maybe_code_fits c ≡ true)
-    go (Some x) q e =
-        let w : Some x ≡ c = cc in
-        rw (← w) (code-back (b ∷ f) x q)
-    go None q e = absurd (let z : ◌≡◌ {A = ℕ} 0 1 = cc in omega arith)
+maybe-code-back = (maybe_trips codes code-fixed).back

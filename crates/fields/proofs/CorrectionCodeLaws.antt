@@ -12,6 +12,7 @@ use Rattle.laws.proofs.Digits.{length_digits}
 use Rattle.text.specs.Spelt.{digits_of}
 use Rattle.text.proofs.Spelling.{fixed-trip, fixed_back}
 use Rattle.fields.specs.declared.correction_code.CorrectionCode.{CorrectionCode}
+use Rattle.fields.specs.Field.{Trips}
 use Rattle.fields.specs.CorrectionCode.{correction_code_from, correction_code_of, correction_code_fits, correction_code_text}
 
 -- what was written is read back
@@ -33,3 +34,6 @@ correction-code-back f c h = go (eqb (length f) 4) refl (digits_of false f) refl
         (rw (← whole) w.0, rw (← whole) (le-leb x 9999 (omega (arith, w.1))))
     go true p None q e = absurd (let z : ◌≡◌ {A = ℕ} 0 1 = cc in omega arith)
     go false p v q e = absurd (let z : ◌≡◌ {A = ℕ} 0 1 = cc in omega arith)
+
+pub correction-codes : Trips correction_code_of correction_code_fits correction_code_text
+correction-codes = record { trip = correction-code-trip; back = correction-code-back }

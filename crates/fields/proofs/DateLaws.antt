@@ -4,10 +4,10 @@ use Prim.Native.Nat.{ℕ, ◌+◌, ◌-◌, ◌*◌, ◌/◌, ◌%◌, ◌^◌, 
 use native.Mathlib.Omega.{arith}
 use mathlib.Core.Path.{◌≡◌, refl, ap, ◌∙◌}
 use mathlib.Core.Bool.{Bool, true, false, cond}
-use mathlib.Core.List.{List, [], ◌∷◌}
+use mathlib.Core.List.{List}
 use lib.Dec.{eqb, leb}
 use lib.ListN.{length}
-use borrow.Author.Tests.{eqb-true, ne_eqb, leb-true}
+use borrow.Author.Tests.{eqb-true, leb-true}
 use Rattle.laws.specs.Digits.{digits}
 use mathlib.Core.Logic.{⊎_elim}
 use Rattle.laws.proofs.Tests.{and_left, and_right, le-or-lt}
@@ -20,7 +20,10 @@ use Rattle.calendar.specs.Dates.{in_calendar, valid, month_days, day_number, yea
 use Rattle.calendar.specs.Answers.{day_of, date_in, date_of}
 use Rattle.calendar.proofs.DateLaws.{month_days-none, month_days-le}
 use Rattle.calendar.proofs.Dating.{date-back, day-back}
-use Rattle.fields.specs.Date.{date_spelt, date_found, date_from, date_field_of, date_fits, spelling, date_text, maybe_date_from, maybe_date_of, maybe_date_fits, maybe_date_text}
+use Rattle.fields.specs.Date.{date_spelt, date_found, date_from, date_field_of, date_fits, spelling, date_text, maybe_date_of, maybe_date_fits, maybe_date_text}
+use Rattle.fields.specs.Field.{Trips, IsFixed}
+use Rattle.fields.proofs.ByteLaws.{bytes-date}
+use Rattle.fields.proofs.FieldLaws.{maybe_trips}
 
 -- ---- a date of the calendar has two digits for the day, two for the month and four for the year
 valid-small : (y m d : ℕ) → valid y m d ≡ true → (y < 10000) × (m < 100) × (d < 100)
@@ -102,20 +105,14 @@ date-field-back f d h = go (eqb (length f) 8) refl (digits_of false f) refl h
 pub length-date : (d : CalendarDays) → length (date_text d) ≡ 8
 length-date d = length_digits 8 (spelling (date_of d.0))
 
+pub dates : Trips date_field_of date_fits date_text
+dates = record { trip = date-trip; back = date-field-back }
+
+pub date-fixed : IsFixed 8 date_text
+date-fixed = record { some = omega arith; size = length-date; bytes = bytes-date }
+
 pub maybe-date-trip : (d : Option CalendarDays) → maybe_date_fits d ≡ true → maybe_date_of (maybe_date_text d) ≡ Some d
-unfolding maybe_date_of maybe_date_from
-maybe-date-trip (Some d) h = rw (length-date d) (ap maybe_date_from (date-trip d h))
-maybe-date-trip None h = refl
+maybe-date-trip = (maybe_trips dates date-fixed).trip
 
 pub maybe-date-back : (f : List ℕ) (d : Option CalendarDays) → maybe_date_of f ≡ Some d → (maybe_date_text d ≡ f) × (maybe_date_fits d ≡ true)
-unfolding maybe_date_of maybe_date_from
-maybe-date-back [] d h =
-    let e : None ≡ d = cc in
-    (rw (← e), rw (← e))
-maybe-date-back (b ∷ f) d h = go (date_field_of (b ∷ f)) refl (rw (ne_eqb (length (b ∷ f)) 0 (λ z. omega arith)) at h)
-  where
-    go : (r : Option CalendarDays) → date_field_of (b ∷ f) ≡ r → maybe_date_from r ≡ Some d → (maybe_date_text d ≡ b ∷ f) × (maybe_date_fits d ≡ true)
-    go (Some x) q e =
-        let w : Some x ≡ d = cc in
-        rw (← w) (date-field-back (b ∷ f) x q)
-    go None q e = absurd (let z : ◌≡◌ {A = ℕ} 0 1 = cc in omega arith)
+maybe-date-back = (maybe_trips dates date-fixed).back

@@ -10,7 +10,10 @@ use lib.ListN.{length}
 use borrow.Author.Tests.{eqb-true, ne_eqb}
 use Rattle.fields.specs.declared.kind.Kind.{Kind}
 use Rattle.fields.specs.declared.kind.Kind.TheVariants.{P, L, Z}
-use Rattle.fields.specs.Kind.{kind_by, kind_of, kind_text, maybe_kind_from, maybe_kind_of, maybe_kind_text}
+use Rattle.fields.specs.Kind.{kind_by, kind_of, kind_fits, kind_text, maybe_kind_of, maybe_kind_text}
+use Rattle.fields.specs.Field.{Trips, IsFixed, maybe_fits}
+use Rattle.fields.proofs.ByteLaws.{bytes-kind}
+use Rattle.fields.proofs.FieldLaws.{maybe_trips}
 
 pub length-kind : (k : Kind) → length (kind_text k) ≡ 1
 length-kind P = refl
@@ -51,21 +54,19 @@ kind-back (b ∷ b' ∷ f) k e =
     let w : None ≡ Some k = rw (ne_eqb (length (b ∷ b' ∷ f)) 1 (λ h. omega arith)) at e in
     absurd (let z : ◌≡◌ {A = ℕ} 0 1 = cc in omega arith)
 
--- ---- a field that may be empty
+-- ---- every kind can be written; a field that may be empty
+pub kind-always : (k : Option Kind) → maybe_fits kind_fits k ≡ true
+kind-always (Some k) = refl
+kind-always None = refl
+
+pub kinds : Trips kind_of kind_fits kind_text
+kinds = record { trip = λ k h. kind-trip k; back = λ f k e. (kind-back f k e, refl) }
+
+pub kind-fixed : IsFixed 1 kind_text
+kind-fixed = record { some = omega arith; size = length-kind; bytes = bytes-kind }
+
 pub maybe-kind-trip : (k : Option Kind) → maybe_kind_of (maybe_kind_text k) ≡ Some k
-unfolding maybe_kind_of maybe_kind_from
-maybe-kind-trip (Some k) = rw (length-kind k) (ap maybe_kind_from (kind-trip k))
-maybe-kind-trip None = refl
+maybe-kind-trip k = (maybe_trips kinds kind-fixed).trip k (kind-always k)
 
 pub maybe-kind-back : (f : List ℕ) (k : Option Kind) → maybe_kind_of f ≡ Some k → maybe_kind_text k ≡ f
-unfolding maybe_kind_of maybe_kind_from
-maybe-kind-back [] k h =
-    let e : None ≡ k = cc in
-    rw (← e)
-maybe-kind-back (b ∷ f) k h = go (kind_of (b ∷ f)) refl (rw (ne_eqb (length (b ∷ f)) 0 (λ z. omega arith)) at h)
-  where
-    go : (r : Option Kind) → kind_of (b ∷ f) ≡ r → maybe_kind_from r ≡ Some k → maybe_kind_text k ≡ b ∷ f
-    go (Some x) q e =
-        let w : Some x ≡ k = cc in
-        rw (← w) (kind-back (b ∷ f) x q)
-    go None q e = absurd (let z : ◌≡◌ {A = ℕ} 0 1 = cc in omega arith)
+maybe-kind-back f k e = ((maybe_trips kinds kind-fixed).back f k e).0

@@ -1,3 +1,4 @@
+pub mod FieldLaws
 pub mod CodeLaws
 pub mod BlockLaws
 pub mod KindLaws

@@ -16,6 +16,7 @@ use Rattle.text.specs.Spelt.{digits_of}
 use Rattle.text.proofs.Spelling.{value_of, value-inv}
 use Rattle.fields.specs.declared.number.Digits.{Digits}
 use Rattle.fields.specs.declared.number.Number.{Number}
+use Rattle.fields.specs.Field.{Trips}
 use Rattle.fields.specs.Block.{some_decade, block}
 use Rattle.fields.specs.Number.{digits_from, digits_field_of, digits_size, digits_fits, digits_text, is_empty, block_fits, number_from, number_of, number_fits, same_number}
 
@@ -88,6 +89,9 @@ digits-back f d h = go (leb (length f) 11) refl (digits_of true f) refl h
         rw (← same) (whole x (leb-true (length f) 11 p) q)
     go true p None q e = absurd (let z : ◌≡◌ {A = ℕ} 0 1 = cc in omega arith)
     go false p v q e = absurd (let z : ◌≡◌ {A = ℕ} 0 1 = cc in omega arith)
+
+pub digits-trips : Trips digits_field_of digits_fits digits_text
+digits-trips = record { trip = digits-trip; back = digits-back }
 
 pub digits-counted : (f : List ℕ) (d : Digits) → digits_field_of f ≡ Some d → digits_size d ≡ length f
 digits-counted f d h = sym (length-field d) ∙ ap length (digits-back f d h).0
@@ -226,3 +230,6 @@ same-exactly f g f' g' a b p q p' q' = (
       let e : a ≡ b = cc in
       ap (λ (n : Number). same_number a n) (sym e) ∙ same-itself a,
 )
+
+-- what the functions on blocks need
+pub ruleset number_blocks = (lead-none, lead-decades, block-unfit)

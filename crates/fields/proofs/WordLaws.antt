@@ -4,14 +4,17 @@ use Prim.Native.Nat.{ℕ}
 use native.Mathlib.Omega.{arith}
 use mathlib.Core.Path.{◌≡◌, refl}
 use mathlib.Core.Bool.{Bool, true, false, cond}
-use lib.Dec.{eqb, leb}
+use lib.Dec.{leb}
 use Rattle.calendar.specs.declared.dates.CalendarDays.{CalendarDays}
 use Rattle.calendar.specs.Dates.{in_calendar}
 use Rattle.fields.specs.declared.code.Code.{Code}
 use Rattle.fields.specs.declared.correction_code.CorrectionCode.{CorrectionCode}
-use Rattle.fields.specs.Code.{code_of_word, code_fits, maybe_code_from, maybe_code_of_word, maybe_code_fits}
+use Rattle.fields.specs.Code.{code_of_word, code_fits, maybe_code_of_word, maybe_code_fits}
 use Rattle.fields.specs.CorrectionCode.{correction_code_of_word, correction_code_fits}
-use Rattle.fields.specs.Date.{date_of_word, date_fits, maybe_date_from, maybe_date_of_word, maybe_date_fits}
+use Rattle.fields.proofs.FieldLaws.{maybe-word}
+use Rattle.fields.specs.declared.kind.Kind.{Kind}
+use Rattle.fields.specs.Kind.{kind_of_word, kind_fits}
+use Rattle.fields.specs.Date.{date_of_word, date_fits, maybe_date_of_word, maybe_date_fits}
 
 pub code-word : (w : ℕ) (c : Code) → code_of_word w ≡ Some c → code_fits c ≡ true
 unfolding code_of_word
@@ -22,13 +25,7 @@ code-word w c h = go (leb w 999) refl h
     go false p e = absurd (let z : ◌≡◌ {A = ℕ} 0 1 = cc in omega arith)
 
 pub maybe-code-word : (w : ℕ) (c : Option Code) → maybe_code_of_word w ≡ Some c → maybe_code_fits c ≡ true
-unfolding maybe_code_of_word maybe_code_from
-maybe-code-word w c h = go (eqb w 1000) (code_of_word w) refl h
-  where
-    go : (t : Bool) (r : Option Code) → code_of_word w ≡ r → cond t (Some None) (maybe_code_from r) ≡ Some c → maybe_code_fits c ≡ true
-    go true r q e = let same : None ≡ c = cc in rw (← same)
-    go false (Some x) q e = let same : Some x ≡ c = cc in rw (← same) (code-word w x q)
-    go false None q e = absurd (let z : ◌≡◌ {A = ℕ} 0 1 = cc in omega arith)
+maybe-code-word = maybe-word 1000 code-word
 
 pub correction-code-word : (w : ℕ) (c : CorrectionCode) → correction_code_of_word w ≡ Some c → correction_code_fits c ≡ true
 unfolding correction_code_of_word
@@ -38,7 +35,7 @@ correction-code-word w c h = go (leb w 9999) refl h
     go true p e = let same : ◌≡◌ {A = CorrectionCode} (record { 0 = w }) c = cc in rw (← same) p
     go false p e = absurd (let z : ◌≡◌ {A = ℕ} 0 1 = cc in omega arith)
 
-date-word : (w : ℕ) (d : CalendarDays) → date_of_word w ≡ Some d → date_fits d ≡ true
+pub date-word : (w : ℕ) (d : CalendarDays) → date_of_word w ≡ Some d → date_fits d ≡ true
 unfolding date_of_word
 date-word w d h = go (in_calendar w) refl h
   where
@@ -47,10 +44,7 @@ date-word w d h = go (in_calendar w) refl h
     go false p e = absurd (let z : ◌≡◌ {A = ℕ} 0 1 = cc in omega arith)
 
 pub maybe-date-word : (w : ℕ) (d : Option CalendarDays) → maybe_date_of_word w ≡ Some d → maybe_date_fits d ≡ true
-unfolding maybe_date_of_word maybe_date_from
-maybe-date-word w d h = go (eqb w 65535) (date_of_word w) refl h
-  where
-    go : (t : Bool) (r : Option CalendarDays) → date_of_word w ≡ r → cond t (Some None) (maybe_date_from r) ≡ Some d → maybe_date_fits d ≡ true
-    go true r q e = let same : None ≡ d = cc in rw (← same)
-    go false (Some x) q e = let same : Some x ≡ d = cc in rw (← same) (date-word w x q)
-    go false None q e = absurd (let z : ◌≡◌ {A = ℕ} 0 1 = cc in omega arith)
+maybe-date-word = maybe-word 65535 date-word
+
+pub kind-word : (w : ℕ) (k : Kind) → kind_of_word w ≡ Some k → kind_fits k ≡ true
+kind-word w k h = refl

@@ -1,8 +1,9 @@
 -- What a network code's field is read as, which codes it can hold, and how they are written. Assumes nothing: these are definitions.
 use Rattle.std.specs.Prelude.{Option, Some, None}
-use Rattle.std.specs.Prelude.{ℕ, Bool, true, false, cond, ◌&&◌, List, [], ◌∷◌, leb, eqb, length, get_or, drop}
+use Rattle.std.specs.Prelude.{ℕ, Bool, false, cond, ◌&&◌, List, ◌∷◌, leb, eqb, length, get_or, drop}
 use Rattle.laws.specs.Digits.{digits}
 use Rattle.text.specs.Spelt.{digits_of}
+use Rattle.fields.specs.Field.{maybe_of, maybe_fits, maybe_of_word, maybe_text}
 use Rattle.fields.specs.declared.code.Code.{Code}
 
 unfoldable pub code_from : Option ℕ → Option Code
@@ -23,22 +24,15 @@ abbrev pub code_text : Code → List ℕ
 code_text c = 68 ∷ digits 3 c.0
 
 -- ---- a field that may be empty
-
-unfoldable pub maybe_code_from : Option Code → Option (Option Code)
-maybe_code_from (Some c) = Some (Some c)
-maybe_code_from None = None
-
-unfoldable pub maybe_code_of : List ℕ → Option (Option Code)
-maybe_code_of f = cond (eqb (length f) 0) (Some None) (maybe_code_from (code_of f))
+abbrev pub maybe_code_of : List ℕ → Option (Option Code)
+maybe_code_of = maybe_of code_of
 
 abbrev pub maybe_code_fits : Option Code → Bool
-maybe_code_fits (Some c) = code_fits c
-maybe_code_fits None = true
+maybe_code_fits = maybe_fits code_fits
 
 -- the word 1000 stands for an empty field
-unfoldable pub maybe_code_of_word : ℕ → Option (Option Code)
-maybe_code_of_word w = cond (eqb w 1000) (Some None) (maybe_code_from (code_of_word w))
+abbrev pub maybe_code_of_word : ℕ → Option (Option Code)
+maybe_code_of_word = maybe_of_word 1000 code_of_word
 
 abbrev pub maybe_code_text : Option Code → List ℕ
-maybe_code_text (Some c) = code_text c
-maybe_code_text None = []
+maybe_code_text = maybe_text code_text

@@ -1,8 +1,9 @@
 -- What a date's field is read as, which days it can hold, and how they are written. Assumes nothing: these are definitions.
 use Rattle.std.specs.Prelude.{Option, Some, None}
-use Rattle.std.specs.Prelude.{ℕ, ◌+◌, ◌*◌, ◌/◌, ◌%◌, Bool, true, false, cond, List, [], eqb, length}
+use Rattle.std.specs.Prelude.{ℕ, ◌+◌, ◌*◌, ◌/◌, ◌%◌, Bool, false, cond, List, eqb, length}
 use Rattle.laws.specs.Digits.{digits}
 use Rattle.text.specs.Spelt.{digits_of}
+use Rattle.fields.specs.Field.{maybe_of, maybe_fits, maybe_of_word, maybe_text}
 use Rattle.calendar.specs.declared.dates.CalendarDays.{CalendarDays}
 use Rattle.calendar.specs.declared.dates.Date.{Date}
 use Rattle.calendar.specs.Dates.{in_calendar}
@@ -39,22 +40,15 @@ abbrev pub date_text : CalendarDays → List ℕ
 date_text d = digits 8 (spelling (date_of d.0))
 
 -- ---- a field that may be empty
-
-unfoldable pub maybe_date_from : Option CalendarDays → Option (Option CalendarDays)
-maybe_date_from (Some d) = Some (Some d)
-maybe_date_from None = None
-
-unfoldable pub maybe_date_of : List ℕ → Option (Option CalendarDays)
-maybe_date_of f = cond (eqb (length f) 0) (Some None) (maybe_date_from (date_field_of f))
+abbrev pub maybe_date_of : List ℕ → Option (Option CalendarDays)
+maybe_date_of = maybe_of date_field_of
 
 abbrev pub maybe_date_fits : Option CalendarDays → Bool
-maybe_date_fits (Some d) = date_fits d
-maybe_date_fits None = true
+maybe_date_fits = maybe_fits date_fits
 
 -- the word 65535 stands for an empty field
-unfoldable pub maybe_date_of_word : ℕ → Option (Option CalendarDays)
-maybe_date_of_word w = cond (eqb w 65535) (Some None) (maybe_date_from (date_of_word w))
+abbrev pub maybe_date_of_word : ℕ → Option (Option CalendarDays)
+maybe_date_of_word = maybe_of_word 65535 date_of_word
 
 abbrev pub maybe_date_text : Option CalendarDays → List ℕ
-maybe_date_text (Some d) = date_text d
-maybe_date_text None = []
+maybe_date_text = maybe_text date_text

@@ -1,3 +1,4 @@
+pub mod Field
 pub mod Code
 pub mod CorrectionCode
 pub mod Kind

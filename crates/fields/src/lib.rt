@@ -1,6 +1,6 @@
 // The fields that records are made of: each kind of field in a room of its own, with its values, its reader and its writer.
-// A reader takes the whole field and answers its value or a fault; a writer lays the field into a lent
-// buffer and answers the place behind it. What stands in a field that may be empty is a `Maybe`.
+// A reader takes the whole field and answers its value or nothing; a writer lays the field into a lent
+// buffer and answers the place behind it. What stands in a field that may be empty is an `Option`.
 #![tactic(auto)]
 
 pub mod code;

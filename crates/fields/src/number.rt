@@ -6,7 +6,7 @@ ghost use Rattle.fields.specs.Block.{some_decade};
 ghost use Rattle.fields.specs.Number.{digits_field_of, digits_fits, digits_size, digits_text, is_empty, block_fits, number_of, number_fits, same_number};
 
 // The digits of one field behind a leading 1, so that equal codes are equal digits: "" is 1, "0" is 10, "012" is 1012.
-#[derive(Clone, Copy)]
+#[derive(Clone, Copy, PartialEq, Eq)]
 pub struct Digits(pub u64);
 
 impl Digits {
@@ -14,33 +14,29 @@ impl Digits {
     pub const EMPTY: Digits = Digits(1);
 
     // At most 11 digits.
+    #[tactic(auto, using(std::proofs::lemmas::Bool::Decides::nat_tests), unfolding(crate::specs::Number::digits_field_of, crate::specs::Number::digits_from))]
     pub fn read(f: &[u8]) -> Option<Digits>
         ensures { result ≡ digits_field_of f.now }
     {
         if 11 < f.len() {
             return None;
         }
-        let Some(n) = text::read_digits(f, true) else {
-            return None;
-        };
-        Some(Digits(n))
+        Some(Digits(text::read_digits(f, true)?))
     }
 
     // Whether it is the code of at most 11 digits.
+    #[tactic(auto, using(std::proofs::lemmas::Bool::Decides::nat_tests), unfolding(crate::specs::Number::digits_fits))]
     pub fn fits(self) -> bool
         ensures { result ≡ digits_fits self }
     {
-        let k = text::size(self.0, 12);
-        if 11 < k {
-            return false;
-        }
-        text::leading(self.0, k) == 1
+        let k = self.len();
+        k <= 11 && text::leading(self.0, k) == 1
     }
 
     pub fn is_empty(self) -> bool
         ensures { result ≡ is_empty self }
     {
-        self.0 == Digits::EMPTY.0
+        self == Digits::EMPTY
     }
 
     // How many digits it has.
@@ -50,12 +46,12 @@ impl Digits {
         text::size(self.0, 12)
     }
 
+    #[tactic(auto, using(laws::proofs::Digits::length_digits))]
     pub fn write(self, out: &mut [u8], at: usize) -> usize
         requires { (at + length (digits_text self) ≤ length out.old) × (digits_fits self ≡ true) }
         ensures { Laid out.old at (digits_text self) out.new result }
     {
-        let k = text::size(self.0, 12);
-        text::put_digits(out, at, k, self.0)
+        text::put_digits(out, at, self.len(), self.0)
     }
 }
 
@@ -63,30 +59,23 @@ impl Digits {
 fn nearly(x: u64, y: u64) -> bool
     ensures { result ≡ (eqb (x / 10) (y / 10) && leb x y) }
 {
-    if x / 10 != y / 10 {
-        return false;
-    }
-    x <= y
+    x / 10 == y / 10 && x <= y
 }
 
 // Whether the `k` digits of `a` and of `b` bound a whole decade or several in a row.
+#[tactic(auto, using(crate::proofs::BlockLaws::turns))]
 fn decades(a: u64, b: u64, k: usize) -> bool
     requires { (down k a ≡ 1) × (down k b ≡ 1) }
     ensures { result ≡ some_decade (digits k a) (digits k b) }
 {
     let mut x = a;
     let mut y = b;
-    let mut n: usize = 0;
-    while n < k {
-        if x % 10 != 0 {
+    for _n in 0..k {
+        if x % 10 != 0 || y % 10 != 9 {
             return false;
         }
-        if y % 10 != 9 {
-            return false;
-        }
-        x = x / 10;
-        y = y / 10;
-        n += 1;
+        x /= 10;
+        y /= 10;
         if nearly(x, y) {
             return true;
         }
@@ -95,27 +84,23 @@ fn decades(a: u64, b: u64, k: usize) -> bool
 }
 
 // Whether a first field makes a block with a last one of `k` digits: it has as many, behind its leading 1.
+#[tactic(auto, using(crate::proofs::NumberLaws::number_blocks))]
 fn begins_block(first: Digits, last: Digits, k: usize) -> bool
     requires { (digits_fits last ≡ true) × (digits_size last ≡ k) }
     ensures { result ≡ block_fits first last }
 {
-    if text::leading(first.0, k) != 1 {
-        return false;
-    }
-    decades(first.0, last.0, k)
+    text::leading(first.0, k) == 1 && decades(first.0, last.0, k)
 }
 
 // Whether two fields of digits are the first and the last number of a block.
+#[tactic(auto, using(crate::proofs::NumberLaws::number_blocks))]
 fn is_block(first: Digits, last: Digits) -> bool
     ensures { result ≡ block_fits first last }
 {
-    if !last.fits() {
-        return false;
-    }
-    begins_block(first, last, last.len())
+    last.fits() && begins_block(first, last, last.len())
 }
 
-#[derive(Clone, Copy)]
+#[derive(Clone, Copy, PartialEq, Eq)]
 pub struct Number {
     pub first: Digits,
     pub last: Digits,
@@ -123,18 +108,17 @@ pub struct Number {
 
 impl Number {
     // The second field beside the first one.
+    #[tactic(auto, using(std::proofs::lemmas::Bool::Decides::nat_tests), unfolding(crate::specs::Number::number_of, crate::specs::Number::number_from))]
     pub fn read(first: Digits, f: &[u8]) -> Option<Number>
         ensures { result ≡ number_of first f.now }
     {
-        if f.len() == 0 {
+        if f.is_empty() {
             return Some(Number {
                 first,
                 last: Digits::EMPTY,
             });
         }
-        let Some(last) = Digits::read(f) else {
-            return None;
-        };
+        let last = Digits::read(f)?;
         if !begins_block(first, last, f.len()) {
             return None;
         }
@@ -142,24 +126,22 @@ impl Number {
     }
 
     // Whether its two fields can hold it.
+    #[tactic(auto, using(std::proofs::lemmas::Bool::Decides::nat_tests), unfolding(crate::specs::Number::number_fits))]
     pub fn fits(self) -> bool
         ensures { result ≡ number_fits self }
     {
-        let first = self.first;
-        let last = self.last;
-        if last.is_empty() {
-            return first.fits();
+        if self.last.is_empty() {
+            self.first.fits()
+        } else {
+            is_block(self.first, self.last)
         }
-        is_block(first, last)
     }
 
     // Two numbers are the same exactly if they agree field by field.
+    #[tactic(auto, using(std::proofs::lemmas::Bool::Decides::nat_tests), unfolding(crate::specs::Number::same_number))]
     pub fn same(a: Number, b: Number) -> bool
         ensures { result ≡ same_number a b }
     {
-        if a.first.0 != b.first.0 {
-            return false;
-        }
-        a.last.0 == b.last.0
+        a == b
     }
 }

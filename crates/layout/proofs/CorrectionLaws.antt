@@ -16,6 +16,7 @@ use Rattle.layout.specs.declared.correction.Correction.{Correction}
 use Rattle.layout.specs.Part.{part_of, part_of_words, part_text}
 use Rattle.layout.specs.Correction.{head_of, reported_of, sound_of, three_of, correction_of, correction_of_words, correction_text}
 use Rattle.layout.specs.Putting.{head_text, between_parts}
+use Rattle.layout.proofs.PartLaws.{part-short}
 
 -- ---- before the first colon
 module _ (f : List ℕ) where
@@ -125,3 +126,5 @@ module _ (c : Correction) where
 
   pub length-correction : length (correction_text c) ≡ length (part_text c.u) + length (part_text c.k) + 9
   length-correction = rw whole (simp length-append (omega (arith, length_digits 4 c.code.0)))
+
+pub ruleset correction_lengths = (length-correction, part-short)

@@ -21,8 +21,8 @@ use Rattle.laws.proofs.Tests.{le-or-lt}
 use Rattle.text.specs.Spelt.{spells, digits_of}
 use Rattle.fields.specs.declared.number.Digits.{Digits}
 use Rattle.fields.specs.Number.{digits_from, digits_field_of, number_of}
-use Rattle.layout.specs.Walk.{reach_of, digits_then, digits_at, number_at}
-use Rattle.layout.proofs.WalkLaws.{end-from, digits-none, digits-then, number-none, number-then}
+use Rattle.layout.specs.Walk.{reach_of, then_next, found_at}
+use Rattle.layout.proofs.WalkLaws.{end-from, found-none, found-some}
 
 -- how far the first comma is
 abbrev comma : List ℕ → ℕ
@@ -30,7 +30,7 @@ comma g = first_at (is_sep 44) g
 
 -- what a field reads as of which digits worth n lie before the place k, g follows, and the comma is one of the first m bytes of g
 unfoldable pub found : ℕ → ℕ → ℕ → List ℕ → Option (Digits × ℕ)
-found m n k g = cond (ltb (comma g) (length g)) (digits_then (cond (ltb (comma g) m) (digits_from (spells n (take (comma g) g))) None) (k + comma g + 1)) None
+found m n k g = cond (ltb (comma g) (length g)) (then_next (cond (ltb (comma g) m) (digits_from (spells n (take (comma g) g))) None) (k + comma g + 1)) None
 
 -- ---- the next byte
 module _ (m n k b : ℕ) (t : List ℕ) where
@@ -53,7 +53,7 @@ module _ (m n k b : ℕ) (t : List ℕ) where
       rw (comma-on (λ e. omega arith), leb-suc-suc (suc (comma t)) (length t), leb-suc-suc (suc (comma t)) m, le-leb 48 b low, le-leb b 57 high, place)
 
 -- neither a digit nor the comma: a fault, however far the comma is
-fault-in : (far near : Bool) (next : ℕ) → cond far (digits_then (cond near None None) next) None ≡ None
+fault-in : (far near : Bool) (next : ℕ) → cond far (then_next {A = Digits} (cond near None None) next) None ≡ None
 fault-in true true next = refl
 fault-in true false next = refl
 fault-in false near next = refl
@@ -106,13 +106,13 @@ module _ (s : List ℕ) (at : ℕ) where
       (λ (k : 11 < j). rw (e, l, lt-leb j 11 k, le-ltb j 12 (omega arith)))
       (le-or-lt j 11)
 
-  pub found_first : digits_at s at ≡ found 12 1 at (drop at s)
+  pub found_first : found_at digits_field_of s at ≡ found 12 1 at (drop at s)
   unfolding found end_of
   found_first =
       let j : ℕ = comma (drop at s) in
       ⊎_elim
-      (λ (h : length (drop at s) ≤ j). digits-none s at (at + j) refl (omega (arith, length-drop at s)) ∙ rw (le-ltb j (length (drop at s)) h))
-      (λ (h : j < length (drop at s)). digits-then s at (at + j) refl (omega (arith, length-drop at s)) (field_found h) ∙ rw (lt-ltb j (length (drop at s)) h))
+      (λ (h : length (drop at s) ≤ j). found-none digits_field_of s at (at + j) refl (omega (arith, length-drop at s)) ∙ rw (le-ltb j (length (drop at s)) h))
+      (λ (h : j < length (drop at s)). found-some digits_field_of s at (at + j) refl (omega (arith, length-drop at s)) (field_found h) ∙ rw (lt-ltb j (length (drop at s)) h))
       (le-or-lt (length (drop at s)) j)
 
   -- how far it is looked for
@@ -137,12 +137,14 @@ module _ (s : List ℕ) (at : ℕ) where
 
 -- ---- the second field: empty, or past the end of the line
 module _ (first : Digits) (s : List ℕ) (at : ℕ) where
-  pub number-empty : at < length s → get_or s at 0 ≡ 44 → number_at first s at ≡ Some ((record { first = first; last = record { 0 = 1 } }), (at + 1))
+  pub number-empty : at < length s → get_or s at 0 ≡ 44 → found_at (number_of first) s at ≡ Some ((record { first = first; last = record { 0 = 1 } }), (at + 1))
   unfolding end_of is_sep number_of
   number-empty h e =
       let here : at ≡ at + comma (drop at s) = sym (first-here (is_sep 44) 0 s at h (eq-eqb (get_or s at 0) 44 e)) in
       let none : at - at ≡ 0 = omega arith in
-      number-then first s at at here h {r = Some (record { first = first; last = record { 0 = 1 } })} (rw none refl)
+      found-some (number_of first) s at at here h {r = Some (record { first = first; last = record { 0 = 1 } })} (rw none refl)
 
-  pub number-beyond : length s ≤ at → number_at first s at ≡ None
-  number-beyond h = number-none first s at (end_of 44 s at) refl (omega (arith, end-from s at))
+  pub number-beyond : length s ≤ at → found_at (number_of first) s at ≡ None
+  number-beyond h = found-none (number_of first) s at (end_of 44 s at) refl (omega (arith, end-from s at))
+
+pub ruleset second_ones = (number-empty, number-beyond, found-none, found-some, end-from)

@@ -127,3 +127,5 @@ length_part p =
 pub part-short : (p : Part) → length (part_text p) ≤ 46
 part-short p =
     omega (arith, length_part p, digits-short p.number.first, digits-short p.number.last, date-short p.date, code-short p.gaining, code-short p.losing, kind-short p.kind)
+
+pub ruleset part_lengths = (length_part, digits-short, date-short, code-short, kind-short)

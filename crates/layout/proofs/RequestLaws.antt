@@ -3,8 +3,8 @@ use Rattle.calendar.specs.declared.dates.CalendarDays.{CalendarDays}
 use Rattle.std.specs.Prelude.{Option, Some, None}
 use Prim.Native.Nat.{ℕ, ◌+◌, ◌-◌, ◌≤◌}
 use native.Mathlib.Omega.{arith}
-use mathlib.Core.Path.{◌≡◌, refl}
-use mathlib.Core.List.{List, [], ◌∷◌, ◌++◌}
+use mathlib.Core.Path.{◌≡◌, sym}
+use mathlib.Core.List.{List, [], ◌∷◌, ◌++◌, append_assoc}
 use lib.ListN.{length, get_or, length-append}
 use borrow.Author.Tests.{eq-eqb, ne_eqb}
 use Rattle.laws.specs.Split.{split, piece_of}
@@ -13,7 +13,9 @@ use Rattle.fields.specs.declared.code.Code.{Code}
 use Rattle.fields.specs.Code.{code_of, code_of_word, code_text}
 use Rattle.fields.specs.Date.{maybe_date_of, maybe_date_of_word, maybe_date_text}
 use Rattle.fields.proofs.CodeLaws.{length-code}
+use Rattle.layout.proofs.PartLaws.{date-short}
 use Rattle.layout.specs.declared.request.Request.{Request}
+use Rattle.layout.specs.Putting.{followed}
 use Rattle.layout.specs.Request.{three_of, request_of, request_of_words, request_text}
 
 module _ (s : List ℕ) where
@@ -63,26 +65,16 @@ module _ (w : List ℕ) where
       unfolding request_of_words
       words-4 p₂ = rw (eq-eqb (length w) 2 l, p₁, p₂)
 
--- ---- what is left to write before each of the calls of `write`
+-- ---- the text as the calls of `write` lay it
 module _ (r : Request) where
-  abbrev pub left4 : List ℕ
-  left4 = 44 ∷ []
-
-  abbrev pub left3 : List ℕ
-  left3 = maybe_date_text r.from ++ left4
-
-  abbrev pub left2 : List ℕ
-  left2 = 44 ∷ left3
-
-  abbrev pub left1 : List ℕ
-  left1 = code_text r.code ++ left2
-
-  pub whole : request_text r ≡ left1
+  pub whole : request_text r ≡ followed (code_text r.code) ++ followed (maybe_date_text r.from)
   unfolding request_text
-  whole = refl
+  whole = sym (append_assoc (code_text r.code) (44 ∷ []) (followed (maybe_date_text r.from)))
 
-  pub room-request : (o : List ℕ) (at : ℕ) → at + length (request_text r) ≤ length o → Room o at left1
+  pub room-request : (o : List ℕ) (at : ℕ) → at + length (request_text r) ≤ length o → Room o at (followed (code_text r.code) ++ followed (maybe_date_text r.from))
   room-request o at h = record { fits = rw whole at h }
 
   pub length-request : length (request_text r) ≡ length (maybe_date_text r.from) + 6
   length-request = rw whole (simp length-append (omega (arith, length-code r.code)))
+
+pub ruleset request_lengths = (length-request, date-short)

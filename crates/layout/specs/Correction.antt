@@ -1,8 +1,7 @@
 -- What a correction is read as, which corrections it can hold, and how they are written. Assumes nothing: these are definitions.
 use Rattle.std.specs.Prelude.{is_some}
-use Rattle.layout.specs.declared.report.Report.{Report}
 use Rattle.std.specs.Prelude.{Option, Some, None}
-use Rattle.std.specs.Prelude.{ℕ, ◌-◌, ◌+◌, Bool, true, false, cond, not, ◌&&◌, ◌||◌, List, ◌∷◌, ◌++◌, eqb, leb, length, get_or, take}
+use Rattle.std.specs.Prelude.{ℕ, ◌-◌, ◌+◌, Bool, cond, not, ◌&&◌, ◌||◌, List, ◌∷◌, ◌++◌, eqb, leb, length, get_or, take}
 use Rattle.laws.specs.Split.{split, piece_of, between}
 use Rattle.fields.specs.declared.correction_code.CorrectionCode.{CorrectionCode}
 use Rattle.fields.specs.declared.number.Number.{Number}
@@ -10,18 +9,16 @@ use Rattle.fields.specs.CorrectionCode.{correction_code_of, correction_code_of_w
 use Rattle.fields.specs.Number.{is_empty}
 use Rattle.layout.specs.declared.part.Part.{Part}
 use Rattle.layout.specs.declared.correction.Correction.{Correction}
-use Rattle.layout.specs.Part.{part_of, part_of_words, part_fits, part_text}
+use Rattle.layout.specs.Part.{on, part_of, part_of_words, part_fits, part_text}
 use Rattle.layout.specs.Report.{whole_of}
 
 -- ---- what is found goes on to what makes the correction of it; a fault is the correction's
 
 abbrev pub on_head : Option CorrectionCode → (CorrectionCode → Option Correction) → Option Correction
-on_head (Some c) k = k c
-on_head None k = None
+on_head c k = on c None k
 
 abbrev pub on_part : Option Part → (Part → Option Correction) → Option Correction
-on_part (Some p) k = k p
-on_part None k = None
+on_part p k = on p None k
 
 -- before the first colon: the code, and 'U' (85)
 unfoldable pub head_of : List ℕ → Option CorrectionCode

@@ -15,26 +15,25 @@ use Rattle.fields.specs.Number.{digits_field_of, digits_text, number_of, number_
 use Rattle.layout.specs.declared.part.Part.{Part}
 
 -- ---- a field's value goes on to what makes the record of it; in place of a fault stands `fault`
+abbrev pub on : {X A : Type 0} → Option X → A → (X → A) → A
+on (Some x) fault k = k x
+on None fault k = fault
+
 module _ {A : Type 0} where
   abbrev pub on_digits : Option Digits → A → (Digits → A) → A
-  on_digits (Some d) fault k = k d
-  on_digits None fault k = fault
+  on_digits = on
 
   abbrev pub on_number : Option Number → A → (Number → A) → A
-  on_number (Some n) fault k = k n
-  on_number None fault k = fault
+  on_number = on
 
-  abbrev pub on_date : Option (Option CalendarDays) → A → ((Option CalendarDays) → A) → A
-  on_date (Some d) fault k = k d
-  on_date None fault k = fault
+  abbrev pub on_date : Option (Option CalendarDays) → A → (Option CalendarDays → A) → A
+  on_date = on
 
-  abbrev pub on_code : Option (Option Code) → A → ((Option Code) → A) → A
-  on_code (Some c) fault k = k c
-  on_code None fault k = fault
+  abbrev pub on_code : Option (Option Code) → A → (Option Code → A) → A
+  on_code = on
 
-  abbrev pub on_kind : Option (Option Kind) → A → ((Option Kind) → A) → A
-  on_kind (Some x) fault k = k x
-  on_kind None fault k = fault
+  abbrev pub on_kind : Option (Option Kind) → A → (Option Kind → A) → A
+  on_kind = on
 
 -- the part of six fields
 unfoldable pub six_of : List ℕ → List ℕ → List ℕ → List ℕ → List ℕ → List ℕ → Option Part

@@ -9,7 +9,7 @@ use Rattle.fields.specs.Number.{is_empty}
 use Rattle.calendar.specs.declared.dates.CalendarDays.{CalendarDays}
 use Rattle.layout.specs.declared.part.Part.{Part}
 use Rattle.layout.specs.declared.report.Report.{Report}
-use Rattle.layout.specs.Part.{part_of, part_of_words, part_fits, part_text}
+use Rattle.layout.specs.Part.{on, part_of, part_of_words, part_fits, part_text}
 
 -- only a Z may leave the gaining network out
 abbrev pub is_named : Option Code → Kind → Bool
@@ -21,16 +21,13 @@ is_named None Z = true
 -- ---- what stands in a field goes on to what makes the report of it; nothing may be missing
 
 abbrev pub on_some_date : Option CalendarDays → (CalendarDays → Option Report) → Option Report
-on_some_date (Some d) k = k d
-on_some_date None k = None
+on_some_date m k = on m None k
 
 abbrev pub on_some_code : Option Code → (Code → Option Report) → Option Report
-on_some_code (Some c) k = k c
-on_some_code None k = None
+on_some_code m k = on m None k
 
 abbrev pub on_some_kind : Option Kind → (Kind → Option Report) → Option Report
-on_some_kind (Some x) k = k x
-on_some_kind None k = None
+on_some_kind m k = on m None k
 
 -- the report that a part is, where nothing is missing
 unfoldable pub whole_of : Part → Option Report

@@ -6,11 +6,10 @@ use Rattle.fields.specs.declared.code.Code.{Code}
 use Rattle.fields.specs.Code.{code_of, code_of_word, code_fits, code_text}
 use Rattle.fields.specs.Date.{maybe_date_of, maybe_date_of_word, maybe_date_fits, maybe_date_text}
 use Rattle.layout.specs.declared.request.Request.{Request}
-use Rattle.layout.specs.Part.{on_date}
+use Rattle.layout.specs.Part.{on, on_date}
 
 abbrev pub on_sender : Option Code → (Code → Option Request) → Option Request
-on_sender (Some c) k = k c
-on_sender None k = None
+on_sender c k = on c None k
 
 -- a code, a date or nothing, and nothing behind the last comma
 unfoldable pub three_of : List ℕ → List ℕ → List ℕ → Option Request

@@ -18,19 +18,18 @@ pub struct Correction {
 }
 
 // What stands before the first colon: the code, and U.
+#[tactic(auto, using(std::proofs::lemmas::Bool::Decides::nat_tests), unfolding(crate::specs::Correction::head_of))]
 fn read_head(f: &[u8]) -> Option<CorrectionCode>
     ensures { result ≡ head_of f.now }
 {
-    if f.len() != 5 {
+    if f.len() != 5 || f[4] != b'U' {
         return None;
     }
-    if f[4] != 85 {
-        return None;
-    }
-    CorrectionCode::read(&f[0..4])
+    CorrectionCode::read(&f[..4])
 }
 
 // What stands between the colons: a part, a comma, and K.
+#[tactic(auto, using(std::proofs::lemmas::Bool::Decides::nat_tests), unfolding(crate::specs::Correction::reported_of))]
 fn read_reported(f: &[u8]) -> Option<Part>
     ensures { result ≡ reported_of f.now }
 {
@@ -38,35 +37,24 @@ fn read_reported(f: &[u8]) -> Option<Part>
         return None;
     }
     let n = f.len() - 2;
-    if f[n] != 44 {
+    if f[n] != b',' || f[n + 1] != b'K' {
         return None;
     }
-    if f[n + 1] != 75 {
-        return None;
-    }
-    Part::read(&f[0..n])
+    Part::read(&f[..n])
 }
 
 // With code 25XX the U part is a whole report; with any other at least one part has a number.
+#[tactic(auto, using(std::proofs::lemmas::Bool::Decides::nat_tests), unfolding(crate::specs::Correction::is_sound))]
 fn is_sound(code: CorrectionCode, u: Part, k: Part) -> bool
     ensures { result ≡ is_sound code u k }
 {
     if code.is_objection() {
-        let Some(_) = Report::of_part(u) else {
-            return false;
-        };
-        return true;
+        return Report::of_part(u).is_some();
     }
-    let number = u.number;
-    let first = number.first;
-    if !first.is_empty() {
-        return true;
-    }
-    let number = k.number;
-    let first = number.first;
-    !first.is_empty()
+    !u.number.first.is_empty() || !k.number.first.is_empty()
 }
 
+#[tactic(auto, using(std::proofs::lemmas::Bool::Decides::nat_tests), unfolding(crate::specs::Correction::sound_of))]
 fn sound(code: CorrectionCode, u: Part, k: Part) -> Option<Correction>
     ensures { result ≡ sound_of code u k }
 {
@@ -80,7 +68,7 @@ impl Correction {
     pub fn read(s: &[u8]) -> Option<Correction>
         ensures { result ≡ correction_of s.now }
     {
-        let a = text::field_end(s, 0, 58);
+        let a = text::field_end(s, 0, b':');
         if s.len() <= a {
             return None;
         }
@@ -88,7 +76,7 @@ impl Correction {
             return None;
         };
         let behind = a + 1;
-        let b = text::field_end(s, behind, 58);
+        let b = text::field_end(s, behind, b':');
         if s.len() <= b {
             return None;
         }
@@ -103,53 +91,44 @@ impl Correction {
     }
 
     // From 13 plain words: the code, and six for each part.
+    #[tactic(auto, using(std::proofs::lemmas::Bool::Decides::nat_tests), unfolding(crate::specs::Correction::correction_of_words))]
     pub fn of_words(w: &[u64]) -> Option<Correction>
         ensures { result ≡ correction_of_words w.now }
     {
         if w.len() != 13 {
             return None;
         }
-        let Some(code) = CorrectionCode::of_word(w[0]) else {
-            return None;
-        };
-        let Some(u) = Part::of_words(&w[1..7]) else {
-            return None;
-        };
-        let Some(k) = Part::of_words(&w[7..13]) else {
-            return None;
-        };
+        let code = CorrectionCode::of_word(w[0])?;
+        let u = Part::of_words(&w[1..7])?;
+        let k = Part::of_words(&w[7..13])?;
         sound(code, u, k)
     }
 
     // The number that it names: that of the U part, or of the K part where U has none.
+    #[tactic(auto, using(std::proofs::lemmas::Bool::Decides::nat_tests), unfolding(crate::specs::Correction::named_number))]
     pub fn named_number(self) -> Number
         ensures { result ≡ named_number self }
     {
-        let u = self.u;
-        let k = self.k;
-        let number = u.number;
-        let first = number.first;
-        if first.is_empty() {
-            return k.number;
+        if self.u.number.first.is_empty() {
+            self.k.number
+        } else {
+            self.u.number
         }
-        number
     }
 
     // The report that it names, where its U part is a whole one.
     pub fn named_report(self) -> Option<Report>
         ensures { result ≡ whole_of self.u }
     {
-        let u = self.u;
-        Report::of_part(u)
+        Report::of_part(self.u)
     }
 
     // How many bytes its text has.
+    #[tactic(auto, using(crate::proofs::CorrectionLaws::correction_lengths))]
     pub fn len(self) -> usize
         ensures { result ≡ length (correction_text self) }
     {
-        let u = self.u;
-        let k = self.k;
-        u.len() + k.len() + 9
+        self.u.len() + self.k.len() + 9
     }
 
     // Into a record that can hold it.
@@ -157,12 +136,9 @@ impl Correction {
         requires { (at + length (correction_text self) ≤ length out.old) × (correction_fits self ≡ true) }
         ensures { Laid out.old at (correction_text self) out.new result }
     {
-        let code = self.code;
-        let u = self.u;
-        let k = self.k;
-        let a = putting::put_head(code, out, at);
-        let b = u.write(out, a);
+        let a = putting::put_head(self.code, out, at);
+        let b = self.u.write(out, a);
         let c = putting::put_between(out, b);
-        k.write(out, c)
+        self.k.write(out, c)
     }
 }

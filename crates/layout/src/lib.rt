@@ -4,6 +4,7 @@
 #![tactic(auto)]
 
 pub mod correction;
+pub mod field;
 pub mod part;
 mod putting;
 pub mod report;

@@ -4,12 +4,12 @@ ghost use Rattle.std.specs.Prelude.{◌≡◌, true, ◌+◌, ◌≤◌, length}
 ghost use Rattle.laws.specs.Overlay.{Laid};
 ghost use Rattle.layout.specs.Part.{part_of, part_of_words, part_fits, part_text};
 
-use crate::putting;
+use crate::field::{Field, maybe_of_word};
+use crate::{putting, walk};
 use calendar::dates::CalendarDays;
 use fields::code::Code;
 use fields::kind::Kind;
 use fields::number::{Digits, Number};
-use fields::{code, date, kind};
 
 #[derive(Clone, Copy)]
 pub struct Part {
@@ -24,22 +24,22 @@ impl Part {
     pub fn read(s: &[u8]) -> Option<Part>
         ensures { result ≡ part_of s.now }
     {
-        let Some((first, a)) = crate::walk::digits_at(s, 0) else {
+        let Some((first, a)) = walk::digits_at(s, 0) else {
             return None;
         };
-        let Some((number, b)) = crate::walk::number_at(first, s, a) else {
+        let Some((number, b)) = walk::number_at(first, s, a) else {
             return None;
         };
-        let Some((date, c)) = crate::walk::date_at(s, b) else {
+        let Some((date, c)) = walk::field_at(s, b) else {
             return None;
         };
-        let Some((gaining, d)) = crate::walk::code_at(s, c) else {
+        let Some((gaining, d)) = walk::field_at(s, c) else {
             return None;
         };
-        let Some((losing, e)) = crate::walk::code_at(s, d) else {
+        let Some((losing, e)) = walk::field_at(s, d) else {
             return None;
         };
-        let Some(kind) = crate::walk::kind_at(s, e) else {
+        let Some(kind) = walk::last_at(s, e) else {
             return None;
         };
         Some(Part {
@@ -53,6 +53,7 @@ impl Part {
 
     // From six plain words, in the order of the fields: the codes of the number fields, 1 for an empty one; a day's
     // number, 65535 for none; two network codes, 1000 for none; the kind, P 0, L 1, Z 2, 3 for none.
+    #[tactic(auto, using(std::proofs::lemmas::Bool::Decides::nat_tests), unfolding(crate::specs::Part::part_of_words, crate::specs::Part::rest_of_words))]
     pub fn of_words(w: &[u64]) -> Option<Part>
         ensures { result ≡ part_of_words w.now }
     {
@@ -66,44 +67,26 @@ impl Part {
         if !number.fits() {
             return None;
         }
-        let Some(date) = date::maybe_of_word(w[2]) else {
-            return None;
-        };
-        let Some(gaining) = code::maybe_of_word(w[3]) else {
-            return None;
-        };
-        let Some(losing) = code::maybe_of_word(w[4]) else {
-            return None;
-        };
-        let Some(kind) = kind::maybe_of_word(w[5]) else {
-            return None;
-        };
         Some(Part {
             number,
-            date,
-            gaining,
-            losing,
-            kind,
+            date: maybe_of_word(w[2])?,
+            gaining: maybe_of_word(w[3])?,
+            losing: maybe_of_word(w[4])?,
+            kind: maybe_of_word(w[5])?,
         })
     }
 
     // How many bytes its text has.
+    #[tactic(auto, using(crate::proofs::PartLaws::part_lengths))]
     pub fn len(self) -> usize
         ensures { result ≡ length (part_text self) }
     {
-        let number = self.number;
-        let date = self.date;
-        let gaining = self.gaining;
-        let losing = self.losing;
-        let kind = self.kind;
-        let first = number.first;
-        let last = number.last;
-        first.len()
-            + last.len()
-            + date::maybe_len(date)
-            + code::maybe_len(gaining)
-            + code::maybe_len(losing)
-            + kind::maybe_len(kind)
+        self.number.first.len()
+            + self.number.last.len()
+            + self.date.len()
+            + self.gaining.len()
+            + self.losing.len()
+            + self.kind.len()
             + 5
     }
 
@@ -112,14 +95,9 @@ impl Part {
         requires { (at + length (part_text self) ≤ length out.old) × (part_fits self ≡ true) }
         ensures { Laid out.old at (part_text self) out.new result }
     {
-        let number = self.number;
-        let date = self.date;
-        let gaining = self.gaining;
-        let losing = self.losing;
-        let kind = self.kind;
-        let a = putting::put_number(number, out, at);
-        let b = putting::put_date(date, out, a);
-        let c = putting::put_networks(gaining, losing, out, b);
-        kind::maybe_write(kind, out, c)
+        let a = putting::put_number(self.number, out, at);
+        let b = putting::put(self.date, out, a);
+        let c = putting::put_networks(self.gaining, self.losing, out, b);
+        self.kind.write(out, c)
     }
 }

@@ -23,47 +23,28 @@ pub struct Report {
 fn is_named(gaining: Option<Code>, kind: Kind) -> bool
     ensures { result ≡ is_named gaining kind }
 {
-    match gaining {
-        Some(_) => true,
-        None => match kind {
-            Kind::P => false,
-            Kind::L => false,
-            Kind::Z => true,
-        },
-    }
+    gaining.is_some() || kind == Kind::Z
 }
 
 impl Report {
     // The report that a part is, where nothing is missing.
+    #[tactic(auto, using(std::proofs::lemmas::Bool::Decides::nat_tests), unfolding(crate::specs::Report::whole_of))]
     pub fn of_part(p: Part) -> Option<Report>
         ensures { result ≡ whole_of p }
     {
-        let number = p.number;
-        let first = number.first;
-        let maybe_date = p.date;
-        let gaining = p.gaining;
-        let maybe_losing = p.losing;
-        let maybe_kind = p.kind;
-        if first.is_empty() {
+        if p.number.first.is_empty() {
             return None;
         }
-        let Some(date) = maybe_date else {
-            return None;
-        };
-        let Some(losing) = maybe_losing else {
-            return None;
-        };
-        let Some(kind) = maybe_kind else {
-            return None;
-        };
-        if !is_named(gaining, kind) {
+        let date = p.date?;
+        let losing = p.losing?;
+        let kind = p.kind?;
+        if !is_named(p.gaining, kind) {
             return None;
         }
-        let gaining = Gaining::of(gaining);
         Some(Report {
-            number,
+            number: p.number,
             date,
-            gaining,
+            gaining: Gaining::from(p.gaining),
             losing,
             kind,
         })
@@ -73,21 +54,16 @@ impl Report {
     pub fn part(self) -> Part
         ensures { result ≡ report_part self }
     {
-        let number = self.number;
-        let date = self.date;
-        let gaining = self.gaining;
-        let losing = self.losing;
-        let kind = self.kind;
-        let field = gaining.field();
         Part {
-            number,
-            date: Some(date),
-            gaining: field,
-            losing: Some(losing),
-            kind: Some(kind),
+            number: self.number,
+            date: Some(self.date),
+            gaining: self.gaining.into(),
+            losing: Some(self.losing),
+            kind: Some(self.kind),
         }
     }
 
+    #[tactic(auto, using(std::proofs::lemmas::Bool::Decides::nat_tests), unfolding(crate::specs::Report::report_of, crate::specs::Report::report_from))]
     pub fn read(s: &[u8]) -> Option<Report>
         ensures { result ≡ report_of s.now }
     {
@@ -98,21 +74,18 @@ impl Report {
     }
 
     // From six plain words, as a part's, with nothing missing.
+    #[tactic(auto, using(std::proofs::lemmas::Bool::Decides::nat_tests), unfolding(crate::specs::Report::report_of_words, crate::specs::Report::report_from))]
     pub fn of_words(w: &[u64]) -> Option<Report>
         ensures { result ≡ report_of_words w.now }
     {
-        let Some(six) = Part::of_words(w) else {
-            return None;
-        };
-        Report::of_part(six)
+        Report::of_part(Part::of_words(w)?)
     }
 
     // How many bytes its text has.
     pub fn len(self) -> usize
         ensures { result ≡ length (report_text self) }
     {
-        let p = self.part();
-        p.len()
+        self.part().len()
     }
 
     // Into a record that can hold it.
@@ -120,7 +93,6 @@ impl Report {
         requires { (at + length (report_text self) ≤ length out.old) × (report_fits self ≡ true) }
         ensures { Laid out.old at (report_text self) out.new result }
     {
-        let p = self.part();
-        p.write(out, at)
+        self.part().write(out, at)
     }
 }

@@ -1,143 +1,90 @@
 // The fields of a line read one after the other, each from behind the comma that ends the one before it.
 ghost use Rattle.std.specs.Prelude.{◌≡◌, drop};
-ghost use Rattle.fields.specs.Kind.{maybe_kind_of};
-ghost use Rattle.layout.specs.Walk.{reach_of, digits_at, number_at, date_at, code_at};
+ghost use Rattle.fields.specs.Field.{maybe_of};
+ghost use Rattle.fields.specs.Number.{digits_field_of, number_of};
+ghost use Rattle.layout.specs.Walk.{reach_of, found_at};
 
-use calendar::dates::CalendarDays;
-use fields::code::Code;
-use fields::kind::Kind;
+use crate::field::Fixed;
 use fields::number::{Digits, Number};
 
-fn wide(b: u8) -> u64
-    ensures { result ≡ b }
-{
-    b as u64
-}
-
 // How far a field of digits and its comma reach at most: 12 bytes, and not beyond the line.
+#[tactic(auto, using(std::proofs::lemmas::Bool::Decides::nat_tests), unfolding(crate::specs::Walk::reach_of))]
 fn reach(s: &[u8], at: usize) -> usize
     ensures { result ≡ reach_of s.now at }
 {
-    if s.len() <= at {
-        return s.len();
-    }
-    if s.len() - at <= 12 {
-        return s.len();
-    }
-    at + 12
+    s.len().min(at.saturating_add(12))
 }
 
 // What the digits are worth is known as they are passed.
 pub(crate) fn digits_at(s: &[u8], at: usize) -> Option<(Digits, usize)>
-    ensures { result ≡ digits_at s.now at }
+    ensures { result ≡ found_at digits_field_of s.now at }
 {
-    let stop = reach(s, at);
     let mut n: u64 = 1;
-    let mut i = at;
-    while i < stop {
+    for i in at..reach(s, at) {
         let b = s[i];
-        if b < 48 {
-            if b != 44 {
+        if b < b'0' {
+            if b != b',' {
                 return None;
             }
-            let next = i + 1;
-            return Some((Digits(n), next));
+            return Some((Digits(n), i + 1));
         }
-        if 57 < b {
+        if b'9' < b {
             return None;
         }
-        n = n * 10 + (wide(b) - 48);
-        i += 1;
+        n = n * 10 + u64::from(b - b'0');
     }
     None
 }
 
+#[tactic(auto, using(crate::proofs::DigitsWalk::second_ones))]
 pub(crate) fn number_at(first: Digits, s: &[u8], at: usize) -> Option<(Number, usize)>
-    ensures { result ≡ number_at first s.now at }
+    ensures { result ≡ found_at (number_of first) s.now at }
 {
     if s.len() <= at {
         return None;
     }
-    if s[at] == 44 {
-        let next = at + 1;
-        return Some((
-            Number {
-                first,
-                last: Digits::EMPTY,
-            },
-            next,
-        ));
+    if s[at] == b',' {
+        let number = Number {
+            first,
+            last: Digits::EMPTY,
+        };
+        return Some((number, at + 1));
     }
-    let end = text::field_end(s, at, 44);
+    let end = text::field_end(s, at, b',');
     if s.len() <= end {
         return None;
     }
-    let Some(n) = Number::read(first, &s[at..end]) else {
-        return None;
-    };
-    let next = end + 1;
-    Some((n, next))
+    Some((Number::read(first, &s[at..end])?, end + 1))
 }
 
-// A date has eight bytes, or none.
-pub(crate) fn date_at(s: &[u8], at: usize) -> Option<(Option<CalendarDays>, usize)>
-    ensures { result ≡ date_at s.now at }
+// A field of one width, or an empty one.
+pub(crate) fn field_at<T: Fixed>(s: &[u8], at: usize) -> Option<(Option<T>, usize)>
+    ensures { result ≡ found_at (maybe_of T.of) s.now at }
 {
     if s.len() <= at {
         return None;
     }
-    if s[at] == 44 {
-        let next = at + 1;
-        return Some((None, next));
+    if s[at] == b',' {
+        return Some((None, at + 1));
     }
-    if s.len() - at <= 8 {
+    let width = T::WIDTH;
+    if s.len() - at <= width {
         return None;
     }
-    let end = at + 8;
-    if s[end] != 44 {
+    let end = at + width;
+    if s[end] != b',' {
         return None;
     }
-    let Some(d) = fields::date::read(&s[at..end]) else {
-        return None;
-    };
-    let next = end + 1;
-    Some((Some(d), next))
+    Some((Some(T::read(&s[at..end])?), end + 1))
 }
 
-// A code has four bytes, or none.
-pub(crate) fn code_at(s: &[u8], at: usize) -> Option<(Option<Code>, usize)>
-    ensures { result ≡ code_at s.now at }
-{
-    if s.len() <= at {
-        return None;
-    }
-    if s[at] == 44 {
-        let next = at + 1;
-        return Some((None, next));
-    }
-    if s.len() - at <= 4 {
-        return None;
-    }
-    let end = at + 4;
-    if s[end] != 44 {
-        return None;
-    }
-    let Some(c) = Code::read(&s[at..end]) else {
-        return None;
-    };
-    let next = end + 1;
-    Some((Some(c), next))
-}
-
-// All that is left is the kind, which no comma follows.
-pub(crate) fn kind_at(s: &[u8], at: usize) -> Option<Option<Kind>>
-    ensures { result ≡ maybe_kind_of (drop at s.now) }
+// All that is left is the last field, which no comma follows.
+#[tactic(auto, using(crate::proofs::WidthLaws::last_ones), unfolding(fields::specs::Field::maybe_from))]
+pub(crate) fn last_at<T: Fixed>(s: &[u8], at: usize) -> Option<Option<T>>
+    ensures { result ≡ maybe_of T.of (drop at s.now) }
 {
     if s.len() <= at {
         return Some(None);
     }
-    let Some(k) = Kind::read(&s[at..]) else {
-        return None;
-    };
-    Some(Some(k))
+    Some(Some(T::read(&s[at..])?))
 }

@@ -1,3 +1,4 @@
+pub mod Bytes
 pub mod RecordLaws
 pub mod RecordTrip
 pub mod WordedLaws

@@ -8,10 +8,11 @@ use mathlib.Core.Bool.{true, not}
 use borrow.Author.Tests.{ne_eqb, leb-true, not-true}
 use Rattle.laws.proofs.Tests.{and_left, and_right}
 use Rattle.fields.specs.declared.kind.Kind.{Kind}
-use Rattle.fields.specs.Code.{code_of_word, maybe_code_from, maybe_code_of_word, maybe_code_fits}
+use Rattle.fields.specs.Field.{maybe_from, maybe_of_word}
+use Rattle.fields.specs.Code.{code_of_word, maybe_code_of_word, maybe_code_fits}
 use Rattle.fields.specs.CorrectionCode.{correction_code_fits, correction_code_of_word}
-use Rattle.fields.specs.Date.{date_of_word, maybe_date_from, maybe_date_of_word, maybe_date_fits}
-use Rattle.fields.specs.Kind.{kind_by, maybe_kind_from, maybe_kind_of_word}
+use Rattle.fields.specs.Date.{date_of_word, maybe_date_of_word, maybe_date_fits}
+use Rattle.fields.specs.Kind.{kind_by, maybe_kind_of_word}
 use Rattle.fields.specs.Number.{is_empty}
 use Rattle.layout.specs.declared.part.Part.{Part}
 use Rattle.layout.specs.declared.report.Report.{Report}
@@ -26,17 +27,17 @@ use Rattle.layout.proofs.ReportLaws.{whole_part}
 use Rattle.records.specs.Worded.{date_word, code_word, kind_word, part_words, report_words, correction_words, request_words}
 
 date-worded : (d : Option CalendarDays) → maybe_date_fits d ≡ true → maybe_date_of_word (date_word d) ≡ Some d
-unfolding maybe_date_of_word maybe_date_from date_of_word
+unfolding maybe_of_word maybe_from date_of_word
 date-worded (Some d) h = let le = leb-true d.0 18992 h in rw (ne_eqb d.0 65535 (λ e. absurd (omega (arith, e))), h)
 date-worded None h = refl
 
 code-worded : (c : Option Code) → maybe_code_fits c ≡ true → maybe_code_of_word (code_word c) ≡ Some c
-unfolding maybe_code_of_word maybe_code_from code_of_word
+unfolding maybe_of_word maybe_from code_of_word
 code-worded (Some c) h = let le = leb-true c.0 999 h in rw (ne_eqb c.0 1000 (λ e. absurd (omega (arith, e))), h)
 code-worded None h = refl
 
 kind-worded : (k : Option Kind) → maybe_kind_of_word (kind_word k) ≡ Some k
-unfolding maybe_kind_of_word maybe_kind_from kind_by
+unfolding maybe_of_word maybe_from kind_by
 kind-worded (Some Kind.P) = refl
 kind-worded (Some Kind.L) = refl
 kind-worded (Some Kind.Z) = refl

@@ -33,18 +33,19 @@ fits Correction w = is_some (correction_of_words w)
 fits Request w = is_some (request_of_words w)
 fits Response w = is_some (report_of_words w)
 
--- how the record is spelt; nothing where there is none
+-- how a record is spelt; nothing where there is none
+abbrev pub spelt : {A : Type 0} → (A → List ℕ) → Option A → List ℕ
+spelt text (Some r) = text r
+spelt text None = []
+
 abbrev pub report_spelt : Option Report → List ℕ
-report_spelt (Some r) = report_text r
-report_spelt None = []
+report_spelt = spelt report_text
 
 abbrev pub correction_spelt : Option ACorrection → List ℕ
-correction_spelt (Some c) = correction_text c
-correction_spelt None = []
+correction_spelt = spelt correction_text
 
 abbrev pub request_spelt : Option ARequest → List ℕ
-request_spelt (Some q) = request_text q
-request_spelt None = []
+request_spelt = spelt request_text
 
 unfoldable pub text_of : FileKind → List ℕ → List ℕ
 text_of Default w = report_spelt (report_of_words w)

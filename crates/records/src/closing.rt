@@ -5,30 +5,18 @@ ghost use Rattle.laws.specs.Overlay.{Laid};
 ghost use Rattle.records.specs.closing.Closing.{closing_text, begins};
 
 // Whether two runs of bytes are the same.
+#[tactic(auto, using(crate::proofs::Bytes::pointwise_same))]
 pub fn same(a: &[u8], b: &[u8]) -> bool
     ensures { result ≡ same_lists eqb a.now b.now }
 {
-    if a.len() != b.len() {
-        return false;
-    }
-    let mut i: usize = 0;
-    while i < a.len() {
-        if a[i] != b[i] {
-            return false;
-        }
-        i += 1;
-    }
-    true
+    a == b
 }
 
 // Whether a line begins as a closing record does.
 pub fn begins(line: &[u8]) -> bool
     ensures { result ≡ begins line.now }
 {
-    if line.len() < 13 {
-        return false;
-    }
-    same(&line[..13], b"Zeilenanzahl:")
+    line.starts_with(b"Zeilenanzahl:")
 }
 
 // How many bytes the closing record of `n` lines has.
@@ -39,16 +27,14 @@ pub fn text_len(n: u64) -> usize
 }
 
 // All of `bytes` into a lent buffer; what follows them is the answer.
-fn put_all(out: &mut [u8], at: usize, bytes: &[u8]) -> usize
+#[tactic(auto, using(crate::proofs::Bytes::copied))]
+pub(crate) fn put_all(out: &mut [u8], at: usize, bytes: &[u8]) -> usize
     requires { at + length bytes.now ≤ length out.old }
     ensures { Laid out.old at bytes.now out.new result }
 {
-    let mut i: usize = 0;
-    while i < bytes.len() {
-        out[at + i] = bytes[i];
-        i += 1;
-    }
-    at + i
+    let end = at + bytes.len();
+    out[at..end].copy_from_slice(bytes);
+    end
 }
 
 // The closing record of `n` lines into a lent buffer; what follows it is the answer.
@@ -59,7 +45,7 @@ pub fn put(out: &mut [u8], at: usize, n: u64) -> usize
     let k = text::size(n, n as usize);
     let number = put_all(out, at, b"Zeilenanzahl:");
     let comma = text::put_digits(out, number, k + 1, n);
-    text::put_byte(out, comma, 44)
+    text::put_byte(out, comma, b',')
 }
 
 // Whether a line is the closing record of `n` lines.

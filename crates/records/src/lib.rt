@@ -5,4 +5,5 @@
 pub mod closing;
 pub mod line;
 pub mod names;
+mod record;
 pub mod words;

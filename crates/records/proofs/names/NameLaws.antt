@@ -2,25 +2,25 @@
 use Rattle.std.specs.Prelude.{Result, Ok, Err}
 use Rattle.records.specs.declared.names.written.NotWritten.{NotWritten}
 use Rattle.std.specs.Prelude.{Some, None}
-use Prim.Native.Nat.{ℕ, ◌+◌, ◌/◌, ◌<◌, ◌≤◌}
+use Prim.Native.Nat.{ℕ, ◌-◌, ◌/◌, ◌<◌, ◌≤◌}
 use native.Mathlib.Omega.{arith}
-use mathlib.Core.Path.{◌≡◌, refl, sym, ap, ◌∙◌}
-use mathlib.Core.Bool.{Bool, true, false, ◌&&◌, and-true}
-use mathlib.Core.List.{List, [], ◌∷◌, ◌++◌}
+use mathlib.Core.Path.{◌≡◌, refl, sym, ap, ap₂, ◌∙◌}
+use mathlib.Core.Bool.{Bool, true, false, ◌&&◌}
+use mathlib.Core.List.{List, [], ◌∷◌}
 use lib.Dec.{eqb}
-use lib.ListN.{length, get_or, take, drop, length-drop, drop_of_length-le}
-use lib.Seq.{drop-cons, take-suc}
-use borrow.Author.Tests.{ne_eqb, le-ltb, lt-leb, le-leb}
+use lib.ListN.{length, take, drop, length-drop}
+use borrow.Author.Tests.{le-ltb, lt-leb, le-leb}
+use lib.Pointwise.{pointwise}
 use Rattle.laws.specs.Lists.{same_lists}
+use Rattle.records.proofs.Bytes.{pointwise_same, same_turned}
 use Rattle.laws.specs.Overlay.{overlay, Laid}
 use Rattle.laws.specs.Digits.{digits}
 use Rattle.laws.proofs.Tests.{and_left, and_right}
 use Rattle.laws.proofs.Same.{numbers-equal}
-use Rattle.laws.proofs.Digits.{length_digits}
-use Rattle.laws.proofs.Overlay.{overlay-append, overlay-comm}
+use Rattle.laws.proofs.Overlay.{laid_then}
 use Rattle.calendar.specs.Answers.{full_year, date_of}
 use Rattle.calendar.specs.declared.dates.Date.{Date}
-use Rattle.records.specs.names.Kind.{kind_of, letter_of}
+use Rattle.records.specs.names.Kind.{letter_of}
 use Rattle.records.specs.declared.names.name.Name.{Name}
 use Rattle.records.specs.names.Written.{Wrote}
 use Rattle.records.specs.names.Name.{ending, framed, day_of_six, six_of, spelling, name_text, name_answer}
@@ -44,17 +44,12 @@ framed-not s n = go (framed s) refl
     go true e = absurd (n (framed-length s e))
     go false e = refl
 
-pub framed-tests : (s : List ℕ) → length s ≡ 12
-    → (eqb (get_or s 0 0) 49 && (eqb (get_or s 8 0) 46 && (eqb (get_or s 9 0) 116 && (eqb (get_or s 10 0) 120 && eqb (get_or s 11 0) 116)))) ≡ framed s
-unfolding framed same_lists
-framed-tests s h =
-    let a : take 1 s ≡ get_or s 0 0 ∷ [] = take-suc s 0 0 (omega arith) in
-    let b : drop 8 s ≡ get_or s 8 0 ∷ drop 9 s = drop-cons s 8 0 (omega arith) in
-    let c : drop 9 s ≡ get_or s 9 0 ∷ drop 10 s = drop-cons s 9 0 (omega arith) in
-    let d : drop 10 s ≡ get_or s 10 0 ∷ drop 11 s = drop-cons s 10 0 (omega arith) in
-    let e : drop 11 s ≡ get_or s 11 0 ∷ drop 12 s = drop-cons s 11 0 (omega arith) in
-    let f : drop 12 s ≡ [] = drop_of_length-le s {i = 12} (omega arith) in
-    sym (rw (a, b, c, d, e, f) (simp and-true))
+-- what the library's tests of its beginning and of its end answer
+pub framed-tests : (s : List ℕ) (a b : Bool) → length s ≡ 12 → a ≡ pointwise eqb (49 ∷ []) (take 1 s) → b ≡ pointwise eqb ending (drop (length s - 4) s) → (a && b) ≡ framed s
+unfolding framed
+framed-tests s a b h p q =
+    let k : length s - 4 ≡ 8 = omega arith in
+    ap₂ ◌&&◌ (p ∙ pointwise_same (49 ∷ []) (take 1 s) ∙ same_turned (49 ∷ []) (take 1 s)) (q ∙ ap (λ (n : ℕ). pointwise eqb ending (drop n s)) k ∙ pointwise_same ending (drop 8 s) ∙ same_turned ending (drop 8 s))
 
 -- ---- the day
 pub six-long : (n : ℕ) → 999999 < n → None ≡ day_of_six n
@@ -63,22 +58,10 @@ six-long n h =
     let big : 100 ≤ n / 10000 = omega arith in
     rw (le-ltb (n / 10000) 50 (omega arith), le-ltb (n / 10000) 98 (omega arith), lt-leb (n / 10000) 99 (omega arith))
 
--- ---- the stores
-pub put-name : (out : List ℕ) {last : List ℕ} {next : ℕ} (letter n : ℕ) → Laid (overlay (overlay out 0 (49 ∷ letter ∷ [])) 8 ending) 2 (digits 6 n) last next → last ≡ overlay out 0 (spelling letter n)
+-- ---- the bytes, laid one behind the other
+pub laid-name : {o o₁ o₂ o₃ o₄ : List ℕ} {a b c e : ℕ} (letter n : ℕ) → Laid o 0 (49 ∷ []) o₁ a → Laid o₁ a (letter ∷ []) o₂ b → Laid o₂ b (digits 6 n) o₃ c → Laid o₃ c ending o₄ e → Laid o 0 (spelling letter n) o₄ e
 unfolding spelling
-put-name out letter n p =
-    let l : length (digits 6 n) ≡ 6 = length_digits 6 n in
-    let e : 2 + length (digits 6 n) ≡ 8 = omega arith in
-    p.bytes
-    ∙ sym (overlay-comm (overlay out 0 (49 ∷ letter ∷ [])) 2 (digits 6 n) 8 ending (omega arith))
-    ∙ ap (λ (k : ℕ). overlay (overlay (overlay out 0 (49 ∷ letter ∷ [])) 2 (digits 6 n)) k ending) (sym e)
-    ∙ sym (overlay-append (overlay out 0 (49 ∷ letter ∷ [])) 2 (digits 6 n) ending)
-    ∙ sym (overlay-append out 0 (49 ∷ letter ∷ []) (digits 6 n ++ ending))
-
--- ---- the letter
-pub letter-none : (b : ℕ) → (b ≡ 68 → ⊥) → (b ≡ 75 → ⊥) → (b ≡ 81 → ⊥) → (b ≡ 82 → ⊥) → None ≡ kind_of b
-unfolding kind_of
-letter-none b d k q r = simp (ne_eqb b 68 d, ne_eqb b 75 k, ne_eqb b 81 q, ne_eqb b 82 r)
+laid-name letter n p q r s = laid_then p (laid_then q (laid_then r s))
 
 -- ---- the writer
 -- what a writer answers and leaves is settled
@@ -98,3 +81,10 @@ module _ (m : Name) (before : List ℕ) where
       → Wrote (name_answer m (length before)) (name_text m) before after (Ok 12)
   unfolding name_answer name_text
   wrote-name x after e h p = record { answer = rw (e, le-leb 12 (length before) h); bytes = rw (e, le-leb 12 (length before) h) p }
+
+-- what the functions on names need
+pub ruleset frames = (framed-length, framed-not)
+
+pub ruleset long_days = (six-long)
+
+pub ruleset writes = (wrote_none, wrote-short, wrote-name)

@@ -2,7 +2,7 @@
 ghost use Rattle.std.specs.Prelude.{◌≡◌};
 ghost use Rattle.records.specs.names.Kind.{kind_of, letter_of, has_closing};
 
-#[derive(Clone, Copy)]
+#[derive(Clone, Copy, PartialEq, Eq)]
 pub enum FileKind {
     Default,
     Correction,
@@ -11,15 +11,16 @@ pub enum FileKind {
 }
 
 impl FileKind {
-    // The kind that the second letter of a file's name tells.
+    // The kind that the second letter of a file's name tells. An Option, as every reader answers: a TryFrom would need an error with nothing to say.
+    #[tactic(auto, using(std::proofs::lemmas::Bool::Decides::nat_tests), unfolding(crate::specs::names::Kind::kind_of))]
     pub fn of_letter(letter: u8) -> Option<FileKind>
         ensures { result ≡ kind_of letter }
     {
         match letter {
-            68 => Some(FileKind::Default),
-            75 => Some(FileKind::Correction),
-            81 => Some(FileKind::Request),
-            82 => Some(FileKind::Response),
+            b'D' => Some(FileKind::Default),
+            b'K' => Some(FileKind::Correction),
+            b'Q' => Some(FileKind::Request),
+            b'R' => Some(FileKind::Response),
             _ => None,
         }
     }
@@ -28,10 +29,10 @@ impl FileKind {
         ensures { result ≡ letter_of self }
     {
         match self {
-            FileKind::Default => 68,
-            FileKind::Correction => 75,
-            FileKind::Request => 81,
-            FileKind::Response => 82,
+            FileKind::Default => b'D',
+            FileKind::Correction => b'K',
+            FileKind::Request => b'Q',
+            FileKind::Response => b'R',
         }
     }
 

@@ -6,16 +6,16 @@ use Rattle.layout.specs.Putting.{followed}
 use Rattle.layout.proofs.PutLaws.{room}
 use Rattle.layout.proofs.putting.put_networks.Goals as goal
 
-pub put_code-behind-requires : goal.put_code-behind-requires
-put_code-behind-requires c =
+pub put-behind-requires : goal.put-behind-requires
+put-behind-requires c =
     (room-first (followed (maybe_code_text c.args.gaining)) (followed (maybe_code_text c.args.losing)) (room c.args.out.now c.args.at (followed (maybe_code_text c.args.gaining) ++ followed (maybe_code_text c.args.losing)) c.requires.0), c.requires.1)
 
-pub put_code-requires : goal.put_code-requires
-put_code-requires c =
-    ((room_next (followed (maybe_code_text c.args.losing)) (room c.args.out.now c.args.at (followed (maybe_code_text c.args.gaining) ++ followed (maybe_code_text c.args.losing)) c.requires.0) c.put_code-behind.ensures).fits, c.requires.2)
+pub put-requires : goal.put-requires
+put-requires c =
+    ((room_next (followed (maybe_code_text c.args.losing)) (room c.args.out.now c.args.at (followed (maybe_code_text c.args.gaining) ++ followed (maybe_code_text c.args.losing)) c.requires.0) c.put-behind.ensures).fits, c.requires.2)
 
 pub shape_of-out : goal.shape_of-out
-shape_of-out c = laid-length (laid_then c.put_code-behind.ensures c.put_code.ensures)
+shape_of-out c = laid-length (laid_then c.put-behind.ensures c.put.ensures)
 
 pub returns : goal.returns
-returns c = laid_then c.put_code-behind.ensures c.put_code.ensures
+returns c = laid_then c.put-behind.ensures c.put.ensures

@@ -7,16 +7,16 @@ use Rattle.layout.specs.Putting.{followed}
 use Rattle.layout.proofs.PutLaws.{room}
 use Rattle.layout.proofs.putting.put_number.Goals as goal
 
-pub put_digits-behind-requires : goal.put_digits-behind-requires
-put_digits-behind-requires c =
+pub put-behind-requires : goal.put-behind-requires
+put-behind-requires c =
     (room-first (followed (digits_text c.args.number.first)) (followed (digits_text c.args.number.last)) (room c.args.out.now c.args.at (followed (digits_text c.args.number.first) ++ followed (digits_text c.args.number.last)) c.requires.0), first_fits c.args.number c.requires.1)
 
-pub put_digits-requires : goal.put_digits-requires
-put_digits-requires c =
-    ((room_next (followed (digits_text c.args.number.last)) (room c.args.out.now c.args.at (followed (digits_text c.args.number.first) ++ followed (digits_text c.args.number.last)) c.requires.0) c.put_digits-behind.ensures).fits, last_fits c.args.number c.requires.1)
+pub put-requires : goal.put-requires
+put-requires c =
+    ((room_next (followed (digits_text c.args.number.last)) (room c.args.out.now c.args.at (followed (digits_text c.args.number.first) ++ followed (digits_text c.args.number.last)) c.requires.0) c.put-behind.ensures).fits, last_fits c.args.number c.requires.1)
 
 pub shape_of-out : goal.shape_of-out
-shape_of-out c = laid-length (laid_then c.put_digits-behind.ensures c.put_digits.ensures)
+shape_of-out c = laid-length (laid_then c.put-behind.ensures c.put.ensures)
 
 pub returns : goal.returns
-returns c = laid_then c.put_digits-behind.ensures c.put_digits.ensures
+returns c = laid_then c.put-behind.ensures c.put.ensures

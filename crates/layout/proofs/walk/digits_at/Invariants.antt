@@ -1,14 +1,12 @@
 -- `layout::walk::digits_at` meets its contract: what the digits passed are worth, and what is left of the line, say what the field reads as. Assumes nothing.
-use Prim.Native.Nat.{◌+◌, ◌-◌, ◌*◌, ◌^◌, ◌≤◌, ◌<◌}
+use Prim.Native.Nat.{◌+◌, ◌-◌, ◌*◌, ◌^◌, ◌<◌}
 use mathlib.Core.Path.{◌≡◌}
 use lib.ListN.{drop}
-use Rattle.layout.specs.Walk.{digits_at}
+use Rattle.fields.specs.Number.{digits_field_of}
+use Rattle.layout.specs.Walk.{found_at}
 use Rattle.layout.proofs.DigitsWalk.{found}
 use Rattle.layout.proofs.walk.digits_at.Given as goal
 
 abbrev pub invariant-loop-i : goal.invariant-loop-i
 invariant-loop-i l =
-    (l.at ≤ l.i) × ((l.i ≤ l.at + 12) × ((digits_at l.s l.at ≡ found (l.at + 12 - l.i) l.n l.i (drop l.i l.s)) × (l.n < 2 * 10 ^ (l.i - l.at))))
-
-abbrev pub decreases-loop-i : goal.decreases-loop-i
-decreases-loop-i l = l.stop - l.i
+    (found_at digits_field_of l.s l.at ≡ found (l.at + 12 - l.i) l.n l.i (drop l.i l.s)) × (l.n < 2 * 10 ^ (l.i - l.at))

@@ -10,22 +10,22 @@ pub returns-in_default-number_at : goal.returns-in_default-number_at
 returns-in_default-number_at c =
     sym (walk_2 _ (sym c.digits_at.ensures ∙ c.in-Some.is) (sym c.number_at.ensures ∙ c.in_default-number_at.is))
 
-pub returns-in_default-date_at : goal.returns-in_default-date_at
-returns-in_default-date_at c =
-    sym (walk_3 _ (sym c.digits_at.ensures ∙ c.in-Some.is) (sym c.number_at.ensures ∙ c.in-Some-number_at.is) (sym c.date_at.ensures ∙ c.in_default-date_at.is))
+pub returns-in_default-field_at : goal.returns-in_default-field_at
+returns-in_default-field_at c =
+    sym (walk_3 _ (sym c.digits_at.ensures ∙ c.in-Some.is) (sym c.number_at.ensures ∙ c.in-Some-number_at.is) (sym c.field_at.ensures ∙ c.in_default-field_at.is))
 
-pub returns-in_default-code_at : goal.returns-in_default-code_at
-returns-in_default-code_at c =
-    sym (walk_4 _ (sym c.digits_at.ensures ∙ c.in-Some.is) (sym c.number_at.ensures ∙ c.in-Some-number_at.is) (sym c.date_at.ensures ∙ c.in-Some-date_at.is) (sym c.code_at.ensures ∙ c.in_default-code_at.is))
+pub returns-in_default-field_at-2 : goal.returns-in_default-field_at-2
+returns-in_default-field_at-2 c =
+    sym (walk_4 _ (sym c.digits_at.ensures ∙ c.in-Some.is) (sym c.number_at.ensures ∙ c.in-Some-number_at.is) (sym c.field_at.ensures ∙ c.in-Some-field_at.is) (sym c.field_at-2.ensures ∙ c.in_default-field_at-2.is))
 
-pub returns-in_default-code_at-2 : goal.returns-in_default-code_at-2
-returns-in_default-code_at-2 c =
-    sym (walk_5 _ (sym c.digits_at.ensures ∙ c.in-Some.is) (sym c.number_at.ensures ∙ c.in-Some-number_at.is) (sym c.date_at.ensures ∙ c.in-Some-date_at.is) (sym c.code_at.ensures ∙ c.in-Some-code_at.is) (sym c.code_at-2.ensures ∙ c.in_default-code_at-2.is))
+pub returns-in_default-field_at-3 : goal.returns-in_default-field_at-3
+returns-in_default-field_at-3 c =
+    sym (walk_5 _ (sym c.digits_at.ensures ∙ c.in-Some.is) (sym c.number_at.ensures ∙ c.in-Some-number_at.is) (sym c.field_at.ensures ∙ c.in-Some-field_at.is) (sym c.field_at-2.ensures ∙ c.in-Some-field_at-2.is) (sym c.field_at-3.ensures ∙ c.in_default-field_at-3.is))
 
-pub returns-in_default-kind_at : goal.returns-in_default-kind_at
-returns-in_default-kind_at c =
-    sym (walk_6 _ (sym c.digits_at.ensures ∙ c.in-Some.is) (sym c.number_at.ensures ∙ c.in-Some-number_at.is) (sym c.date_at.ensures ∙ c.in-Some-date_at.is) (sym c.code_at.ensures ∙ c.in-Some-code_at.is) (sym c.code_at-2.ensures ∙ c.in-Some-code_at-2.is) (sym c.kind_at.ensures ∙ c.in_default-kind_at.is))
+pub returns-in_default-last_at : goal.returns-in_default-last_at
+returns-in_default-last_at c =
+    sym (walk_6 _ (sym c.digits_at.ensures ∙ c.in-Some.is) (sym c.number_at.ensures ∙ c.in-Some-number_at.is) (sym c.field_at.ensures ∙ c.in-Some-field_at.is) (sym c.field_at-2.ensures ∙ c.in-Some-field_at-2.is) (sym c.field_at-3.ensures ∙ c.in-Some-field_at-3.is) (sym c.last_at.ensures ∙ c.in_default-last_at.is))
 
 pub returns : goal.returns
 returns c =
-    sym (walk-7 _ (sym c.digits_at.ensures ∙ c.in-Some.is) (sym c.number_at.ensures ∙ c.in-Some-number_at.is) (sym c.date_at.ensures ∙ c.in-Some-date_at.is) (sym c.code_at.ensures ∙ c.in-Some-code_at.is) (sym c.code_at-2.ensures ∙ c.in-Some-code_at-2.is) (sym c.kind_at.ensures ∙ c.in-Some-kind_at.is))
+    sym (walk-7 _ (sym c.digits_at.ensures ∙ c.in-Some.is) (sym c.number_at.ensures ∙ c.in-Some-number_at.is) (sym c.field_at.ensures ∙ c.in-Some-field_at.is) (sym c.field_at-2.ensures ∙ c.in-Some-field_at-2.is) (sym c.field_at-3.ensures ∙ c.in-Some-field_at-3.is) (sym c.last_at.ensures ∙ c.in-Some-last_at.is))

@@ -1,34 +1,14 @@
 -- `records::names::name::put` meets its contract. Assumes nothing.
-use Rattle.records.proofs.names.NameLaws.{put-name}
-use Rattle.laws.proofs.Overlay.{laid-length}
-use Rattle.laws.specs.Overlay.{overlay}
-use mathlib.Core.Path.{◌∙◌}
-use lib.ListN.{length-set}
 use native.Mathlib.Omega.{arith}
+use Rattle.laws.proofs.Overlay.{laid-length}
+use Rattle.laws.proofs.Digits.{length_digits}
+use Rattle.records.proofs.names.NameLaws.{laid-name}
 use Rattle.records.proofs.names.name.put.Goals as goal
 
-pub bounds-out-1 : goal.bounds-out-1
-bounds-out-1 c = simp length-set (omega (arith, c.requires))
-
-pub bounds-out-8 : goal.bounds-out-8
-bounds-out-8 c = simp length-set (omega (arith, c.requires))
-
-pub bounds-out-9 : goal.bounds-out-9
-bounds-out-9 c = simp length-set (omega (arith, c.requires))
-
-pub bounds-out-10 : goal.bounds-out-10
-bounds-out-10 c = simp length-set (omega (arith, c.requires))
-
-pub bounds-out-11 : goal.bounds-out-11
-bounds-out-11 c = simp length-set (omega (arith, c.requires))
-
-pub put_digits-requires : goal.put_digits-requires
-put_digits-requires c = simp length-set (omega (arith, c.requires))
-
-pub shape_of-out : goal.shape_of-out
-shape_of-out c = laid-length c.put_digits.ensures ∙ simp length-set
+pub put_all-requires : goal.put_all-requires
+put_all-requires c =
+    omega (arith, c.put_byte-kind.ensures.ends, c.put_byte-day.ensures.ends, c.put_digits-ending.ensures.ends, length_digits 6 c.args.n, laid-length c.put_byte-kind.ensures, laid-length c.put_byte-day.ensures, laid-length c.put_digits-ending.ensures)
 
 pub returns : goal.returns
-unfolding overlay
 returns c =
-    put-name c.args.out.now c.args.letter c.args.n c.put_digits.ensures
+    (laid-name c.args.letter c.args.n c.put_byte-kind.ensures c.put_byte-day.ensures c.put_digits-ending.ensures c.put_all.ensures).bytes

@@ -1,5 +1,0 @@
--- `fields::gaining::Gaining::field` meets its contract. Assumes nothing.
-use Rattle.fields.proofs.gaining.Gaining.field.Goals as goal
-
-pub returns-in-Code : goal.returns-in-Code
-returns-in-Code c = rw c.in-Code.is
