@@ -1,9 +1,8 @@
 -- The record at a place of a journal is the one of its file. Assumes nothing.
-use Rattle.std.specs.Prelude.{Option, Some, None}
+use Rattle.std.specs.Prelude.{Option, Some, None, Ok, Err}
 use mathlib.Core.Path.{◌≡◌, refl, sym, ap, ◌∙◌}
 use mathlib.Core.Bool.{Bool, true, false, cond}
-use mathlib.Core.List.{List, [], ◌∷◌, ◌++◌, head?, flat_map}
-use mathlib.Core.Option.{Option, none, some}
+use mathlib.Core.List.{List, [], ◌∷◌, ◌++◌, flat_map}
 use Prim.Native.Nat.{ℕ, zero, suc, ◌+◌, ◌-◌, ◌*◌, ◌≤◌, ◌<◌}
 use native.Mathlib.Decide.{ℕ_discrete}
 use native.Mathlib.Numerals.{add-one}
@@ -11,7 +10,7 @@ use native.Mathlib.Omega.{arith}
 use borrow.Author.Tests.{eqb-true, ne_eqb}
 use lib.Dec.{eqb}
 use lib.ListN.{length, take, length-append, get_or-append}
-use lib.Seq.{take_all, drop-append-add}
+use lib.Seq.{take_all}
 use Rattle.laws.specs.Lists.{table, keep, total}
 use Rattle.laws.proofs.Tables.{length-table, get_or-table}
 use Rattle.fields.specs.declared.number.Number.{Number}
@@ -30,8 +29,8 @@ use Rattle.store.specs.numbers.Find.{found_line}
 use Rattle.store.specs.Reads.{table_line}
 use Rattle.working.specs.Working.{record_in}
 use Rattle.working.proofs.SlipLaws.{records-more, own-records, records-grow}
-use Rattle.asking.specs.declared.record.Asked.{Asked}
-use Rattle.asking.specs.declared.looks.LookedRecord.{LookedRecord}
+use Rattle.asking.specs.declared.looks.RecordNotSeen.{RecordNotSeen}
+use Rattle.asking.specs.declared.record.ShownRecord.{ShownRecord}
 use Rattle.asking.specs.declared.record.AskedRecord.{AskedRecord}
 use Rattle.asking.specs.declared.record.Said.{Said}
 use Rattle.asking.specs.Items.{item_at}
@@ -39,7 +38,7 @@ use Rattle.asking.specs.Showable.{is_showable}
 use Rattle.asking.specs.Standing.{lines_in}
 use Rattle.asking.specs.Record.{kind_of, InFileAt, said_by, point_verdict, asked_as, asked_of, asked_in}
 use Rattle.asking.specs.Looks.{record_look, record_looked}
-use Rattle.asking.proofs.Lines.{item-at, item-none, item-table, found-line, no_line}
+use Rattle.asking.proofs.Lines.{item-behind, item-at, item-none, item-table, found-line, no_line}
 use Rattle.asking.proofs.Standings.{length-first}
 
 -- ---- a turn of the search for the file
@@ -60,7 +59,7 @@ module _ (file : ℕ → File) (kind place k at : ℕ) (f : File) (count : ℕ) 
             sum = inv;
           }
       go false s =
-          let none : records_in kind f ≡ 0 = unfold records_in in ap (λ (t : Bool). cond t f.count 0) s in
+          let None : records_in kind f ≡ 0 = unfold records_in in ap (λ (t : Bool). cond t f.count 0) s in
           absurd (omega (arith, q))
 
   pub located-on : count ≤ at → records_of kind (table (k + 1) file) + (at - count) ≡ place
@@ -70,7 +69,7 @@ module _ (file : ℕ → File) (kind place k at : ℕ) (f : File) (count : ℕ) 
 
 -- ---- the journal of a kind, file by file
 item-left : {A : Type 0} (l m : List A) (i : ℕ) (d : A) → i < length l → item_at (l ++ m) i ≡ item_at l i
-item-left l m i d h = item-at (l ++ m) i d (omega (arith, length-append l m)) ∙ ap some (get_or-append l m d i h) ∙ sym (item-at l i d h)
+item-left l m i d h = item-at (l ++ m) i d (omega (arith, length-append l m)) ∙ ap Some (get_or-append l m d i h) ∙ sym (item-at l i d h)
 
 module _ (r : ℕ → ℕ → List ℕ) (file : ℕ → File) (kind : ℕ) where
   -- the first n files, and the one behind them
@@ -114,11 +113,11 @@ module _ (r : ℕ → ℕ → List ℕ) (file : ℕ → File) (kind : ℕ) where
     | no ne ↦ omega (arith, ap length (journal-no n ne), journal-length n, records-more kind n file, none_in n ne)
   ]
 
-  event-in : (n i : ℕ) → i < (file n).count → item_at (events (own n)) i ≡ some (event_at (own n) i)
+  event-in : (n i : ℕ) → i < (file n).count → item_at (events (own n)) i ≡ Some (event_at (own n) i)
   unfolding events
   event-in n i h = item-table (length (own n).records) i (event_at (own n)) (omega (arith, length-events n, length-table (length (own n).records) (event_at (own n))))
 
-  pub journal-at : (n k i : ℕ) → k < n → (file k).kind ≡ kind → i < (file k).count → item_at (journal_of kind (first n)) (records_of kind (table k file) + i) ≡ some (event_at (own k) i)
+  pub journal-at : (n k i : ℕ) → k < n → (file k).kind ≡ kind → i < (file k).count → item_at (journal_of kind (first n)) (records_of kind (table k file) + i) ≡ Some (event_at (own k) i)
   journal-at zero k i h e b = absurd (omega arith)
   journal-at (suc n) k i h e b = elim (ℕ_discrete k n) [
     | yes same ↦ ap (λ (m : ℕ). item_at (journal_of kind (first (suc m))) (records_of kind (table k file) + i)) (sym same) ∙ here
@@ -131,11 +130,11 @@ module _ (r : ℕ → ℕ → List ℕ) (file : ℕ → File) (kind : ℕ) where
       within : (m : ℕ) → k < m → records_of kind (table k file) + i < length (journal_of kind (first m))
       within m g = omega (arith, journal-length m, records-grow kind (suc k) m file (omega arith), records-more kind k file, own-records (file k) kind e)
 
-      here : item_at (journal_of kind (first (suc k))) (records_of kind (table k file) + i) ≡ some (event_at (own k) i)
+      here : item_at (journal_of kind (first (suc k))) (records_of kind (table k file) + i) ≡ Some (event_at (own k) i)
       here =
           ap (λ (l : List Event). item_at l (records_of kind (table k file) + i)) (journal-yes k e)
           ∙ ap (λ (m : ℕ). item_at (journal_of kind (first k) ++ events (own k)) (m + i)) (sym (journal-length k))
-          ∙ ap (λ (l : List Event). head? l) (drop-append-add (journal_of kind (first k)) (events (own k)) i)
+          ∙ item-behind (journal_of kind (first k)) (events (own k)) i
           ∙ event-in k i b
 
   event-same : (k i : ℕ) → i < (file k).count → event_at (own k) i ≡ record { kind = (file k).kind; publisher = (file k).publisher; day = (file k).day; place = i; bytes = r (file k).kind (records_of (file k).kind (table k file) + i) }
@@ -150,14 +149,14 @@ module _ (r : ℕ → ℕ → List ℕ) (file : ℕ → File) (kind : ℕ) where
 
 -- ---- in the buffers
 module _ (f r c : List ℕ) (n kind place : ℕ) where
-  pub record-located : (k at : ℕ) → InFileAt (file_at f) n kind place k at → item_at (journal_of kind (first_files n f r c)) place ≡ some (record_in f r c k at)
+  pub record-located : (k at : ℕ) → InFileAt (file_at f) n kind place k at → item_at (journal_of kind (first_files n f r c)) place ≡ Some (record_in f r c k at)
   unfolding first_files record_in
   record-located k at w =
       ap (item_at (journal_of kind (first_files n f r c))) (sym w.sum)
       ∙ journal-at (records_at r c) (file_at f) kind n k at w.listed w.same w.within
-      ∙ ap some (event-same (records_at r c) (file_at f) kind k at w.within)
+      ∙ ap Some (event-same (records_at r c) (file_at f) kind k at w.within)
 
-  pub record-beyond : records_of kind (table n (file_at f)) ≤ place → item_at (journal_of kind (first_files n f r c)) place ≡ none
+  pub record-beyond : records_of kind (table n (file_at f)) ≤ place → item_at (journal_of kind (first_files n f r c)) place ≡ None
   unfolding first_files
   record-beyond h = item-none (journal_of kind (first_files n f r c)) place (omega (arith, journal-length (records_at r c) (file_at f) kind n))
 
@@ -174,24 +173,28 @@ module _ (t f r c : List ℕ) (files : List Filed) (k at : ℕ) (room : 2 + line
       (sym e ∙ ap (λ (u : Said). line_of rules (lines_in t) u.number) said)
 
   pub asked-unknown : None ≡ found_line t s.number → shown_with s Verdict.UnknownNumber ≡ asked_as (lines_in t) files (record_in f r c k at)
-  asked-unknown q = ap (λ (u : Said). shown_with u Verdict.UnknownNumber) said ∙ as-asked none (no_line t s.number room q)
+  asked-unknown q = ap (λ (u : Said). shown_with u Verdict.UnknownNumber) said ∙ as-asked None (no_line t s.number room q)
 
-  pub asked_here : (i : ℕ) → Some i ≡ found_line t s.number → (v : Verdict) → v ≡ point_verdict files (record_in f r c k at) s.rec (some (table_line (line_at t i)))
+  pub asked_here : (i : ℕ) → Some i ≡ found_line t s.number → (v : Verdict) → v ≡ point_verdict files (record_in f r c k at) s.rec (Some (table_line (line_at t i)))
       → shown_with s v ≡ asked_as (lines_in t) files (record_in f r c k at)
   asked_here i q v ev =
-      ap (shown_with s) ev ∙ ap (λ (u : Said). shown_with u (point_verdict files (record_in f r c k at) u.rec (some (table_line (line_at t i))))) said
-      ∙ as-asked (some (table_line (line_at t i))) (found-line t s.number room i q)
+      ap (shown_with s) ev ∙ ap (λ (u : Said). shown_with u (point_verdict files (record_in f r c k at) u.rec (Some (table_line (line_at t i))))) said
+      ∙ as-asked (Some (table_line (line_at t i))) (found-line t s.number room i q)
 
 module _ (t f r c : List ℕ) (which : Journal) (place : ℕ) where
-  pub record-unshowable : is_showable t f r c ≡ false → LookedRecord.Unshowable ≡ record_looked t f r c which place
+  pub record-unshowable : is_showable t f r c ≡ false → Err RecordNotSeen.Unshowable ≡ record_looked t f r c which place
   unfolding record_looked
   record-unshowable e = rw e
 
   module _ (yes : is_showable t f r c ≡ true) (n : ℕ) (en : n ≡ file_count f) where
+    -- what is shown of a record at this place
+    abbrev at-place : AskedRecord → ShownRecord
+    at-place a = record { journal = which; place = place; shown = a }
+
     all-files : first_files n f r c ≡ read_files f r c
     all-files = ap (λ (k : ℕ). first_files k f r c) en
 
-    pub asked-beyond : records_of (kind_of which) (table n (file_at f)) ≤ place → LookedRecord.Beyond ≡ record_looked t f r c which place
+    pub asked-beyond : records_of (kind_of which) (table n (file_at f)) ≤ place → Err RecordNotSeen.Beyond ≡ record_looked t f r c which place
     unfolding record_looked asked_in
     asked-beyond h =
         rw yes
@@ -200,12 +203,12 @@ module _ (t f r c : List ℕ) (which : Journal) (place : ℕ) where
         ∙ ap (asked_of (lines_in t) (read_files f r c) which place) (record-beyond f r c n (kind_of which) place h))))
 
     pub asked-record : (k at : ℕ) (a : AskedRecord) → InFileAt (file_at f) n (kind_of which) place k at → a ≡ asked_as (lines_in t) (take n (read_files f r c)) (record_in f r c k at)
-        → LookedRecord.Record which place a ≡ record_looked t f r c which place
+        → Ok (at-place a) ≡ record_looked t f r c which place
     unfolding record_looked asked_in
     asked-record k at a w ea =
         rw yes
         (ap record_look
-        (ap (Asked.Record which place) ea
-        ∙ ap (λ (fs : List Filed). Asked.Record which place (asked_as (lines_in t) fs (record_in f r c k at))) (take_all n (read_files f r c) (omega (arith, length-first (file_count f) f r c)))
+        (ap (λ (b : AskedRecord). Ok (at-place b)) ea
+        ∙ ap (λ (fs : List Filed). Ok (at-place (asked_as (lines_in t) fs (record_in f r c k at)))) (take_all n (read_files f r c) (omega (arith, length-first (file_count f) f r c)))
         ∙ sym (ap (λ (fs : List Filed). asked_of (lines_in t) (read_files f r c) which place (item_at (journal_of (kind_of which) fs) place)) (sym all-files)
         ∙ ap (asked_of (lines_in t) (read_files f r c) which place) (record-located f r c n (kind_of which) place k at w))))

@@ -1,10 +1,9 @@
 -- The answers on where a line stands and on a number's entry, put together from what the code found. Assumes nothing.
-use Rattle.std.specs.Prelude.{Option, Some, None}
+use Rattle.std.specs.Option.{option_map}
+use Rattle.std.specs.Prelude.{Some, None, Ok, Err}
 use mathlib.Core.Path.{◌≡◌, refl, sym, ap, ◌∙◌}
 use mathlib.Core.Bool.{Bool, true, false, cond, ◌&&◌}
 use mathlib.Core.List.{List, [], ◌∷◌, ◌++◌}
-use mathlib.Core.Option
-use mathlib.Core.Option.{Option, none, some}
 use Prim.Native.Nat.{ℕ, suc, ◌+◌, ◌*◌, ◌≤◌, ◌<◌}
 use native.Mathlib.Omega.{arith}
 use borrow.Author.Tests.{ltb-true, ltb-false, leb-true, lt-leb, le-leb}
@@ -26,13 +25,11 @@ use Rattle.rules.proofs.Promises.{standing-entry}
 use Rattle.store.specs.numbers.Lines.{line_at, line_count, lines_of}
 use Rattle.store.specs.numbers.Find.{found_line}
 use Rattle.store.specs.Reads.{table_line}
-use Rattle.asking.specs.declared.answer.Answer.TheVariants.{Shown, UnknownNumber}
-use Rattle.asking.specs.declared.looks.Look.{Look}
-use Rattle.asking.specs.declared.looks.LookedStanding.{LookedStanding}
-use Rattle.asking.specs.declared.entry.EntryAnswer.{EntryAnswer}
+use Rattle.asking.specs.declared.answer.NotShown.{NotShown}
+use Rattle.asking.specs.declared.looks.NotSeen.{NotSeen}
 use Rattle.asking.specs.Items.{item_at}
-use Rattle.asking.specs.Standing.{lines_in, not_held, held_as, entry_in, entry_before, has_entries}
-use Rattle.asking.specs.Looks.{not_stood, stood_on, stood_at}
+use Rattle.asking.specs.Standing.{lines_in, held_as, entry_in, entry_before, has_entries}
+use Rattle.asking.specs.Looks.{stood_on, stood_at}
 use Rattle.asking.proofs.Lines.{item-table, item-beyond, found-line, no_line, found-entry, no-entry}
 
 -- an answer where the test of the buffers holds
@@ -68,17 +65,17 @@ among-files f r c n m e = ap (λ (k : ℕ). take k (read_files f r c)) e ∙ tak
 
 -- ---- where a line stands
 module _ (t : List ℕ) (files : List Filed) (n i : ℕ) where
-  pub stood-beyond : line_count t ≤ i → not_stood Look.UnknownNumber ≡ stood_at (lines_in t) files n i
+  pub stood-beyond : line_count t ≤ i → Err NotSeen.UnknownNumber ≡ stood_at (lines_in t) files n i
   unfolding stood_at lines_of
   stood-beyond h =
       sym
       (ap (stood_on (take n files))
       (ap (λ l. item_at l i) (map-table table_line (line_count t) (line_at t)) ∙ item-beyond (line_count t) i (λ (j : ℕ). table_line (line_at t j)) h))
 
-  pub stood-here : (s : Standing) → i < line_count t → s ≡ entry_over standings (take n files) (table_line (line_at t i)) → ◌≡◌ {A = LookedStanding} (record { look = Look.Shown; standing = s }) (stood_at (lines_in t) files n i)
+  pub stood-here : (s : Standing) → i < line_count t → s ≡ entry_over standings (take n files) (table_line (line_at t i)) → Ok s ≡ stood_at (lines_in t) files n i
   unfolding stood_at lines_of
   stood-here s h e =
-      (λ k. record { look = Look.Shown; standing = e k })
+      ap Ok e
       ∙ sym
       (ap (stood_on (take n files))
       (ap (λ l. item_at l i) (map-table table_line (line_count t) (line_at t)) ∙ item-table (line_count t) i (λ (j : ℕ). table_line (line_at t j)) h))
@@ -117,23 +114,23 @@ module _ (t e : List ℕ) where
 
 module _ (t : List ℕ) (x : Number) (room : 2 + line_count t * 14 ≤ length t) where
   module _ (g : ℕ → Entry) where
-    pub held-unknown : None ≡ found_line t x → not_held UnknownNumber ≡ entry_in (lines_in t) (table (line_count t) g) x
+    pub held-unknown : None ≡ found_line t x → Err NotShown.UnknownNumber ≡ entry_in (lines_in t) (table (line_count t) g) x
     unfolding entry_in
     held-unknown q = sym (ap held_as (no-entry t x room g q))
 
-    pub held-here : (i : ℕ) (y : Entry) → Some i ≡ found_line t x → y ≡ g i → ◌≡◌ {A = EntryAnswer} (record { answer = Shown; entry = y }) (entry_in (lines_in t) (table (line_count t) g) x)
+    pub held-here : (i : ℕ) (y : Entry) → Some i ≡ found_line t x → y ≡ g i → Ok y ≡ entry_in (lines_in t) (table (line_count t) g) x
     unfolding entry_in
-    held-here i y q p = (λ k. record { answer = Shown; entry = p k }) ∙ sym (ap held_as (found-entry t x room g i q))
+    held-here i y q p = ap Ok p ∙ sym (ap held_as (found-entry t x room g i q))
 
   -- ---- the entry before a file arrived
   module _ (files : List Filed) (n : ℕ) where
-    pub before-unknown : None ≡ found_line t x → not_held UnknownNumber ≡ entry_before (lines_in t) files n x
+    pub before-unknown : None ≡ found_line t x → Err NotShown.UnknownNumber ≡ entry_before (lines_in t) files n x
     unfolding entry_before
-    before-unknown q = sym (ap (λ l. held_as (Option.map (entry_over rules (take n files)) l)) (no_line t x room q))
+    before-unknown q = sym (ap (λ l. held_as (option_map (entry_over rules (take n files)) l)) (no_line t x room q))
 
     pub before_here : (i : ℕ) (y : Entry) (s : Standing) → Some i ≡ found_line t x → s ≡ entry_over standings (take n files) (table_line (line_at t i)) → y ≡ s.entry
-        → ◌≡◌ {A = EntryAnswer} (record { answer = Shown; entry = y }) (entry_before (lines_in t) files n x)
+        → Ok y ≡ entry_before (lines_in t) files n x
     unfolding entry_before
     before_here i y s q e p =
-        (λ k. record { answer = Shown; entry = (p ∙ ap (λ (u : Standing). u.entry) e ∙ standing-entry (take n files) (table_line (line_at t i))) k })
-        ∙ sym (ap (λ l. held_as (Option.map (entry_over rules (take n files)) l)) (found-line t x room i q))
+        ap Ok (p ∙ ap (λ (u : Standing). u.entry) e ∙ standing-entry (take n files) (table_line (line_at t i)))
+        ∙ sym (ap (λ l. held_as (option_map (entry_over rules (take n files)) l)) (found-line t x room i q))

@@ -3,65 +3,64 @@ ghost use Rattle.std.specs.Prelude.{◌≡◌};
 ghost use Rattle.asking.specs.Why.{first_place, second_place, part_at};
 ghost use Rattle.asking.specs.Looks.{why_looked};
 
-use crate::looks::LookedWhy;
-use crate::pairs::WhyAnswer;
+use crate::answer::NotShown;
+use crate::looks::NotSeen;
+use crate::pairs::{Pair, pair_in};
 use crate::{showable, stand};
 use fields::number::Number;
 use store::journals::records::{Journal, REPORTS};
 use store::journals::{files, records};
 use store::numbers::find;
 
-// Why a number stands where it does: a look.
+// Why a number stands where it does: a look. It shows the pair that confirmed last, or that there is none.
 pub fn look<'a>(
     table: &[u8],
     files: &'a [u8],
     regular: &'a [u8],
     corrections: &'a [u8],
     number: Number,
-) -> LookedWhy
+) -> Result<Option<Pair>, NotSeen>
     ensures { result ≡ why_looked table.now files.now regular.now corrections.now number }
 {
     if !showable::showable(table, files, regular, corrections) {
-        return LookedWhy::Unshowable;
+        return Err(NotSeen::Unshowable);
     }
-    let found = find::find_line(table, number);
-    match found {
-        Some(i) => {
-            let n = files::file_count(files);
-            let s = stand::standing_at(table, files, n, regular, corrections, i);
-            let w = s.why;
-            crate::pairs::pair_in(files, n, w)
-        }
-        None => LookedWhy::UnknownNumber,
-    }
+    let Some(i) = find::find_line(table, number) else {
+        return Err(NotSeen::UnknownNumber);
+    };
+    let n = files::file_count(files);
+    let s = stand::standing_at(table, files, n, regular, corrections, i);
+    Ok(pair_in(files, n, s.why))
 }
 
 // The place of the pair's first report; where no pair is shown, one beyond all reports.
-fn first_place(answer: WhyAnswer) -> usize
+fn first_place(answer: Result<Option<Pair>, NotShown>) -> usize
     ensures { result ≡ first_place answer }
 {
     match answer {
-        WhyAnswer::Pair(a, _) => a.place,
-        WhyAnswer::Nothing => REPORTS,
-        WhyAnswer::UnknownNumber => REPORTS,
-        WhyAnswer::Unreadable => REPORTS,
+        Ok(Some(pair)) => pair.first.place,
+        Ok(None) => REPORTS,
+        Err(_) => REPORTS,
     }
 }
 
 // The place of its second report.
-fn second_place(answer: WhyAnswer) -> usize
+fn second_place(answer: Result<Option<Pair>, NotShown>) -> usize
     ensures { result ≡ second_place answer }
 {
     match answer {
-        WhyAnswer::Pair(_, b) => b.place,
-        WhyAnswer::Nothing => REPORTS,
-        WhyAnswer::UnknownNumber => REPORTS,
-        WhyAnswer::Unreadable => REPORTS,
+        Ok(Some(pair)) => pair.second.place,
+        Ok(None) => REPORTS,
+        Err(_) => REPORTS,
     }
 }
 
 // The bytes of the pair's first report, a part of the regular journal; empty where no pair is shown.
-pub fn first_part<'a>(regular: &'a [u8], corrections: &'a [u8], answer: WhyAnswer) -> &'a [u8]
+pub fn first_part<'a>(
+    regular: &'a [u8],
+    corrections: &'a [u8],
+    answer: Result<Option<Pair>, NotShown>,
+) -> &'a [u8]
     ensures { result.now ≡ part_at regular.now (first_place answer) }
 {
     let first = first_place(answer);
@@ -69,7 +68,11 @@ pub fn first_part<'a>(regular: &'a [u8], corrections: &'a [u8], answer: WhyAnswe
 }
 
 // The bytes of its second report.
-pub fn second_part<'a>(regular: &'a [u8], corrections: &'a [u8], answer: WhyAnswer) -> &'a [u8]
+pub fn second_part<'a>(
+    regular: &'a [u8],
+    corrections: &'a [u8],
+    answer: Result<Option<Pair>, NotShown>,
+) -> &'a [u8]
     ensures { result.now ≡ part_at regular.now (second_place answer) }
 {
     let second = second_place(answer);

@@ -1,6 +1,6 @@
 -- Laws of years and months: how many days they have, where they start, and in which one a day lies.
 -- Assumes nothing.
-use mathlib.Core.Path.{◌≡◌, refl, sym, ◌∙◌}
+use mathlib.Core.Path.{◌≡◌, refl, sym, ap, ◌∙◌}
 use mathlib.Core.Bool.{Bool, true, false, cond, not}
 use mathlib.Core.Logic.{⊎_elim}
 use mathlib.Core.List.{List}
@@ -9,7 +9,7 @@ use native.Mathlib.Numerals.{add-one}
 use native.Mathlib.Omega.{arith}
 use lib.Dec.{leb, ltb, eqb, lit≤}
 use lib.ListN.{get_or, get_or-eq_default}
-use borrow.Author.Tests.{leb-true, leb-false, eqb-true, eqb-false, lt-ltb, le-ltb}
+use borrow.Author.Tests.{le-leb, lt-leb, leb-true, leb-false, eqb-true, eqb-false, lt-ltb, le-ltb}
 use Rattle.laws.specs.Sums.{sum_to}
 use Rattle.laws.proofs.Sums.{sum_to-suc, sum_to-mono}
 use Rattle.laws.specs.Lists.{all, table}
@@ -182,6 +182,30 @@ pub record YearAt (n y : ℕ) : Type 0 where
   pub from : year_start y ≤ n
   pub to : n < year_start y + year_days y
 
+month-zero : (y n m : ℕ) → m < 2 → month_start y m ≤ n
+unfolding month_start sum_to month_days
+month-zero y n zero h = zero-le
+month-zero y n (suc zero) h = zero-le
+month-zero y n (suc (suc m)) h = absurd (omega arith)
+
+-- the months tried from the last one back: the day does not lie before this one, or it does
+module _ (start : ℕ → ℕ) (n k : ℕ) (h : 0 < k) where
+  pub last_from-here : start (k - 1) ≤ n → last_from start k n ≡ k - 1
+  unfolding last_from
+  last_from-here p =
+      let e : k ≡ suc (k - 1) = omega arith in
+      ap (λ (i : ℕ). last_from start i n) e ∙ rw (le-leb (start (k - 1)) n p)
+
+  pub last_from-on : n < start (k - 1) → last_from start k n ≡ last_from start (k - 1) n
+  unfolding last_from
+  last_from-on p =
+      let e : k ≡ suc (k - 1) = omega arith in
+      ap (λ (i : ℕ). last_from start i n) e ∙ rw (lt-leb (start (k - 1)) n p)
+
+-- before February it is January
+pub month-one : (y n : ℕ) → last_from (month_start y) 2 n ≡ 1
+month-one y n = last_from-here (month_start y) n 2 (omega arith) (month-zero y n 1 (omega arith))
+
 -- the day n of the year y, from 0, lies in month m
 pub record MonthAt (y n m : ℕ) : Type 0 where
   pub first : 1 ≤ m
@@ -193,12 +217,6 @@ pub month-is : (y n m : ℕ) → MonthAt y n m → month_of y n ≡ m
 unfolding month_of
 month-is y n m h =
     last_from-is (month_start y) (month_start-mono y) n 13 m (omega arith) h.from (omega (arith, month_start-next y m))
-
-month-zero : (y n m : ℕ) → m < 2 → month_start y m ≤ n
-unfolding month_start sum_to month_days
-month-zero y n zero h = zero-le
-month-zero y n (suc zero) h = zero-le
-month-zero y n (suc (suc m)) h = absurd (omega arith)
 
 -- the year 1998 + i has begun by the day n exactly if 1461 * i is at most 4 * n + 2
 year-from : (i n : ℕ) → 1461 * i ≤ 4 * n + 2 → year_start (1998 + i) ≤ n

@@ -4,19 +4,19 @@ ghost use Rattle.calendar.specs.Dates.{leap, year_days, month_days, year_start, 
 ghost use Rattle.calendar.specs.Answers.{day_of, date_of, full_year, weekday_of};
 
 // A count of calendar days (KT); as a day's number, those since 1998-01-01.
-#[derive(Clone, Copy)]
+#[derive(Clone, Copy, PartialEq, Eq)]
 pub struct CalendarDays(pub u16);
 
 // A date, of the calendar or not.
-#[derive(Clone, Copy)]
+#[derive(Clone, Copy, PartialEq, Eq)]
 pub struct Date {
     pub year: u16,
     pub month: u8,
     pub day: u8,
 }
 
-// The day of the week on which a day falls.
-#[derive(Clone, Copy)]
+// The day of the week on which a day falls. `Outside` stands beside the seven days, as `weekday_of` in specs/ and what specs/Paper says of it have it.
+#[derive(Clone, Copy, PartialEq, Eq)]
 pub enum Weekday {
     Outside,
     Monday,
@@ -66,8 +66,7 @@ fn month_days(year: u16, month: u8) -> u16
         }
         return 28;
     }
-    let i = month as usize;
-    MONTHS[i]
+    MONTHS[month as usize]
 }
 
 // The day number of 1 January: 365 for each year since 1998, and the leap days among them.
@@ -83,8 +82,7 @@ fn month_start(year: u16, month: u8) -> u16
     requires { (1998 ≤ year) × (year ≤ 2049) × (month ≤ 12) }
     ensures { result ≡ month_start year month }
 {
-    let i = month as usize;
-    let before = MONTH_STARTS[i];
+    let before = MONTH_STARTS[month as usize];
     if month < 3 {
         return before;
     }
@@ -98,9 +96,8 @@ fn month_start(year: u16, month: u8) -> u16
 pub fn day_of(date: Date) -> Option<CalendarDays>
     ensures { result ≡ day_of date }
 {
-    let year = date.year;
-    let month = date.month;
-    let day = date.day as u16;
+    let Date { year, month, day } = date;
+    let day = day as u16;
     if year < 1998 {
         return None;
     }
@@ -131,13 +128,12 @@ fn month_of(year: u16, n: u16) -> u8
     requires { (1998 ≤ year) × (year ≤ 2049) × (n < year_days year) }
     ensures { result ≡ month_of year n }
 {
-    let mut month: u8 = 1;
-    let mut next = month_days(year, 1);
-    while next <= n {
-        month = month + 1;
-        next = next + month_days(year, month);
+    for month in (2..13).rev() {
+        if month_start(year, month) <= n {
+            return month;
+        }
     }
-    month
+    1
 }
 
 // The date of a day.
@@ -153,8 +149,8 @@ pub fn date_of(day: CalendarDays) -> Option<Date>
     let month = month_of(year, m);
     let d = m - month_start(year, month);
     Some(Date {
-        year: year,
-        month: month,
+        year,
+        month,
         day: (d + 1) as u8,
     })
 }
@@ -163,17 +159,11 @@ pub fn date_of(day: CalendarDays) -> Option<Date>
 pub fn full_year(two: u8) -> Option<u16>
     ensures { result ≡ full_year two }
 {
-    let y = two as u16;
-    if two < 50 {
-        return Some(2000 + y);
+    match two {
+        0..=49 => Some(2000 + two as u16),
+        98 | 99 => Some(1900 + two as u16),
+        _ => None,
     }
-    if two < 98 {
-        return None;
-    }
-    if 99 < two {
-        return None;
-    }
-    Some(1900 + y)
 }
 
 // Whether a day lies in the calendar.
@@ -191,6 +181,5 @@ pub fn weekday_of(day: CalendarDays) -> Weekday
     if LAST_DAY < n {
         return Weekday::Outside;
     }
-    let i = ((n + 3) % 7) as usize;
-    WEEK[i]
+    WEEK[((n + 3) % 7) as usize]
 }

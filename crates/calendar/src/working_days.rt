@@ -8,11 +8,11 @@ use crate::dates::{CalendarDays, LAST_DAY};
 use crate::holidays::is_holiday;
 
 // A count of working days (AT).
-#[derive(Drop)]
+#[derive(Clone, Copy, PartialEq, Eq)]
 pub struct WorkingDays(pub u8);
 
-// What a day is.
-#[derive(Drop)]
+// What a day is: three answers, as `dagskimra_kind_of_day` gives them.
+#[derive(Clone, Copy, PartialEq, Eq)]
 pub enum DayKind {
     Working,
     Free,
@@ -24,13 +24,7 @@ fn works(day: u16) -> bool
     requires { day ≤ 18992 }
     ensures { result ≡ working day }
 {
-    if (day + 3) % 7 < 5 {
-        if is_holiday(day) {
-            return false;
-        }
-        return true;
-    }
-    false
+    (day + 3) % 7 < 5 && !is_holiday(day)
 }
 
 // Whether a day is a working day.
@@ -51,20 +45,21 @@ pub fn kind_of(day: CalendarDays) -> DayKind
 pub fn working_day_after(day: CalendarDays, count: WorkingDays) -> Option<CalendarDays>
     ensures { result ≡ working_day_after day.0 count.0 }
 {
-    let mut d = day.0;
+    let d = day.0;
     let mut left = count.0;
     if LAST_DAY < d {
         return None;
     }
-    while 0 < left {
-        if d == LAST_DAY {
-            return None;
-        }
-        let next = d + 1;
-        if works(next) {
-            left = left - 1;
-        }
-        d = next;
+    if left == 0 {
+        return Some(day);
     }
-    Some(CalendarDays(d))
+    for next in d + 1..=LAST_DAY {
+        if works(next) {
+            left -= 1;
+            if left == 0 {
+                return Some(CalendarDays(next));
+            }
+        }
+    }
+    None
 }

@@ -2,7 +2,14 @@
 ghost use Rattle.std.specs.Prelude.{◌≡◌, ◌≤◌};
 ghost use Rattle.commands.specs.Arrivals.{files_in, file_in};
 
-use store::journals::files::File;
+use store::journals::files::{FILES, FILES_LENGTH, File};
+
+const NO_FILE: File = File {
+    kind: 0,
+    publisher: 0,
+    day: 0,
+    count: 0,
+};
 
 // How many files there are, and at most as many as the list takes.
 pub fn count(files: &[u8]) -> usize
@@ -12,29 +19,15 @@ pub fn count(files: &[u8]) -> usize
     if files.len() < 2 {
         return 0;
     }
-    let n = store::journals::files::file_count(files);
-    if n < 1024 { n } else { 1024 }
+    store::journals::files::file_count(files).min(FILES)
 }
 
 // The file at a place of the list; one of no records where there is none.
 pub fn file_at(files: &[u8], i: usize) -> File
     ensures { result ≡ file_in files.now i }
 {
-    if 1023 < i {
-        return File {
-            kind: 0,
-            publisher: 0,
-            day: 0,
-            count: 0,
-        };
-    }
-    if files.len() < store::journals::files::FILES_LENGTH {
-        return File {
-            kind: 0,
-            publisher: 0,
-            day: 0,
-            count: 0,
-        };
+    if FILES <= i || files.len() < FILES_LENGTH {
+        return NO_FILE;
     }
     store::journals::files::file_at(files, i)
 }

@@ -1,33 +1,27 @@
 // The columns of a refusal with 4: where its fault is, and why.
-use desk::{Host, page};
-use page::{Page, ROOM};
+use faults::cause::{Cause, FaultPlace};
+use std::fmt;
+use std::fmt::{Display, Formatter, Write};
 
-// The word of a cause, by its number.
-fn cause(rt: &impl Host, p: Page, room: &mut [u8; ROOM], number: u8) -> Page {
-    match number {
-        1 => page::text(rt, p, room, b"character"),
-        2 => page::text(rt, p, room, b"length"),
-        3 => page::text(rt, p, room, b"date"),
-        4 => page::text(rt, p, room, b"code"),
-        5 => page::text(rt, p, room, b"value"),
-        6 => page::text(rt, p, room, b"closing"),
-        _ => page::text(rt, p, room, b"after"),
+fn word(cause: Cause) -> &'static str {
+    match cause {
+        Cause::Character => "character",
+        Cause::Length => "length",
+        Cause::Date => "date",
+        Cause::Code => "code",
+        Cause::Value => "value",
+        Cause::Closing => "closing",
+        Cause::After => "after",
     }
 }
 
+#[derive(Clone, Copy)]
+pub struct Columns(pub FaultPlace, pub Cause);
+
 // 4 PLACE FIELD CAUSE
-pub fn columns(
-    rt: &impl Host,
-    first: Page,
-    room: &mut [u8; ROOM],
-    place: usize,
-    field: usize,
-    number: u8,
-) -> Page {
-    let mut p = page::text(rt, first, room, b"4\t");
-    p = page::number(rt, p, room, place as u64);
-    p = page::tab(rt, p, room);
-    p = page::number(rt, p, room, field as u64);
-    p = page::tab(rt, p, room);
-    cause(rt, p, room, number)
+impl Display for Columns {
+    fn fmt<W: Write>(&self, f: &mut Formatter<W>) -> fmt::Result {
+        let FaultPlace { place, field } = self.0;
+        write!(f, "4\t{place}\t{field}\t{}", word(self.1))
+    }
 }

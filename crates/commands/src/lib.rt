@@ -1,6 +1,5 @@
-// The commands that need no answer from a store: start, read. And what every command does: open the store, end with a status.
-// The lines on standard output are tab separated. A command answers its status: 0 all was done, 1 something was refused, 2 the
-// command line or a file is at fault.
+// The commands that need no answer from a store: start, read. And what every command does: open the store, and end.
+// The lines on standard output are tab separated.
 #![tactic(auto)]
 
 pub mod arrivals;

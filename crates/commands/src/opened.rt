@@ -1,35 +1,51 @@
 // A store opened for a question.
-ghost use Rattle.store.specs.Reads.{lent};
+ghost use Rattle.std.specs.Prelude.{◌≤◌, length, Err, IfOk};
+ghost use Rattle.desk.specs.declared.failure.Failure.TheVariants.{Refused};
+ghost use Rattle.disk.specs.Books.{buffers_of};
 ghost use Rattle.commands.specs.Status.{Ends, Opens};
 
 use crate::end;
-use desk::Host;
-use disk::{CORRECTIONS, ENTRIES, FILES, REGULAR, TABLE, saved};
+use desk::place::PATH_MAX;
+use desk::{Ended, Failure, Host, args};
+use disk::parts::HolidayList;
+use disk::saved::LoadError;
+use disk::{Books, saved};
+use words::refusal::Refusal;
 
 // The store is damaged: `refused` 44.
-pub fn damaged(rt: &impl Host, folder: &[u8]) -> u8
-    ensures { Ends 1 result }
+pub fn damaged(rt: &impl Host, folder: &[u8]) -> Ended
+    ensures { Ends (Err Refused) result }
 {
-    words::refusal::refused(rt, folder, 44);
-    end::refused(rt, 44)
+    refused(rt, folder, Refusal::Damaged)
 }
 
-// Loads the store: 0; or the status of the command, where it can't go on and has told why.
-pub fn open(
-    rt: &impl Host,
-    folder: &[u8],
-    table: &mut [u8; TABLE],
-    files: &mut [u8; FILES],
-    regular: &mut [u8; REGULAR],
-    corrections: &mut [u8; CORRECTIONS],
-    entries: &mut [u8; ENTRIES],
-) -> u8
-    ensures { Opens result (lent table.new files.new regular.new corrections.new entries.new) }
+// Says why, and prints `refused` and the number.
+pub fn refused(rt: &impl Host, what: &[u8], why: Refusal) -> Ended
+    ensures { Ends (Err Refused) result }
 {
-    match saved::load(rt, folder, table, files, regular, corrections, entries) {
-        saved::Loaded::Ready => 0,
-        saved::Loaded::Missing => 2,
-        saved::Loaded::OtherList => words::wants_rework(rt, folder),
-        saved::Loaded::Damaged => damaged(rt, folder),
+    words::refusal::refused(rt, what, why);
+    end::refused(rt, why as u8)
+}
+
+// The folder of the store, which is argument 2.
+pub fn folder<'a>(
+    rt: &impl Host,
+    path: &'a mut [u8; PATH_MAX],
+    usage: &str,
+) -> Result<&'a [u8], Failure>
+    ensures { IfOk result (λ folder. length folder.now ≤ 4096) }
+{
+    args::path(rt, 2, path).ok_or_else(|| words::usage(rt, "STORE is empty or too long", usage))
+}
+
+// Loads the store; or the end of the command, where it can't go on and has told why.
+pub fn open(rt: &impl Host, folder: &[u8], books: &mut Books) -> Ended
+    ensures { Opens result (buffers_of books.new) }
+{
+    match saved::load(rt, folder, books) {
+        Ok(HolidayList::Own) => Ok(()),
+        Ok(HolidayList::Other) => Err(words::wants_rework(rt, folder)),
+        Err(LoadError::Missing) => Err(Failure::Fault),
+        Err(LoadError::Damaged) => damaged(rt, folder),
     }
 }

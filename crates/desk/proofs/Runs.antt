@@ -1,13 +1,14 @@
 -- What copying a run of bytes leaves, as far as there is room. Assumes nothing.
 use mathlib.Core.Path.{◌≡◌, refl, sym, ap, ◌∙◌}
-use mathlib.Core.List.{List, [], ◌∷◌, ◌++◌}
+use mathlib.Core.List.{List, [], ◌∷◌, ◌++◌, append_assoc}
 use mathlib.Core.Logic.{⊎_elim}
-use Prim.Native.Nat.{ℕ, ◌+◌, ◌≤◌, ◌<◌, min}
+use Prim.Native.Nat.{ℕ, ◌+◌, ◌-◌, ◌≤◌, ◌<◌, min}
 use native.Mathlib.Omega.{arith}
 use lib.ListN.{length, take, drop, take-append-drop, length-append}
-use lib.Seq.{length-take-le, set_out}
+use lib.Seq.{length-take-le, set_out, take_all, take_at, drop-drop}
+use borrow.Rule.Slice.PartMut.{put_mid}
 use Rattle.laws.specs.Overlay.{overlay}
-use Rattle.laws.proofs.Overlay.{overlay-append, overlay-none, length-overlay}
+use Rattle.laws.proofs.Overlay.{overlay-append, overlay-none, overlay-parts, length-overlay}
 use Rattle.laws.proofs.Tests.{le-or-lt}
 use Rattle.desk.specs.Desk.{Copied, path_of}
 
@@ -24,6 +25,27 @@ full-after xs at ys i h full =
     ∙ sym (overlay-append xs at (take i ys) (drop i ys))
     ∙ ap (overlay xs at) (take-append-drop i ys)
 
+-- as many bytes as there is room for, written as a part of the buffer
+pub copied-run : (xs ys new : List ℕ) (at from n w : ℕ) → from ≡ min at (length xs) → n ≡ min (length ys) (length xs - from) → w ≡ n → new ≡ take n ys
+    → put_mid from w xs new ≡ overlay xs at ys
+copied-run xs ys new at from n w e f g h =
+    let fits : length (take n ys) ≡ n = length-take-le n ys (omega (arith, f)) in
+    let parts : put_mid from w xs new ≡ overlay xs from (take n ys) =
+    rw (g, h) (sym (overlay-parts xs from (take n ys) (omega (arith, fits, e, f)) ∙ rw (fits, append_assoc, drop-drop) refl)) in
+    parts
+    ∙ ⊎_elim
+    (λ (b : at ≤ length xs).
+    let same : from ≡ at = omega (arith, e) in
+    ap (λ (k : ℕ). overlay xs k (take n ys)) same
+    ∙ ⊎_elim
+    (λ (a : length ys ≤ n). ap (overlay xs at) (take_all n ys a))
+    (λ (a : n < length ys). full-after xs at ys n (omega arith) (omega (arith, e, f)))
+    (le-or-lt (length ys) n))
+    (λ (b : length xs < at).
+    let none : n ≡ 0 = omega (arith, e, f) in
+    rw none (sym (overlay-none xs from)) ∙ sym (overlay-out xs at ys (omega arith)))
+    (le-or-lt at (length xs))
+
 -- one run behind the other, from where the first ended
 pub copied-then : {o a b o₁ o₂ : List ℕ} {at m n : ℕ} → Copied o at a o₁ m → Copied o₁ m b o₂ n → Copied o at (a ++ b) o₂ n
 copied-then {o} {a} {b} {o₁} {o₂} {at} {m} {n} p q =
@@ -39,10 +61,26 @@ copied-then {o} {a} {b} {o₁} {o₂} {at} {m} {n} p q =
     }
 
 -- ---- a path: with no folder nothing is written, else the folder, a slash and the name, one behind the other
-pub path-none : (f n o : List ℕ) (r : ℕ) → length f ≡ 0 → r ≡ min 0 (length o) → Copied o 0 (path_of f n) o r
-path-none [] n o r e h = record { bytes = overlay-none o 0; ends = h }
-path-none (b ∷ f) n o r e h = absurd (omega arith)
-
 pub path-copied : (f : List ℕ) {n o o₁ o₂ o₃ : List ℕ} {a b r : ℕ} → (length f ≡ 0 → ⊥) → Copied o 0 f o₁ a → Copied o₁ a (47 ∷ []) o₂ b → Copied o₂ b n o₃ r → Copied o 0 (path_of f n) o₃ r
 path-copied [] some p q s = absurd (some refl)
 path-copied (x ∷ f) some p q s = copied-then p (copied-then q s)
+
+-- ---- what was written from the start of a buffer on, as far as there is room
+pub taken-first : (o p o' : List ℕ) (r n : ℕ) → Copied o 0 p o' r → length o ≡ n → take r o' ≡ take n p
+unfolding overlay
+taken-first o p o' r n c e =
+    let long : length (take r p) ≡ r = length-take-le r p (omega (arith, c.ends)) in
+    let here : overlay o 0 p ≡ overlay o 0 (take r p) =
+    ⊎_elim
+    (λ (h : length p ≤ r). ap (overlay o 0) (sym (take_all r p h)))
+    (λ (h : r < length p). sym (full-after o 0 p r (omega arith) (omega (arith, c.ends))))
+    (le-or-lt (length p) r) in
+    let same : take r p ≡ take n p =
+    ⊎_elim
+    (λ (h : length p ≤ n). take_all r p (omega (arith, c.ends)) ∙ sym (take_all n p h))
+    (λ (h : n < length p). ap (λ (k : ℕ). take k p) (let k : r ≡ n = omega (arith, c.ends) in k))
+    (le-or-lt (length p) n) in
+    ap (take r) (c.bytes ∙ here ∙ overlay-parts o 0 (take r p) (omega (arith, long, c.ends)))
+    ∙ ap (take r) (append_assoc (take 0 o) (take r p) (drop (0 + length (take r p)) o))
+    ∙ take_at (take r p) (drop (0 + length (take r p)) o) r long
+    ∙ same

@@ -1,7 +1,7 @@
 // Why a call of the system failed, in the system's words.
-ghost use Rattle.io.specs.Counts.{IsPrefixLen};
+ghost use Rattle.std.specs.Prelude.{◌≤◌, length};
 
-use crate::run::{copy_in, within};
+use crate::run::copy_in;
 use std::fmt;
 use std::fmt::Write;
 use std::io::Error;
@@ -13,6 +13,7 @@ pub const LONGEST: usize = 320;
 struct Spelled {
     bytes: [u8; LONGEST],
     used: usize,
+    ghost fits: { used ≤ 320 },
 }
 
 impl fmt::Write for Spelled {
@@ -22,38 +23,26 @@ impl fmt::Write for Spelled {
     }
 }
 
-// How long the words are without ` (os error N)`, which std puts behind the system's.
-fn without_number(text: &[u8]) -> usize
-    ensures { IsPrefixLen result text.now }
-{
-    let mut n = text.len();
-    while 0 < n {
-        n -= 1;
-        if text[n] == b'(' {
-            break;
-        }
-    }
-    if 0 < n {
-        within(n - 1, text)
-    } else {
-        within(0, text)
-    }
+// The words without ` (os error N)`, which std puts behind the system's.
+fn without_number(text: &[u8]) -> &[u8] {
+    let n = text.iter().rposition(|&b| b == b'(').unwrap_or(0);
+    &text[..n.saturating_sub(1)]
 }
 
-// Puts the words at the start of `out`, and answers how long they are.
-pub fn words(error: Error, out: &mut [u8; LONGEST]) -> usize
-    ensures { IsPrefixLen result out.new }
+// The words, in the buffer.
+pub fn words(error: Error, out: &mut [u8; LONGEST]) -> &[u8]
+    ensures { length result.now ≤ 320 }
 {
     let mut spelled = Spelled {
         bytes: [0u8; LONGEST],
         used: 0,
     };
     let _ = write!(spelled, "{error}");
-    let all: &[u8] = &spelled.bytes;
-    let n = within(spelled.used, all);
-    let k = match error.raw_os_error() {
-        Some(_) => without_number(&all[..n]),
-        None => n,
+    let all = &spelled.bytes[..spelled.used];
+    let words = match error.raw_os_error() {
+        Some(_) => without_number(all),
+        None => all,
     };
-    copy_in(out, 0, &all[..within(k, all)])
+    let n = copy_in(out, 0, words);
+    &out[..n]
 }

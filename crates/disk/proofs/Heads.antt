@@ -1,29 +1,30 @@
 -- The head of a store's file: its name, and the sums over all that it covers. Assumes nothing.
-use Rattle.std.proofs.Common.{◌≡◌, ℕ, ◌-◌, ◌^◌, ◌<◌, ◌≤◌, min, Bool, eqb, List, [], ◌∷◌, ◌++◌, length, take, set, replicate, sym, ap, ◌∙◌, ⊎_elim, arith, take_all}
+use Rattle.std.proofs.Common.{◌≡◌, ℕ, ◌-◌, ◌^◌, ◌<◌, ◌≤◌, Bool, eqb, List, [], ◌∷◌, ◌++◌, length, take, set, replicate, refl, sym, ap, ◌∙◌, ⊎_elim, arith}
 use native.Mathlib.Nat.{pow-le-pow_right}
+use Rattle.std.specs.Cmp.Lexicographic.{pointwise}
+use Rattle.std.proofs.lemmas.List.Sums.{fold-append}
 use Rattle.io.specs.Digits.{last_digits, IsDigitCount}
 use Rattle.laws.specs.Digits.{digits as decimals}
 use Rattle.laws.specs.Overlay.{overlay}
 use Rattle.laws.specs.Lists.{same_lists}
-use Rattle.laws.proofs.Tests.{le-or-lt}
+use Rattle.laws.proofs.Tests.{le-or-lt, eqb_comm}
 use Rattle.disk.specs.declared.sum.Sum.{Sum}
-use Rattle.disk.specs.Sums.{sum_over, no_sum}
+use Rattle.disk.specs.Sums.{with_one, sum_over, no_sum}
 use Rattle.disk.specs.Head.{hex, title, version_of, head_text, head_over, is_first, list_line}
-use Rattle.disk.proofs.Sums.{sum-append}
 
--- the first n of a list, or all where there are fewer
-take-least : (n : ℕ) (l : List ℕ) → take (min n (length l)) l ≡ take n l
-take-least n l =
-    ⊎_elim
-    (λ (h : n ≤ length l). ap (λ (k : ℕ). take k l) (let e : min n (length l) ≡ n = omega arith in e))
-    (λ (h : length l < n). take_all (min n (length l)) l (omega arith) ∙ sym (take_all n l (omega arith)))
-    (le-or-lt n (length l))
+-- the library compares two lists as `same_lists` does
+same-pointwise : (xs ys : List ℕ) → pointwise eqb xs ys ≡ same_lists eqb ys xs
+unfolding same_lists
+same-pointwise [] [] = refl
+same-pointwise [] (y ∷ ys) = refl
+same-pointwise (x ∷ xs) [] = refl
+same-pointwise (x ∷ xs) (y ∷ ys) = rw (eqb_comm x y, same-pointwise xs ys)
 
-pub first-name : (head : List ℕ) (n : ℕ) (r : Bool) → n ≡ min 18 (length head) → r ≡ same_lists eqb (take n head) (title ++ (49 ∷ 10 ∷ [])) → r ≡ is_first head
-first-name head n r e f = f ∙ ap (λ (k : ℕ). same_lists eqb (take k head) (title ++ (49 ∷ 10 ∷ []))) e ∙ ap (λ (l : List ℕ). same_lists eqb l (title ++ (49 ∷ 10 ∷ []))) (take-least 18 head)
+pub first-name : (head : List ℕ) (r : Bool) → r ≡ pointwise eqb (title ++ (49 ∷ 10 ∷ [])) (take 18 head) → r ≡ is_first head
+first-name head r e = e ∙ same-pointwise (title ++ (49 ∷ 10 ∷ [])) (take 18 head)
 
 sum_then : (s u : Sum) (xs ys : List ℕ) → u ≡ sum_over s xs → sum_over s (xs ++ ys) ≡ sum_over u ys
-sum_then s u xs ys e = sum-append s xs ys ∙ ap (λ (w : Sum). sum_over w ys) (sym e)
+sum_then s u xs ys e = fold-append with_one s xs ys ∙ ap (λ (w : Sum). sum_over w ys) (sym e)
 
 pub head-sums : (line t f r c head : List ℕ) (s₁ s₂ s₃ s₄ s₅ : Sum) (v : ℕ) → s₁ ≡ sum_over no_sum line → s₂ ≡ sum_over s₁ t → s₃ ≡ sum_over s₂ f → s₄ ≡ sum_over s₃ r → s₅ ≡ sum_over s₄ c
     → v ≡ version_of line → head ≡ head_text v s₅ → head ≡ head_over line (t ++ (f ++ (r ++ c)))

@@ -1,3 +1,4 @@
 pub mod Sums
 pub mod Head
+pub mod Books
 pub mod Saved

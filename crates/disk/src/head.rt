@@ -1,12 +1,13 @@
 // The head of the file: its name and version, two sums in hexadecimal, and the line of the holiday list. The sums go over that line,
 // the table, the files and the journals. The entries are not summed: whether they are what the journals say is what the figure tells.
-ghost use Rattle.std.specs.Prelude.{◌≡◌, ◌++◌, if◌then◌else◌, nat_eq};
+ghost use Rattle.std.specs.Prelude.{◌≡◌, if◌then◌else◌, nat_eq};
 ghost use Rattle.laws.specs.Overlay.{overlay};
-ghost use Rattle.disk.specs.Head.{hex, is_first, head_text, head_over};
+ghost use Rattle.disk.specs.Sums.{no_sum};
+ghost use Rattle.disk.specs.Head.{hex, is_first, head_text, head_of_books};
 
+use crate::Books;
 use crate::sum::{Sum, summed};
-use crate::{CORRECTIONS, FILES, REGULAR, TABLE};
-use desk::{copy_in, same, within};
+use desk::copy_in;
 
 // 18 bytes of name and version, twice sixteen hexadecimal digits, and a line end. The line of the list follows.
 pub const HEAD: usize = 51;
@@ -15,8 +16,7 @@ pub const HEAD: usize = 51;
 pub fn is_first(head: &[u8]) -> bool
     ensures { result ≡ is_first head.now }
 {
-    let n = within(18, head);
-    same(&head[..n], b"dagskimra store 1\n")
+    head.starts_with(b"dagskimra store 1\n")
 }
 
 // Of a head over as many bytes of the list's line.
@@ -39,7 +39,7 @@ fn spelled(version: u8, sum: Sum) -> [u8; HEAD]
     ensures { result ≡ head_text version sum }
 {
     let mut head = [b'\n'; HEAD];
-    copy_in(&mut head, 0, b"dagskimra store ");
+    head[..16].copy_from_slice(b"dagskimra store ");
     head[16] = version;
     put_hex(&mut head, 18, sum.a);
     put_hex(&mut head, 34, sum.b);
@@ -47,20 +47,13 @@ fn spelled(version: u8, sum: Sum) -> [u8; HEAD]
 }
 
 // The head over the line of a list; over no line it is one of version 1.
-pub fn head_of(
-    line: &[u8],
-    table: &[u8; TABLE],
-    files: &[u8; FILES],
-    regular: &[u8; REGULAR],
-    corrections: &[u8; CORRECTIONS],
-) -> [u8; HEAD]
-    ensures { result ≡ head_over line.now (table.now ++ (files.now ++ (regular.now ++ corrections.now))) }
+pub fn head_of(line: &[u8], books: &Books) -> [u8; HEAD]
+    ensures { result ≡ head_of_books line.now books.now }
 {
-    let mut sum = Sum { a: 1, b: 0 };
-    sum = summed(sum, line);
-    sum = summed(sum, table);
-    sum = summed(sum, files);
-    sum = summed(sum, regular);
-    sum = summed(sum, corrections);
+    let mut sum = summed(Sum::START, line);
+    sum = summed(sum, &books.table);
+    sum = summed(sum, &books.files);
+    sum = summed(sum, &books.regular);
+    sum = summed(sum, &books.corrections);
     spelled(version(line.len()), sum)
 }

@@ -8,7 +8,6 @@ ghost use Rattle.disk.specs.Head.{list_line};
 use crate::head::put_hex;
 use crate::sum::days_summed;
 use calendar::table::{COUNT, HOLIDAYS};
-use desk::copy_in;
 
 // `holidays`, four digits and sixteen hexadecimal ones, each behind a blank, and a line end.
 pub const LINE: usize = 31;
@@ -17,9 +16,7 @@ pub const LINE: usize = 31;
 fn sum_of_list() -> u64
     ensures { result ≡ (sum_over no_sum holidays).b }
 {
-    let list = HOLIDAYS;
-    let sum = days_summed(&list);
-    sum.b
+    days_summed(&HOLIDAYS).b
 }
 
 // The line of this program's list.
@@ -27,7 +24,7 @@ pub fn line() -> [u8; LINE]
     ensures { result ≡ list_line holidays }
 {
     let mut line = [b'\n'; LINE];
-    copy_in(&mut line, 0, b"holidays 0000 ");
+    line[..14].copy_from_slice(b"holidays 0000 ");
     text::put_digits(&mut line, 9, 4, COUNT as u64);
     put_hex(&mut line, 14, sum_of_list());
     line

@@ -1,43 +1,44 @@
 // The lock: STORE/lock, with the number of the process that changes the store.
-use desk::{Host, out, place};
+ghost use Rattle.std.specs.Prelude.{◌≡◌, IfErr};
+ghost use Rattle.desk.specs.declared.failure.Failure.TheVariants.{Fault};
+
+use desk::{Ended, Failure, Host, place};
 use std::io::{Error, ErrorKind, Write};
 use words::{complain, failed};
 
 // There is a lock already, or it can't be made.
-fn refused(rt: &impl Host, folder: &[u8], error: Error) -> bool {
+fn refused(rt: &impl Host, folder: &[u8], error: Error) -> Failure
+    ensures { result ≡ Fault }
+{
     if error.kind() == ErrorKind::AlreadyExists {
-        complain(
+        return complain(
             rt,
             folder,
             b"another process is changing this store; nothing was done. Try again when it is done; where there is none, remove the file lock in it",
         );
-        return false;
     }
     failed(rt, folder, error);
-    complain(rt, folder, b"the store can't be locked; nothing was done");
-    false
+    complain(rt, folder, b"the store can't be locked; nothing was done")
 }
 
 // Writes the number of the process, and a line end.
 fn sign<F: Write>(file: &mut F, process: u32) -> Result<(), Error> {
-    let told = out::number(file, u64::from(process));
+    let told = write!(file, "{process}");
     let _ = file.write_all(b"\n");
     told
 }
 
-// Takes the lock, and answers whether it has it; where it has not, the reason has been told.
-pub fn take(rt: &impl Host, folder: &[u8]) -> bool {
-    let told = match place::create(rt, folder, b"lock") {
-        Err(e) => return refused(rt, folder, e),
-        Ok(mut file) => sign(&mut file, rt.process_id()),
-    };
-    let Err(error) = told else {
-        return true;
-    };
-    failed(rt, folder, error);
-    complain(rt, folder, b"the store can't be locked; nothing was done");
-    let _ = place::unlink(rt, folder, b"lock");
-    false
+// Takes the lock; where it can't, the reason has been told.
+pub fn take(rt: &impl Host, folder: &[u8]) -> Ended
+    ensures { IfErr result (λ why. why ≡ Fault) }
+{
+    let mut file = place::create(rt, folder, b"lock").map_err(|e| refused(rt, folder, e))?;
+    sign(&mut file, rt.process_id()).map_err(|e| {
+        failed(rt, folder, e);
+        complain(rt, folder, b"the store can't be locked; nothing was done");
+        let _ = place::unlink(rt, folder, b"lock");
+        Failure::Fault
+    })
 }
 
 pub fn release(rt: &impl Host, folder: &[u8]) {

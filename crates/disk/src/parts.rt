@@ -1,128 +1,81 @@
 // The head and the five buffers, read from an open file and written to one.
 use crate::head::HEAD;
 use crate::list::LINE;
-use crate::{CORRECTIONS, ENTRIES, FILES, REGULAR, TABLE, head, list};
-use desk::{file, same, within};
+use crate::{Books, head, list};
+use desk::file;
 use std::fs::OpenFile;
-use std::io::{Error, Read, Write};
+use std::io::{Error, ErrorKind, Read, Write};
 
-// What a file was found to be.
-#[derive(Drop)]
-pub enum Found {
-    // whole, and its entries worked out with this program's holiday list
-    OwnList,
-    // whole, and its entries worked out with another one
-    OtherList,
-    Damaged,
+// With which holiday list the entries of a store were worked out.
+#[derive(Clone, Copy, PartialEq, Eq)]
+pub enum HolidayList {
+    // this program's
+    Own,
+    Other,
 }
 
-fn fill<F: Read>(
+// The file is no store, or a part of one.
+#[derive(Drop)]
+pub struct Damaged;
+
+impl From<Error> for Damaged {
+    fn from(_e: Error) -> Damaged {
+        Damaged
+    }
+}
+
+fn read_books<F: Read>(file: &mut F, books: &mut Books) -> Result<(), Damaged> {
+    file.read_exact(&mut books.table)?;
+    file.read_exact(&mut books.files)?;
+    file.read_exact(&mut books.regular)?;
+    file.read_exact(&mut books.corrections)?;
+    file.read_exact(&mut books.entries)?;
+    if file::at_end(file) {
+        Ok(())
+    } else {
+        Err(Damaged)
+    }
+}
+
+// The line of a list behind a head; one of version 1 has none.
+fn read_line<'a, F: Read>(
     file: &mut F,
-    table: &mut [u8; TABLE],
-    files: &mut [u8; FILES],
-    regular: &mut [u8; REGULAR],
-    corrections: &mut [u8; CORRECTIONS],
-    entries: &mut [u8; ENTRIES],
-) -> bool {
-    if !file::fill(file, table) {
-        return false;
-    }
-    if !file::fill(file, files) {
-        return false;
-    }
-    if !file::fill(file, regular) {
-        return false;
-    }
-    if !file::fill(file, corrections) {
-        return false;
-    }
-    if !file::fill(file, entries) {
-        return false;
-    }
-    file::at_end(file)
-}
-
-// How many bytes of the list's line were read: a head of version 1 has none.
-#[derive(Drop)]
-enum Line {
-    Bytes(usize),
-    Missing,
-}
-
-fn read_line<F: Read>(file: &mut F, head: &[u8; HEAD], line: &mut [u8; LINE]) -> Line {
-    if head::is_first(head) {
-        return Line::Bytes(0);
-    }
-    if file::fill(file, line) {
-        return Line::Bytes(LINE);
-    }
-    Line::Missing
-}
-
-// Whether the head is right for the first k bytes of the list's line and the buffers, and which list these bytes tell.
-fn judged(
     head: &[u8; HEAD],
-    read: &[u8; LINE],
-    k: usize,
-    table: &[u8; TABLE],
-    files: &[u8; FILES],
-    regular: &[u8; REGULAR],
-    corrections: &[u8; CORRECTIONS],
-) -> Found {
-    let all: &[u8] = read;
-    let n = within(k, all);
-    let line = &all[..n];
-    let right = head::head_of(line, table, files, regular, corrections);
-    if !same(head, &right) {
-        return Found::Damaged;
+    line: &'a mut [u8; LINE],
+) -> Result<&'a [u8], Damaged> {
+    if head::is_first(head) {
+        return Ok(&[]);
     }
-    let own = list::line();
-    if same(line, &own) {
-        return Found::OwnList;
-    }
-    Found::OtherList
+    file.read_exact(line)?;
+    Ok(line)
 }
 
 // A file is whole that has a head which is right for what follows, the five buffers, and nothing behind them.
-pub fn read<F: Read>(
-    file: &mut F,
-    table: &mut [u8; TABLE],
-    files: &mut [u8; FILES],
-    regular: &mut [u8; REGULAR],
-    corrections: &mut [u8; CORRECTIONS],
-    entries: &mut [u8; ENTRIES],
-) -> Found {
+pub fn read<F: Read>(file: &mut F, books: &mut Books) -> Result<HolidayList, Damaged> {
     let mut head = [0u8; HEAD];
     let mut line = [0u8; LINE];
-    if !file::fill(file, &mut head) {
-        return Found::Damaged;
+    file.read_exact(&mut head)?;
+    let line = read_line(file, &head, &mut line)?;
+    read_books(file, books)?;
+    if head != head::head_of(line, books) {
+        return Err(Damaged);
     }
-    let Line::Bytes(k) = read_line(file, &head, &mut line) else {
-        return Found::Damaged;
-    };
-    if !fill(file, table, files, regular, corrections, entries) {
-        return Found::Damaged;
+    if line == list::line().as_slice() {
+        Ok(HolidayList::Own)
+    } else {
+        Ok(HolidayList::Other)
     }
-    judged(&head, &line, k, table, files, regular, corrections)
 }
 
 // Writes them with the line of this program's list. Where it answers no error, they are on the device.
-pub fn write<F: Write + OpenFile>(
-    file: &mut F,
-    table: &[u8; TABLE],
-    files: &[u8; FILES],
-    regular: &[u8; REGULAR],
-    corrections: &[u8; CORRECTIONS],
-    entries: &[u8; ENTRIES],
-) -> Result<(), Error> {
+pub fn write<F: Write + OpenFile>(file: &mut F, books: &Books) -> Result<(), Error> {
     let line = list::line();
-    let head = head::head_of(&line, table, files, regular, corrections);
-    file.write_all(&head)?;
+    file.write_all(&head::head_of(&line, books))?;
     file.write_all(&line)?;
-    file.write_all(table)?;
-    file.write_all(files)?;
-    file.write_all(regular)?;
-    file.write_all(corrections)?;
-    file.write_all(entries)?;
+    file.write_all(&books.table)?;
+    file.write_all(&books.files)?;
+    file.write_all(&books.regular)?;
+    file.write_all(&books.corrections)?;
+    file.write_all(&books.entries)?;
     file.sync_all()
 }

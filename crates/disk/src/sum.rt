@@ -1,50 +1,40 @@
-// Two running sums over bytes: of the bytes, and of the sums so far, so that two bytes that change places are seen too.
+// Two running sums over numbers: of the numbers, and of the sums so far, so that two that change places are seen too.
 ghost use Rattle.std.specs.Prelude.{◌≡◌};
-ghost use Rattle.disk.specs.Sums.{sum_over, no_sum};
+ghost use Rattle.disk.specs.Sums.{with_one, sum_over, no_sum};
 
-#[derive(Drop)]
+#[derive(Clone, Copy)]
 pub struct Sum {
     pub a: u64,
     pub b: u64,
 }
 
-fn wide(x: u8) -> u64
-    ensures { result ≡ x }
-{
-    x as u64
+impl Sum {
+    // Before the first number.
+    pub const START: Sum = Sum { a: 1, b: 0 };
+
+    // After one number more.
+    #[tactic(auto, unfolding(crate::specs::Sums::with_one))]
+    fn with(self, x: u64) -> Sum
+        ensures { result ≡ with_one self x }
+    {
+        let a = self.a.wrapping_add(x);
+        let b = self.b.wrapping_add(a);
+        Sum { a, b }
+    }
 }
 
 pub fn summed(sum: Sum, bytes: &[u8]) -> Sum
     ensures { result ≡ sum_over sum bytes.now }
 {
-    let mut a = sum.a;
-    let mut b = sum.b;
-    let mut i = 0;
-    while i < bytes.len() {
-        a = std::num::wrapping_add_u64(a, wide(bytes[i]));
-        b = std::num::wrapping_add_u64(b, a);
-        i += 1;
-    }
-    Sum { a, b }
+    bytes
+        .iter()
+        .fold(sum, |sum, &byte| sum.with(u64::from(byte)))
 }
 
-fn wide_day(x: u16) -> u64
-    ensures { result ≡ x }
-{
-    x as u64
-}
-
-// The same over day numbers, from 1 and 0 on.
+// The same over day numbers.
 pub fn days_summed(days: &[u16]) -> Sum
     ensures { result ≡ sum_over no_sum days.now }
 {
-    let mut a: u64 = 1;
-    let mut b: u64 = 0;
-    let mut i = 0;
-    while i < days.len() {
-        a = std::num::wrapping_add_u64(a, wide_day(days[i]));
-        b = std::num::wrapping_add_u64(b, a);
-        i += 1;
-    }
-    Sum { a, b }
+    days.iter()
+        .fold(Sum::START, |sum, &day| sum.with(u64::from(day)))
 }

@@ -12,7 +12,7 @@ pub const PLACES: usize = 8;
 
 // A place: an open report with its publication day and its place in its file. A free place has `taken` false and holds what
 // `free_place` in specs/ says, so that two entries with the same open reports in the same places are equal.
-#[derive(Clone, Copy)]
+#[derive(Clone, Copy, PartialEq, Eq)]
 pub struct Place {
     pub taken: bool,
     pub report: Report,
@@ -20,7 +20,7 @@ pub struct Place {
     pub at: u32,
 }
 
-#[derive(Clone, Copy)]
+#[derive(Clone, Copy, PartialEq, Eq)]
 pub struct Entry {
     pub holder: Code,
     pub last: Option<CalendarDays>,
@@ -28,7 +28,7 @@ pub struct Entry {
 }
 
 // A number's line of the number table: its owner and its set-up day.
-#[derive(Clone, Copy)]
+#[derive(Clone, Copy, PartialEq, Eq)]
 pub struct Line {
     pub owner: Code,
     pub setup: CalendarDays,
@@ -38,18 +38,15 @@ pub struct Line {
 pub fn free_place() -> Place
     ensures { result ≡ free_place }
 {
-    let none = Code(0);
-    let day = CalendarDays(0);
-    let r = Report {
-        kind: Kind::P,
-        date: day,
-        losing: none,
-        gaining: none,
-    };
     Place {
         taken: false,
-        report: r,
-        day: day,
+        report: Report {
+            kind: Kind::P,
+            date: CalendarDays(0),
+            losing: Code(0),
+            gaining: Code(0),
+        },
+        day: CalendarDays(0),
         at: 0,
     }
 }
@@ -58,13 +55,10 @@ pub fn free_place() -> Place
 pub fn first(line: Line) -> Entry
     ensures { result ≡ first_entry line }
 {
-    let owner = line.owner;
-    let p = free_place();
-    let free = [p; PLACES];
     Entry {
-        holder: owner,
+        holder: line.owner,
         last: None,
-        places: free,
+        places: [free_place(); PLACES],
     }
 }
 
@@ -72,25 +66,15 @@ pub fn first(line: Line) -> Entry
 pub fn is_missing(n: Option<Line>) -> bool
     ensures { result ≡ is_missing n }
 {
-    match n {
-        Some(_) => false,
-        None => true,
-    }
+    n.is_none()
 }
 
 // The number's line; where it has none, one that no rule comes to ask for.
 pub fn line_in(n: Option<Line>) -> Line
     ensures { result ≡ line_in n }
 {
-    match n {
-        Some(line) => line,
-        None => {
-            let owner = Code(0);
-            let setup = CalendarDays(0);
-            Line {
-                owner: owner,
-                setup: setup,
-            }
-        }
-    }
+    n.unwrap_or(Line {
+        owner: Code(0),
+        setup: CalendarDays(0),
+    })
 }

@@ -13,73 +13,55 @@ use fields::kind::Kind;
 pub fn holds(p: Place, k: Kind, r: Report) -> bool
     ensures { result ≡ holds_open k r p }
 {
-    let q = p.report;
-    let j = q.kind;
-    p.taken & (report::kind_no(j) == report::kind_no(k)) & report::matching(q, r)
+    p.taken && p.report.kind == k && report::matching(p.report, r)
 }
 
 // The lowest free place, or the number of places.
 pub fn lowest_free(places: [Place; PLACES]) -> usize
     ensures { result ≡ lowest_free places }
 {
-    let mut i = 0;
-    while i < PLACES {
-        let p = places[i];
-        if !p.taken {
-            return i;
-        }
-        i += 1;
-    }
-    i
+    places.iter().position(|p| !p.taken).unwrap_or(PLACES)
 }
 
 // The first place with an open report of the kind k that matches r, or the number of places.
 pub fn place_of(places: [Place; PLACES], k: Kind, r: Report) -> usize
     ensures { result ≡ place_of k r places }
 {
-    let mut i = 0;
-    while i < PLACES {
-        if holds(places[i], k, r) {
-            return i;
-        }
-        i += 1;
-    }
-    i
+    places
+        .iter()
+        .position(|&p| holds(p, k, r))
+        .unwrap_or(PLACES)
 }
 
 // A report of the kind k that matches r is open.
 pub fn is_open(places: [Place; PLACES], k: Kind, r: Report) -> bool
     ensures { result ≡ is_open k r places }
 {
-    place_of(places, k, r) < PLACES
+    places.iter().any(|&p| holds(p, k, r))
 }
 
 // All places are taken.
 pub fn is_full(places: [Place; PLACES]) -> bool
     ensures { result ≡ is_full places }
 {
-    !(lowest_free(places) < PLACES)
+    places.iter().all(|p| p.taken)
 }
 
 // The place at i, and a free one past the last.
 pub fn place_at(places: [Place; PLACES], i: usize) -> Place
     ensures { result ≡ get_or places i free_place }
 {
-    if i < PLACES {
-        return places[i];
-    }
-    entry::free_place()
+    places.get(i).copied().unwrap_or(entry::free_place())
 }
 
 // The places with the one at i freed.
-pub fn freed(places: [Place; PLACES], i: usize) -> [Place; PLACES]
+pub fn freed(mut places: [Place; PLACES], i: usize) -> [Place; PLACES]
     ensures { result ≡ set places i free_place }
 {
-    let mut ps = places;
     if i < PLACES {
-        ps[i] = entry::free_place();
+        places[i] = entry::free_place();
     }
-    ps
+    places
 }
 
 // One place after a confirmation of the date d.
@@ -87,33 +69,25 @@ pub fn lapse(p: Place, d: CalendarDays) -> Place
     ensures { result ≡ lapsed d p }
 {
     if p.report.date.0 <= d.0 {
-        entry::free_place()
-    } else {
-        p
+        return entry::free_place();
     }
+    p
 }
 
 // Every open report with the date d or an older one lapses.
 pub fn lapse_all(places: [Place; PLACES], d: CalendarDays) -> [Place; PLACES]
     ensures { result ≡ map (lapsed d) places }
 {
-    let mut ps = places;
-    let mut i = 0;
-    while i < PLACES {
-        ps[i] = lapse(ps[i], d);
-        i += 1;
-    }
-    ps
+    places.map(|p| lapse(p, d))
 }
 
 // The report takes the lowest free place; where there is none the places stay.
-pub fn keep(places: [Place; PLACES], p: Place) -> [Place; PLACES]
+pub fn keep(mut places: [Place; PLACES], p: Place) -> [Place; PLACES]
     ensures { result ≡ kept_in places p }
 {
-    let mut ps = places;
     let i = lowest_free(places);
     if i < PLACES {
-        ps[i] = p;
+        places[i] = p;
     }
-    ps
+    places
 }

@@ -8,7 +8,7 @@ use fields::gaining::Gaining;
 use fields::kind::Kind;
 
 // A report as published. A Z may leave its gaining network out.
-#[derive(Clone, Copy)]
+#[derive(Clone, Copy, PartialEq, Eq)]
 pub struct Published {
     pub kind: Kind,
     pub date: CalendarDays,
@@ -17,7 +17,7 @@ pub struct Published {
 }
 
 // A report whose gaining network is known.
-#[derive(Clone, Copy)]
+#[derive(Clone, Copy, PartialEq, Eq)]
 pub struct Report {
     pub kind: Kind,
     pub date: CalendarDays,
@@ -50,16 +50,11 @@ pub fn gaining(owner: Code, g: Gaining) -> Code
 pub fn meant(owner: Code, p: Published) -> Report
     ensures { result ≡ meant_by owner p }
 {
-    let kind = p.kind;
-    let date = p.date;
-    let losing = p.losing;
-    let named = p.gaining;
-    let to = gaining(owner, named);
     Report {
-        kind: kind,
-        date: date,
-        losing: losing,
-        gaining: to,
+        kind: p.kind,
+        date: p.date,
+        losing: p.losing,
+        gaining: gaining(owner, p.gaining),
     }
 }
 
@@ -67,11 +62,9 @@ pub fn meant(owner: Code, p: Published) -> Report
 pub fn publisher(r: Report) -> Code
     ensures { result ≡ publisher_of r }
 {
-    let k = r.kind;
-    match k {
+    match r.kind {
         Kind::P => r.gaining,
-        Kind::L => r.losing,
-        Kind::Z => r.losing,
+        Kind::L | Kind::Z => r.losing,
     }
 }
 
@@ -79,5 +72,5 @@ pub fn publisher(r: Report) -> Code
 pub fn matching(q: Report, r: Report) -> bool
     ensures { result ≡ matches q r }
 {
-    (q.date.0 == r.date.0) & (q.losing.0 == r.losing.0) & (q.gaining.0 == r.gaining.0)
+    q.date == r.date && q.losing == r.losing && q.gaining == r.gaining
 }

@@ -5,10 +5,10 @@
 --     demand-3             in them every number's entry equals the one worked out afresh from the journals
 --     untouched-bytes      the entry of a number that no record of the file names is untouched, byte for byte
 --     files-one            two outcomes that the contract allows are equal
+use Rattle.std.specs.Prelude.{Some, None}
 use mathlib.Core.Path.{◌≡◌, refl, sym, ap, ◌∙◌}
 use mathlib.Core.Bool.{Bool, true, false, cond}
 use mathlib.Core.List.{List, [], ◌∷◌, ◌++◌, map, zip_with}
-use mathlib.Core.Option.{none, some}
 use Prim.Native.Nat.{ℕ, ◌<◌}
 use native.Mathlib.Omega.{arith}
 use Rattle.laws.specs.Lists.{any}
@@ -50,7 +50,7 @@ module _ {b : Buffers} {kind : Filable} {publisher day : ℕ} {text : List ℕ} 
   abbrev next : Held
   next = record { lines = (held b).lines; files = (held b).files ++ (f ∷ []); entries = zip_with (renewed rules (held b).files f) (held b).lines (held b).entries }
 
-  entered-reads : reads (filed_into f b) ≡ some next
+  entered-reads : reads (filed_into f b) ≡ Some next
   unfolding filed_into renewed_in entered held
   entered-reads = renewed-reads (entered f b) (entered-readable can) f (held b).files (entered-files can)
 
@@ -90,11 +90,11 @@ unfolding held
 new-file {b} {kind} {c} {day} {text} can = already-alike (filed_as kind c day text) b.files b.regular b.corrections ∙ can.new
 
 -- ---- what buffers that read hold
-pub read-so : (b : Buffers) (h : Held) → reads b ≡ some h → (is_readable b ≡ true) × (held b ≡ h)
+pub read-so : (b : Buffers) (h : Held) → reads b ≡ Some h → (is_readable b ≡ true) × (held b ≡ h)
 unfolding reads
 read-so b h q = go (is_readable b) refl q
   where
-    go : (t : Bool) → is_readable b ≡ t → cond t (some (held b)) none ≡ some h → (is_readable b ≡ true) × (held b ≡ h)
+    go : (t : Bool) → is_readable b ≡ t → cond t (Some (held b)) None ≡ Some h → (is_readable b ≡ true) × (held b ≡ h)
     go true e q = (e, cc)
     go false e q = absurd (let z : ◌≡◌ {A = ℕ} 0 1 = cc in omega arith)
 
@@ -121,12 +121,12 @@ came-reached (start {text} {before} {after} {n} s) =
 came-reached (file c {kind} {publisher} {day} {text} s) = let p = came-reached c in filed-on kind publisher day text s p.0 p.1
 
 -- demand 3: every number's entry equals the one worked out afresh from the journals
-pub demand-3 : {b : Buffers} → Came b → (reads b ≡ some (held b)) × ((held b).entries ≡ map (entry_over rules (held b).files) (held b).lines)
+pub demand-3 : {b : Buffers} → Came b → (reads b ≡ Some (held b)) × ((held b).entries ≡ map (entry_over rules (held b).files) (held b).lines)
 demand-3 {b} c = let p = came-reached c in (reads-some b p.0, entries-worked-afresh p.1)
 
 -- answer 0: the buffers then read as the model's `filed` of what they read as before
 pub filed-reads : {b after : Buffers} {kind : Filable} {publisher : List ℕ} {day : ℕ} {text : List ℕ} {f : Filed} {answer : Answer} → Files b kind publisher day text answer after
-    → decide b kind publisher day text ≡ Accept f → (reads after ≡ some (held after)) × (store_of (held after) ≡ filed rules (store_of (held b)) f)
+    → decide b kind publisher day text ≡ Accept f → (reads after ≡ Some (held after)) × (store_of (held after) ≡ filed rules (store_of (held b)) f)
 unfolding filed
 filed-reads {b} {after} {kind} {publisher} {day} {text} {f} s d =
     let g = rw d at (grounded b kind publisher day text) in

@@ -19,3 +19,5 @@ pub mod Rising
 pub mod Twice
 pub mod Split
 pub mod Ended
+pub mod Chains
+pub mod Sorting

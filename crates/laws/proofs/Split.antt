@@ -16,7 +16,7 @@ use Rattle.laws.proofs.Tests.{and_left, and_right, le-or-lt, cond-le, eqb_refl}
 use Rattle.laws.proofs.Tables.{all_weaker, all_append}
 
 -- ---- one element more in front
-before-count : (t : Bool) (b : ℕ) (fs : List (List ℕ)) → 1 ≤ length fs → length (before t b fs) ≡ cond t 1 0 + length fs
+pub before-count : (t : Bool) (b : ℕ) (fs : List (List ℕ)) → 1 ≤ length fs → length (before t b fs) ≡ cond t 1 0 + length fs
 unfolding before
 before-count true b fs h = omega arith
 before-count false b [] h = absurd (omega arith)

@@ -7,11 +7,11 @@
 --     history-other, renewed-worked    a file that doesn't name a number leaves its history; a renewed entry is the one worked out afresh
 --     history-perm, history-at         these records in any order lead to the same history; a record stands at its point of it
 --     history-depends, entry-depends   what the entry of a number depends on
+use Rattle.std.specs.Option.{option_map}
+use Rattle.std.specs.Prelude.{Some}
 use mathlib.Core.Path.{◌≡◌, refl, sym, ap, ◌∙◌}
 use mathlib.Core.Logic.{⊎_elim, ∥∥₁_elim, ∥∥₁_map}
 use mathlib.Core.Bool.{Bool, true, false, cond, not, ◌&&◌, ◌||◌, true≢false}
-use mathlib.Core.Option
-use mathlib.Core.Option.{some}
 use mathlib.Core.List.Memᴰ
 use mathlib.Core.List.{List, [], ◌∷◌, ◌++◌, append-nil, map, flat_map, Memᴰ, is_set, Perm}
 use Prim.Native.Nat.{ℕ}
@@ -147,12 +147,12 @@ module _ (R : Rules) where
       go false e = sym (entry_other files f line e)
 
   -- the entry beside a number's line, where each line's entry is worked out from the line
-  pub entry-of : (g : Line R → R.Entry) (lines : List (Line R)) (n : R.Number) → entry_of R lines (map g lines) n ≡ Option.map g (line_of R lines n)
+  pub entry-of : (g : Line R → R.Entry) (lines : List (Line R)) (n : R.Number) → entry_of R lines (map g lines) n ≡ option_map g (line_of R lines n)
   unfolding entry_of line_of
   entry-of g [] n = refl
   entry-of g (l ∷ ls) n = go (R.same l.number n) (entry-of g ls n)
     where
-      go : (t : Bool) → entry_of R ls (map g ls) n ≡ Option.map g (line_of R ls n) → cond t (some (g l)) (entry_of R ls (map g ls) n) ≡ Option.map g (cond t (some l) (line_of R ls n))
+      go : (t : Bool) → entry_of R ls (map g ls) n ≡ option_map g (line_of R ls n) → cond t (Some (g l)) (entry_of R ls (map g ls) n) ≡ option_map g (cond t (Some l) (line_of R ls n))
       go true ih = refl
       go false ih = ih
 

@@ -6,10 +6,10 @@
 --     reached-once                    no file twice
 --     reached-worked                  where no file is twice and each entry is the one worked out, the store is one that is reached
 --     any_order                       the order of arrival plays no part
+use Rattle.std.specs.Option.{option_map}
+use Rattle.std.specs.Prelude.{Option, Some, None}
 use mathlib.Core.Path.{◌≡◌, refl, sym, ap, ◌∙◌, subst}
 use mathlib.Core.Logic.{⊎_elim}
-use mathlib.Core.Option
-use mathlib.Core.Option.{Option, some, none}
 use mathlib.Core.Bool.{Bool, true, false, cond, not}
 use mathlib.Core.List.Memᴰ
 use mathlib.Core.List.{List, [], ◌∷◌, ◌++◌, append-nil, append_assoc, map, flat_map, zip_with, Perm}
@@ -42,7 +42,7 @@ module _ (R : Rules) where
   entries-length {s} r = ap length (entries-worked r) ∙ length-map s.lines (entry_over R s.files)
 
   -- the same of a number: its entry is that of its line
-  pub entry-worked : {s : Store R} → Reached R s → (n : R.Number) → entry_of R s.lines s.entries n ≡ Option.map (entry_over R s.files) (line_of R s.lines n)
+  pub entry-worked : {s : Store R} → Reached R s → (n : R.Number) → entry_of R s.lines s.entries n ≡ option_map (entry_over R s.files) (line_of R s.lines n)
   entry-worked {s} r n = rw (entries-worked r) (entry-of R (entry_over R s.files) s.lines n)
 
 -- ---- filing leaves the entries of all other numbers as they are
@@ -51,7 +51,7 @@ module _ (R : Rules) (L : Lawful R) where
   unfolding filed entry_of zip_with
   entry-untouched s f n h = go s.lines s.entries
     where
-      here : (l : Line R) (e : R.Entry) (rest old : Option R.Entry) → rest ≡ old → (t : Bool) → R.same l.number n ≡ t → cond t (some (renewed R s.files f l e)) rest ≡ cond t (some e) old
+      here : (l : Line R) (e : R.Entry) (rest old : Option R.Entry) → rest ≡ old → (t : Bool) → R.same l.number n ≡ t → cond t (Some (renewed R s.files f l e)) rest ≡ cond t (Some e) old
       here l e rest old ih true q = rw (L.same_true l.number n q, h)
       here l e rest old ih false q = ih
 
@@ -123,23 +123,23 @@ module _ (R : Rules) where
 -- ---- what the entry of a number depends on: its line and the records that name it, in two stores that may differ in all else
 module _ (R : Rules) (L : Lawful R) where
   -- the line of a number has this number
-  line-number : (lines : List (Line R)) (n : R.Number) (line : Line R) → line_of R lines n ≡ some line → line.number ≡ n
+  line-number : (lines : List (Line R)) (n : R.Number) (line : Line R) → line_of R lines n ≡ Some line → line.number ≡ n
   unfolding line_of
   line-number [] n line e = let z : ◌≡◌ {A = ℕ} 0 1 = cc in absurd (omega arith)
   line-number (l ∷ ls) n line e = go (R.same l.number n) refl e (line-number ls n line)
     where
-      go : (t : Bool) → R.same l.number n ≡ t → cond t (some l) (line_of R ls n) ≡ some line → (line_of R ls n ≡ some line → line.number ≡ n) → line.number ≡ n
+      go : (t : Bool) → R.same l.number n ≡ t → cond t (Some l) (line_of R ls n) ≡ Some line → (line_of R ls n ≡ Some line → line.number ≡ n) → line.number ≡ n
       go true q h ih = let here : l ≡ line = cc in ap (λ (m : Line R). m.number) (sym here) ∙ L.same_true l.number n q
       go false q h ih = ih h
 
   pub number-depends : {s t : Store R} → Reached R s → Reached R t → (n : R.Number) → line_of R s.lines n ≡ line_of R t.lines n → Perm (keep (about R n) (journal s.files)) (keep (about R n) (journal t.files)) → entry_of R s.lines s.entries n ≡ entry_of R t.lines t.entries n
   number-depends {s} {t} r q n lines p = entry-worked R r n ∙ rw lines (go (line_of R t.lines n) refl) ∙ sym (entry-worked R q n)
     where
-      go : (l : Option (Line R)) → line_of R t.lines n ≡ l → Option.map (entry_over R s.files) l ≡ Option.map (entry_over R t.files) l
-      go none e = refl
-      go (some line) e =
+      go : (l : Option (Line R)) → line_of R t.lines n ≡ l → option_map (entry_over R s.files) l ≡ option_map (entry_over R t.files) l
+      go None e = refl
+      go (Some line) e =
           let own : n ≡ line.number = sym (line-number t.lines n line e) in
-          ap some (entry-depends R L s.files (reached-once R r) t.files line (rw own at p))
+          ap Some (entry-depends R L s.files (reached-once R r) t.files line (rw own at p))
 
 -- ---- two stores with the same table and the same files, whatever the order in which they came
 pub record Agree {R : Rules} (s t : Store R) : Type 0 where
@@ -159,5 +159,5 @@ any_order R L {s} {t} r q table p = record {
     once = reached-once R r
 
     go : (e : Event) (l : Option (Line R)) → judged R s.files e l ≡ judged R t.files e l
-    go e none = refl
-    go e (some line) = verdict-any-order R L s.files once t.files p line e
+    go e None = refl
+    go e (Some line) = verdict-any-order R L s.files once t.files p line e

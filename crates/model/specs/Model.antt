@@ -1,8 +1,8 @@
 -- The files, the history of a number, the store, and how a file is filed into it, for any rules. Read this file once: the promises are about these
 -- definitions. Assumes nothing: these are definitions.
+use Rattle.std.specs.Prelude.{Option, Some, None}
 use Rattle.std.specs.Prelude.{ℕ, ◌≡◌, Bool, true, false, cond, not, ◌&&◌, eqb, length, get_or, take}
 use mathlib.Core.List.{List, [], ◌∷◌, ◌++◌, map, flat_map, zip_with, foldl}
-use Rattle.std.proofs.Math.Option.{Option, some, none}
 use Rattle.laws.specs.Lists.{table, keep, any, distinct}
 use Rattle.laws.specs.Order.{in_order, not_after}
 use Rattle.model.specs.Rules.{Line, Event, Rules}
@@ -52,7 +52,7 @@ module _ (R : Rules) where
   unfoldable pub about : R.Number → Event → Bool
   about n e = R.same (number_of e) n
 
-  -- whether some record of the file does
+  -- whether Some record of the file does
   unfoldable pub named : Filed → R.Number → Bool
   named f n = any (about n) (events f)
 
@@ -68,7 +68,7 @@ module _ (R : Rules) where
   unfoldable pub history : List Filed → R.Number → List Event
   history files n = in_order not_later (keep (about n) (journal files))
 
-  -- the entry that records lead to, processed one after the other: from some entry on, and from the first one on
+  -- the entry that records lead to, processed one after the other: from Some entry on, and from the first one on
   abbrev pub worked_from : Line R → R.Entry → List Event → R.Entry
   worked_from line = foldl (R.step line)
 
@@ -87,7 +87,7 @@ module _ (R : Rules) where
   unfoldable pub verdict_over : List Filed → Line R → Event → ℕ
   verdict_over files line e = R.verdict line (worked line (before e (history files line.number))) e
 
-  -- the count of answer 0: the records of these files, the new one among them, whose number is named by some record of the new file
+  -- the count of answer 0: the records of these files, the new one among them, whose number is named by Some record of the new file
   unfoldable pub count_of : List Filed → Filed → ℕ
   count_of files f = length (keep (λ (e : Event). named f (number_of e)) (journal files))
 
@@ -133,18 +133,18 @@ module _ (R : Rules) where
 
   -- the line of a number, and the entry beside that line
   unfoldable pub line_of : List (Line R) → R.Number → Option (Line R)
-  line_of [] n = none
-  line_of (l ∷ ls) n = cond (R.same l.number n) (some l) (line_of ls n)
+  line_of [] n = None
+  line_of (l ∷ ls) n = cond (R.same l.number n) (Some l) (line_of ls n)
 
   unfoldable pub entry_of : List (Line R) → List R.Entry → R.Number → Option R.Entry
-  entry_of [] es n = none
-  entry_of (l ∷ ls) [] n = none
-  entry_of (l ∷ ls) (e ∷ es) n = cond (R.same l.number n) (some e) (entry_of ls es n)
+  entry_of [] es n = None
+  entry_of (l ∷ ls) [] n = None
+  entry_of (l ∷ ls) (e ∷ es) n = cond (R.same l.number n) (Some e) (entry_of ls es n)
 
-  -- the verdict on a record, given the line of its number or that there is none
+  -- the verdict on a record, given the line of its number or that there is None
   unfoldable pub judged : List Filed → Event → Option (Line R) → ℕ
-  judged files e none = R.unknown e
-  judged files e (some line) = verdict_over R files line e
+  judged files e None = R.unknown e
+  judged files e (Some line) = verdict_over R files line e
 
   unfoldable pub verdict_of : Store R → Event → ℕ
   verdict_of s e = judged s.files e (line_of s.lines (number_of R e))

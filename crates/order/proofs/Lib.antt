@@ -1,2 +1,2 @@
--- `Steps`: what a turn of each loop does, on plain lists.
-pub mod Steps
+-- `Parts`: the first n of a list that may have fewer.
+pub mod Parts

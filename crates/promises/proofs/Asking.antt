@@ -1,10 +1,10 @@
 -- What a store in use answers, from asking's promises about a store that the model reaches: all citations of these stand here. Assumes nothing.
-use Rattle.std.specs.Prelude.{Option, Some, None}
+use Rattle.std.specs.Option.{option_map}
+use Rattle.std.specs.Prelude.{Option, Some, None, Result, Ok}
 use mathlib.Core.Path.{◌≡◌, refl, sym, ap, ◌∙◌}
 use mathlib.Core.Logic.{◌⊎◌, inl, inr, ⊎_elim}
 use mathlib.Core.Bool.{true}
 use mathlib.Core.List.{List, Perm}
-use mathlib.Core.Option.{Option, none, some, map}
 use Prim.Native.Nat.{ℕ}
 use native.Mathlib.Omega.{arith}
 use lib.ListN.{take}
@@ -26,8 +26,8 @@ use Rattle.store.specs.entry_slots.Entries.{entry_at}
 use Rattle.store.specs.Reads.{Buffers, Held, held, is_readable, reads}
 use Rattle.store.proofs.Checks.{reads-some}
 use Rattle.filing.specs.Effect.{store_of}
-use Rattle.asking.specs.declared.pairs.WhyAnswer.{WhyAnswer}
-use Rattle.asking.specs.declared.answering.figure.FigureAnswer.{FigureAnswer}
+use Rattle.asking.specs.declared.answer.NotShown.{NotShown}
+use Rattle.asking.specs.declared.pairs.Pair.{Pair}
 use Rattle.asking.specs.Items.{item_at}
 use Rattle.asking.specs.Standing.{held_as, entry_in, entry_before}
 use Rattle.asking.specs.Why.{stored_as, pair_of, why_on, why_in, first_place, second_place, part_at}
@@ -51,7 +51,7 @@ module _ {b : Buffers} (u : InUse b) where
   reached : Reached rules (store_of (held b))
   reached = (in-use-reached u).1
 
-  pub in-use-reads : reads b ≡ some (held b)
+  pub in-use-reads : reads b ≡ Some (held b)
   in-use-reads = reads-some b whole
 
   -- ---- what is asked of the store is asked of what the buffers hold
@@ -62,16 +62,16 @@ module _ {b : Buffers} (u : InUse b) where
   unfolding entry_in
   entry-is x = ap (λ (h : Option Held). entry_asked h (Some x)) in-use-reads
 
-  entry_found : (x : Number) (e : Entry) → entry_of rules (held b).lines (held b).entries x ≡ some e → entry_shown b x e
+  entry_found : (x : Number) (e : Entry) → entry_of rules (held b).lines (held b).entries x ≡ Some e → entry_shown b x e
   entry_found x e q = entry-is x ∙ ap held_as q
 
   -- the part at a place of a journal is the record there
-  part-is : (which : Journal) (place : ℕ) (e : Event) → item_at (journal_of (kind_of which) (held b).files) place ≡ some e → shown_in which b.regular b.corrections 8192 place ≡ e.bytes
+  part-is : (which : Journal) (place : ℕ) (e : Event) → item_at (journal_of (kind_of which) (held b).files) place ≡ Some e → shown_in which b.regular b.corrections 8192 place ≡ e.bytes
   unfolding held
   part-is which place e q = part_bytes b.table b.files b.regular b.corrections (showing b.table b.files b.regular b.corrections b.entries whole) which place e q
 
   -- ---- why
-  module _ (x : Number) (line : TableLine Number) (listed : line_of rules (held b).lines x ≡ some line) where
+  module _ (x : Number) (line : TableLine Number) (listed : line_of rules (held b).lines x ≡ Some line) where
     none_said : NoneShown (store_of (held b)) x line → SaysNone b x line
     none_said w = record {
       shown = why-is x ∙ w.shown;
@@ -84,7 +84,7 @@ module _ {b : Buffers} (u : InUse b) where
 
     pair-said : PairShown (store_of (held b)) x line → ShowsPair b x line
     pair-said w =
-        let shown : why_of b x ≡ WhyAnswer.Pair (stored_as (held b).files w.first) (stored_as (held b).files w.second) = why-is x ∙ w.shown in record {
+        let shown : why_of b x ≡ Ok (Some (record { first = stored_as (held b).files w.first; second = stored_as (held b).files w.second })) = why-is x ∙ w.shown in record {
           first = w.first;
           second = w.second;
           shown = shown;
@@ -94,8 +94,8 @@ module _ {b : Buffers} (u : InUse b) where
           first-record = w.first-record;
           second-record = w.second-record;
           in_order = w.in_order;
-          first_part = ap (λ (a : WhyAnswer). part_at b.regular (first_place a)) shown ∙ part-is Regular (stored_as (held b).files w.first).place w.first-record.event w.first-stored;
-          second-part = ap (λ (a : WhyAnswer). part_at b.regular (second_place a)) shown ∙ part-is Regular (stored_as (held b).files w.second).place w.second-record.event w.second-stored;
+          first_part = ap (λ (a : Result (Option Pair) NotShown). part_at b.regular (first_place a)) shown ∙ part-is Regular (stored_as (held b).files w.first).place w.first-record.event w.first-stored;
+          second-part = ap (λ (a : Result (Option Pair) NotShown). part_at b.regular (second_place a)) shown ∙ part-is Regular (stored_as (held b).files w.second).place w.second-record.event w.second-stored;
           first-publisher = sym (ap (λ (c : Code). c.0) w.first-record.publisher);
           second-publisher = sym (ap (λ (c : Code). c.0) w.second-record.publisher);
           first-day = ap (λ (p : Place). p.day.0) w.first-record.placed;
@@ -109,27 +109,27 @@ module _ {b : Buffers} (u : InUse b) where
     pub why-says : SaysNone b x line ⊎ ShowsPair b x line
     why-says = ⊎_elim (λ w. inl (none_said w)) (λ w. inr (pair-said w)) (why-promise reached x line listed)
 
-    pub none-said-exactly : (why_of b x ≡ WhyAnswer.Nothing → NoneConfirmed b line) × (NoneConfirmed b line → why_of b x ≡ WhyAnswer.Nothing)
+    pub none-said-exactly : (why_of b x ≡ Ok None → NoneConfirmed b line) × (NoneConfirmed b line → why_of b x ≡ Ok None)
     none-said-exactly = let w = none-exactly reached x line listed in (λ e. w.0 (sym (why-is x) ∙ e), λ h. why-is x ∙ w.1 h)
 
-  pub unknown-said-exactly : (x : Number) → (why_said (why_of b x) ≡ 12 → line_of rules (held b).lines x ≡ none) × (line_of rules (held b).lines x ≡ none → why_said (why_of b x) ≡ 12)
+  pub unknown-said-exactly : (x : Number) → (why_said (why_of b x) ≡ 12 → line_of rules (held b).lines x ≡ None) × (line_of rules (held b).lines x ≡ None → why_said (why_of b x) ≡ 12)
   unfolding why_in
   unknown-said-exactly x = go (line_of rules (held b).lines x) refl
     where
-      never : (w : Why) → why_said (pair_of (held b).files w) ≡ 12 → ⊥
+      never : (w : Why) → why_said (Ok (pair_of (held b).files w)) ≡ 12 → ⊥
       never Why.Nothing e = omega (arith, e)
       never (Why.Pair p q) e = omega (arith, e)
 
-      go : (l : Option (TableLine Number)) → line_of rules (held b).lines x ≡ l → (why_said (why_of b x) ≡ 12 → l ≡ none) × (l ≡ none → why_said (why_of b x) ≡ 12)
-      go none q = (λ e. refl, λ e. ap why_said (why-is x ∙ ap (why_on (held b).files) q))
-      go (some line) q = (
+      go : (l : Option (TableLine Number)) → line_of rules (held b).lines x ≡ l → (why_said (why_of b x) ≡ 12 → l ≡ None) × (l ≡ None → why_said (why_of b x) ≡ 12)
+      go None q = (λ e. refl, λ e. ap why_said (why-is x ∙ ap (why_on (held b).files) q))
+      go (Some line) q = (
         λ e. absurd (never (entry_over standings (held b).files line).why (sym (ap why_said (why-is x ∙ ap (why_on (held b).files) q)) ∙ e)),
         λ e. absurd (let z : ◌≡◌ {A = ℕ} 0 1 = cc in omega arith),
       )
 
   -- ---- a record
   module _ (which : Journal) (place : ℕ) where
-    pub record-said : (e : Event) → item_at (journal_of (kind_of which) (held b).files) place ≡ some e → ShowsRecord b which place e
+    pub record-said : (e : Event) → item_at (journal_of (kind_of which) (held b).files) place ≡ Some e → ShowsRecord b which place e
     unfolding asked_in
     record-said e q = record {
       answers = rw (in-use-reads, q);
@@ -140,35 +140,35 @@ module _ {b : Buffers} (u : InUse b) where
       verdict = rw (in-use-reads, q) (unfold verdict_of in verdict-promise (store_of (held b)) e);
     }
 
-    pub beyond-said-exactly : (record_number (record_asked (reads b) which place) ≡ 7 → item_at (journal_of (kind_of which) (held b).files) place ≡ none)
-        × (item_at (journal_of (kind_of which) (held b).files) place ≡ none → record_number (record_asked (reads b) which place) ≡ 7)
+    pub beyond-said-exactly : (record_number (record_asked (reads b) which place) ≡ 7 → item_at (journal_of (kind_of which) (held b).files) place ≡ None)
+        × (item_at (journal_of (kind_of which) (held b).files) place ≡ None → record_number (record_asked (reads b) which place) ≡ 7)
     unfolding asked_in
     beyond-said-exactly = (λ e. go (item_at (journal_of (kind_of which) (held b).files) place) refl e, λ q. rw (in-use-reads, q))
       where
-        go : (o : Option Event) → item_at (journal_of (kind_of which) (held b).files) place ≡ o → record_number (record_asked (reads b) which place) ≡ 7 → o ≡ none
-        go none q e = refl
-        go (some d) q e = absurd (omega (arith, sym (record-said d q).answers ∙ e))
+        go : (o : Option Event) → item_at (journal_of (kind_of which) (held b).files) place ≡ o → record_number (record_asked (reads b) which place) ≡ 7 → o ≡ None
+        go None q e = refl
+        go (Some d) q e = absurd (omega (arith, sym (record-said d q).answers ∙ e))
 
   -- ---- as it stood before a file arrived
   pub before-said : {c : Buffers} → InUse c → (n : ℕ) → (held c).lines ≡ (held b).lines → (held c).files ≡ take n (held b).files → (x : Option Number) → before_asked (reads b) n x ≡ entry_asked (reads c) x
   before-said {c} v n lines files x = rw (in-use-reads, reads-some c (in-use-reached v).0) (go x)
     where
-      go : (x : Option Number) → before_asked (some (held b)) n x ≡ entry_asked (some (held c)) x
+      go : (x : Option Number) → before_asked (Some (held b)) n x ≡ entry_asked (Some (held c)) x
       go None = refl
       go (Some x) = unfold entry_before entry_in in
-          ap held_as ((λ i. map (entry_over rules (sym files i)) (line_of rules (sym lines i) x)) ∙ sym (entry-worked-afresh (in-use-reached v).1 x))
+          ap held_as ((λ i. option_map (entry_over rules (sym files i)) (line_of rules (sym lines i) x)) ∙ sym (entry-worked-afresh (in-use-reached v).1 x))
 
   -- ---- the figure
-  pub figure-nought : figure_asked (reads b) ≡ FigureAnswer.Differ 0
-  figure-nought = ap figure_asked in-use-reads ∙ ap FigureAnswer.Differ (figure-nothing reached)
+  pub figure-nought : figure_asked (reads b) ≡ Ok 0
+  figure-nought = ap figure_asked in-use-reads ∙ ap Ok (figure-nothing reached)
 
   pub figure-counts : (entries : List ℕ) → is_readable (with_entries b entries) ≡ true
-      → figure_asked (reads (with_entries b entries)) ≡ FigureAnswer.Differ (how_many (table (line_count b.table) (reads_otherwise entries b.entries)))
+      → figure_asked (reads (with_entries b entries)) ≡ Ok (how_many (table (line_count b.table) (reads_otherwise entries b.entries)))
   unfolding held
   figure-counts entries other =
       ap figure_asked (reads-some (with_entries b entries) other)
       ∙ figure-promise (held (with_entries b entries)) reached refl refl
-      ∙ ap (λ (l : List _). FigureAnswer.Differ (how_many l)) (zip-table unlike (line_count b.table) (entry_at b.entries) (entry_at entries))
+      ∙ ap (λ (l : List _). Ok (how_many l)) (zip-table unlike (line_count b.table) (entry_at b.entries) (entry_at entries))
 
 -- ---- what one number depends on
 pub depends : {b c : Buffers} → InUse b → InUse c → (x : Number) → line_of rules (held b).lines x ≡ line_of rules (held c).lines x

@@ -30,13 +30,13 @@
 --     reworked-as-worked-out             what answer 0 of reworking leaves: the same lines and files, and the entries that the first n files lead to
 --     rework-lists-once                  reworking lists each line whose entry reads otherwise than before, once
 -- Assumes nothing.
+use Rattle.std.specs.Prelude.{None}
 use Rattle.std.specs.Prelude.{Ok}
 use Rattle.std.specs.Prelude.{Option, Some}
 use mathlib.Core.Path.{◌≡◌, ◌∙◌}
 use mathlib.Core.Logic.{◌⊎◌, ⊎_elim}
 use mathlib.Core.Bool.{true, false}
 use mathlib.Core.List.{List, [], map, Perm}
-use mathlib.Core.Option.{none, some}
 use Prim.Native.Nat.{ℕ, ◌≤◌, ◌<◌}
 use lib.ListN.{length, get_or, take}
 use Rattle.laws.specs.Lists.{table, keep, first_line}
@@ -71,13 +71,11 @@ use Rattle.starting.proofs.Readable.{started-reads}
 use Rattle.filing.specs.declared.entering.kind.Filable.{Filable}
 use Rattle.filing.specs.declared.checking.answer.Answer.{Answer}
 use Rattle.filing.specs.Effect.{Files, Came}
-use Rattle.asking.specs.declared.pairs.WhyAnswer.{WhyAnswer}
-use Rattle.asking.specs.declared.answering.figure.FigureAnswer.{FigureAnswer}
+use Rattle.std.specs.Prelude.{Ok}
 use Rattle.asking.specs.Items.{item_at}
 use Rattle.asking.specs.Record.{kind_of}
 use Rattle.asking.specs.answering.Figure.{how_many, figure_asked}
 use Rattle.asking.specs.answering.Whole.{entry_asked, before_asked, record_asked}
-use Rattle.reworking.specs.declared.rework.Reworked.TheVariants.{Changed}
 use Rattle.reworking.specs.Reworking.{Reworks}
 use Rattle.reworking.specs.Listed.{reads_otherwise, Listed}
 use Rattle.reworking.specs.resuming.Resumed.{Resumed}
@@ -125,11 +123,11 @@ starting-answers-by-the-table s = start-by-table s
 
 -- "the store then reads as exactly the given table, empty journals and one first entry per line"
 pub started-as-given : {text : List ℕ} {before after : Buffers} {n : ℕ} → Starts text before (Done n) after
-    → (lines : List Line) × (table_of text ≡ some lines) × (n ≡ length lines) × (reads after ≡ some (started_with lines))
+    → (lines : List Line) × (table_of text ≡ Some lines) × (n ≡ length lines) × (reads after ≡ Some (started_with lines))
 started-as-given {text} {before} {after} {n} s = started-reads text before after n s
 
 pub started-as-given-c : {text : List ℕ} {before after : Buffers} {more : ℕ} → StartsAs text before 0 more after
-    → (lines : List Line) × (table_of text ≡ some lines) × (more ≡ length lines) × (reads after ≡ some (started_with lines))
+    → (lines : List Line) × (table_of text ≡ Some lines) × (more ≡ length lines) × (reads after ≡ Some (started_with lines))
 started-as-given-c s = started-as-given (done-c s)
 
 -- "exactly this file's records join their journal behind the stored ones, which keep their bytes; the entries of the numbers named are worked out afresh,
@@ -172,7 +170,7 @@ worked-cases = worked_through
 -- ---- demand 3
 -- every number's entry equals the one worked out afresh from the journals: all of them, and line by line over the bytes
 pub entries-are-worked-afresh : {b : Buffers} → InUse b
-    → (reads b ≡ some (held b)) × ((held b).entries ≡ map (entry_over rules (held b).files) (held b).lines)
+    → (reads b ≡ Some (held b)) × ((held b).entries ≡ map (entry_over rules (held b).files) (held b).lines)
     × ((k : ℕ) → k < line_count b.table → entry_at b.entries k ≡ entry_over rules (held b).files (table_line (line_at b.table k)))
 entries-are-worked-afresh u = (in-use-reads u, entries-afresh u, entry-afresh u)
 
@@ -182,26 +180,26 @@ pub other-entries-untouched : {b after : Buffers} {kind : Filable} {publisher : 
 other-entries-untouched s = (joined-and-renewed s).untouched
 
 -- "asking why answers 0 and shows the pair, the report processed first coming first, or says there is none", for a number with a line
-pub why-is-the-last-confirmed-pair : {b : Buffers} → InUse b → (x : Number) (line : TableLine Number) → line_of rules (held b).lines x ≡ some line → SaysNone b x line ⊎ ShowsPair b x line
+pub why-is-the-last-confirmed-pair : {b : Buffers} → InUse b → (x : Number) (line : TableLine Number) → line_of rules (held b).lines x ≡ Some line → SaysNone b x line ⊎ ShowsPair b x line
 why-is-the-last-confirmed-pair u = why-says u
 
-pub none-exactly-if-none-confirmed : {b : Buffers} → InUse b → (x : Number) (line : TableLine Number) → line_of rules (held b).lines x ≡ some line
-    → (why_of b x ≡ WhyAnswer.Nothing → NoneConfirmed b line) × (NoneConfirmed b line → why_of b x ≡ WhyAnswer.Nothing)
+pub none-exactly-if-none-confirmed : {b : Buffers} → InUse b → (x : Number) (line : TableLine Number) → line_of rules (held b).lines x ≡ Some line
+    → (why_of b x ≡ Ok None → NoneConfirmed b line) × (NoneConfirmed b line → why_of b x ≡ Ok None)
 none-exactly-if-none-confirmed u = none-said-exactly u
 
 -- "a number not in the table answers 12"
 pub unknown-exactly-without-a-line : {b : Buffers} → InUse b → (x : Number)
-    → (why_said (why_of b x) ≡ 12 → line_of rules (held b).lines x ≡ none) × (line_of rules (held b).lines x ≡ none → why_said (why_of b x) ≡ 12)
+    → (why_said (why_of b x) ≡ 12 → line_of rules (held b).lines x ≡ None) × (line_of rules (held b).lines x ≡ None → why_said (why_of b x) ≡ 12)
 unknown-exactly-without-a-line u = unknown-said-exactly u
 
 -- "any filed record can be asked for: its verdict, and its stored bytes, shown as a part of the regular or the correction journal"
-pub record-has-its-verdict : {b : Buffers} → InUse b → (which : Journal) (place : ℕ) (e : Event) → item_at (journal_of (kind_of which) (held b).files) place ≡ some e → ShowsRecord b which place e
+pub record-has-its-verdict : {b : Buffers} → InUse b → (which : Journal) (place : ℕ) (e : Event) → item_at (journal_of (kind_of which) (held b).files) place ≡ Some e → ShowsRecord b which place e
 record-has-its-verdict u = record-said u
 
 -- "a place beyond answers 7"
 pub beyond-exactly : {b : Buffers} → InUse b → (which : Journal) (place : ℕ)
-    → (record_number (record_asked (reads b) which place) ≡ 7 → item_at (journal_of (kind_of which) (held b).files) place ≡ none)
-    × (item_at (journal_of (kind_of which) (held b).files) place ≡ none → record_number (record_asked (reads b) which place) ≡ 7)
+    → (record_number (record_asked (reads b) which place) ≡ 7 → item_at (journal_of (kind_of which) (held b).files) place ≡ None)
+    × (item_at (journal_of (kind_of which) (held b).files) place ≡ None → record_number (record_asked (reads b) which place) ≡ 7)
 beyond-exactly u = beyond-said-exactly u
 
 -- ---- what follows from them
@@ -222,21 +220,21 @@ pub there-was-such-a-store : {b : Buffers} → Came b → (n : ℕ) → (c : Buf
 there-was-such-a-store c n = had-first c n
 
 -- the figure: how many stored entries differ from those worked out from the journals
-pub figure-is-0 : {b : Buffers} → InUse b → figure_asked (reads b) ≡ FigureAnswer.Differ 0
+pub figure-is-0 : {b : Buffers} → InUse b → figure_asked (reads b) ≡ Ok 0
 figure-is-0 = figure-nought
 
 -- and if the entries were overwritten by any bytes that still read, how many lines have an entry that reads otherwise
 pub figure-counts-what-differs : {b : Buffers} → InUse b → (entries : List ℕ) → is_readable (with_entries b entries) ≡ true
-    → figure_asked (reads (with_entries b entries)) ≡ FigureAnswer.Differ (how_many (table (line_count b.table) (reads_otherwise entries b.entries)))
+    → figure_asked (reads (with_entries b entries)) ≡ Ok (how_many (table (line_count b.table) (reads_otherwise entries b.entries)))
 figure-counts-what-differs = figure-counts
 
 -- what answer 0 of reworking leaves reads as the same lines and files, and every entry is the one that the first n files lead to
-pub reworked-as-worked-out : {b : Buffers} {n count : ℕ} {list entries listed : List ℕ} → Reworks b n list (Changed count) entries listed
-    → reads (with_entries b entries) ≡ some (record { lines = (held b).lines; files = (held b).files; entries = map (entry_over rules (take n (held b).files)) (held b).lines })
+pub reworked-as-worked-out : {b : Buffers} {n count : ℕ} {list entries listed : List ℕ} → Reworks b n list (Ok count) entries listed
+    → reads (with_entries b entries) ≡ Some (record { lines = (held b).lines; files = (held b).files; entries = map (entry_over rules (take n (held b).files)) (held b).lines })
 reworked-as-worked-out s = reworked-entries s
 
 -- "the numbers whose entry changes are listed once"
-pub rework-lists-once : {b : Buffers} {n count : ℕ} {list entries listed : List ℕ} → Reworks b n list (Changed count) entries listed → Listed b count entries listed
+pub rework-lists-once : {b : Buffers} {n count : ℕ} {list entries listed : List ℕ} → Reworks b n list (Ok count) entries listed → Listed b count entries listed
 rework-lists-once s = listed-once s
 
 pub rework-lists-once-c : {b : Buffers} {more : ℕ} {list entries listed : List ℕ} → ReworksAs b list 0 more entries listed → Listed b more entries listed

@@ -5,7 +5,6 @@ use Rattle.std.specs.Prelude.{Option, Some, None}
 use mathlib.Core.Path.{◌≡◌, refl, sym, ap, subst, ◌∙◌}
 use mathlib.Core.Bool.{Bool, true, false, cond, not, ◌||◌, false≢true}
 use mathlib.Core.List.{List, [], ◌∷◌, ◌++◌, map}
-use mathlib.Core.Option.{some}
 use Prim.Native.Nat.{ℕ, zero, suc, ◌≤◌, ◌<◌}
 use native.Mathlib.Omega.{arith}
 use borrow.Author.Tests.{leb-true}
@@ -169,7 +168,7 @@ module _ {b after : Buffers} {kind : Filable} {publisher : List ℕ} {day : ℕ}
   left : after ≡ filed_into f b
   left = s.leaves ∙ ap (buffers_after b) found.3
 
-  now : (reads after ≡ some (held after)) × (store_of (held after) ≡ filed rules (store_of (held b)) f)
+  now : (reads after ≡ Some (held after)) × (store_of (held after) ≡ filed rules (store_of (held b)) f)
   now = filed-reads s found.3
 
   one_more : (held after).files ≡ (held b).files ++ (f ∷ [])

@@ -1,10 +1,10 @@
 -- What a refusal leaves, function by function. Assumes nothing.
+use Rattle.std.specs.Prelude.{Option, Some, None}
 use Rattle.std.specs.Prelude.{Result, Ok, Err}
 use Rattle.records.specs.declared.names.written.NotWritten.{NotWritten}
 use mathlib.Core.Path.{◌≡◌, refl, ap, ◌∙◌}
 use mathlib.Core.Bool.{Bool, true, false, cond, not}
 use mathlib.Core.List.{List, [], ◌∷◌}
-use mathlib.Core.Option.{Option, none, some}
 use Prim.Native.Nat.{ℕ}
 use borrow.Author.Tests.{ne_eqb}
 use lib.ListN.{length}
@@ -13,7 +13,6 @@ use Rattle.laws.specs.Overlay.{overlay}
 use Rattle.records.specs.names.Written.{after_writing}
 use Rattle.store.specs.Reads.{Buffers, Held, held, long_enough}
 use Rattle.store.specs.declared.numbers.lines.Line.{Line}
-use Rattle.store.specs.entry_slots.Entries.{entry_slot}
 use Rattle.starting.specs.declared.start.Started.{Started}
 use Rattle.starting.specs.tables.Given.{table_of}
 use Rattle.starting.specs.Start.{answer_of, start_answer, Starts}
@@ -22,8 +21,11 @@ use Rattle.filing.specs.declared.entering.kind.Filable.{Filable}
 use Rattle.filing.specs.declared.checking.answer.Answer.{Answer}
 use Rattle.filing.specs.checking.Filing.{Decision, Refuse, Accept, decide}
 use Rattle.filing.specs.Effect.{answer_to, buffers_after, Files}
-use Rattle.asking.specs.declared.entry.EntryAnswer.{EntryAnswer}
-use Rattle.reworking.specs.declared.rework.Reworked.{Reworked}
+use Rattle.entries.specs.declared.entry.Entry.{Entry}
+use Rattle.asking.specs.Numbers.{entry_told}
+use Rattle.asking.specs.declared.answer.NotShown.{NotShown}
+use Rattle.asking.specs.declared.answer.Unreadable.{Unreadable}
+use Rattle.std.specs.Prelude.{Result}
 use Rattle.reworking.specs.Reworking.{all_files, rework_answer, entries_after, list_after, with_room, Reworks}
 use Rattle.capi.specs.Starting.{StartsAs}
 use Rattle.capi.specs.Offer.{filable_by, day_for, answered, FilesAs}
@@ -54,10 +56,10 @@ unfolding start_answer
 start-by-table {text} {before} s = ap started_number s.answers ∙ go (long_enough before) (table_of text)
   where
     go : (t : Bool) (o : Option (List Line)) → started_number (cond t (answer_of o) Started.Short) ≡ first_line ((not t, 44) ∷ (is_no_table o, 6) ∷ []) 0
-    go true (some lines) = refl
-    go true none = refl
-    go false (some lines) = refl
-    go false none = refl
+    go true (Some lines) = refl
+    go true None = refl
+    go false (Some lines) = refl
+    go false None = refl
 
 -- ---- filing
 file-stays : {b after : Buffers} {kind : Filable} {publisher : List ℕ} {day : ℕ} {text : List ℕ} {answer : Answer} → Files b kind publisher day text answer after
@@ -69,13 +71,13 @@ file-stays {b} {after} {kind} {publisher} {day} {text} {answer} s not-0 = go (de
     go (Accept f) q l = absurd (not-0 (ap filed_number q))
 
 -- ---- reworking
-pub rework-stays : {b : Buffers} {n : ℕ} {list : List ℕ} {answer : Reworked} {entries listed : List ℕ} → Reworks b n list answer entries listed
+pub rework-stays : {b : Buffers} {n : ℕ} {list : List ℕ} {answer : Result ℕ Unreadable} {entries listed : List ℕ} → Reworks b n list answer entries listed
     → (reworked_number answer ≡ 0 → ⊥) → (entries ≡ b.entries) × (listed ≡ list)
 rework-stays {b} {n} {list} {answer} {entries} {listed} s not-0 = go (with_room list b) s.answers s.leaves s.lists
   where
     go : (o : Option Held) → answer ≡ rework_answer n o → entries ≡ entries_after n o b.entries → listed ≡ list_after n o list → (entries ≡ b.entries) × (listed ≡ list)
-    go none q e l = (e, l)
-    go (some h) q e l = absurd (not-0 (ap reworked_number q))
+    go None q e l = (e, l)
+    go (Some h) q e l = absurd (not-0 (ap reworked_number q))
 
 -- ---- writing
 written-stays : (right : Result ℕ NotWritten) (text before after : List ℕ) → after ≡ after_writing right text before → (wrote_number right ≡ 0 → ⊥) → after ≡ before
@@ -84,11 +86,11 @@ written-stays (Err (NotWritten.Fault place)) text before after e not-0 = e
 written-stays (Err NotWritten.Long) text before after e not-0 = e
 
 -- ---- showing
-shown-stays : {a : EntryAnswer} {before after : List ℕ} {answer : ℕ} → ShowsEntry a before answer after → (answer ≡ 0 → ⊥) → after ≡ before
+shown-stays : {a : Result Entry NotShown} {before after : List ℕ} {answer : ℕ} → ShowsEntry a before answer after → (answer ≡ 0 → ⊥) → after ≡ before
 unfolding shown_into
 shown-stays {a} {before} {after} {answer} s not-0 =
     s.leaves
-    ∙ ap (λ (t : Bool). cond t (overlay before 0 (entry_slot a.entry)) before) (ne_eqb (shown_number a (length before)) 0 (λ e. not-0 (s.answers ∙ e)))
+    ∙ ap (λ (t : Bool). cond t (overlay before 0 (entry_told a).values) before) (ne_eqb (shown_number a (length before)) 0 (λ e. not-0 (s.answers ∙ e)))
 
 -- ---- every call
 pub refused : {number : ℕ} {before after : List (List ℕ)} → Call number before after → (number ≡ 0 → ⊥) → after ≡ before

@@ -3,7 +3,6 @@ use Rattle.std.specs.Prelude.{Result, Ok, Err}
 use Rattle.files.specs.declared.judge.Fault.{Fault}
 use Rattle.std.specs.Prelude.{Option, Some, None}
 use Rattle.std.specs.Prelude.{◌≡◌, Bool, true, false, not, List, [], ◌∷◌, ◌++◌, ℕ, ◌<◌}
-use Rattle.std.proofs.Math.Option.{Option, none, some}
 use Rattle.laws.specs.Lists.{any}
 use Rattle.laws.specs.Slots.{slot_at}
 use Rattle.calendar.specs.Dates.{in_calendar}
@@ -33,8 +32,8 @@ is_no_code (Some c) = false
 is_no_code None = true
 
 abbrev pub is_no_table : Option (List Line) → Bool
-is_no_table (some lines) = false
-is_no_table none = true
+is_no_table (Some lines) = false
+is_no_table None = true
 
 abbrev pub is_fault : Result ℕ Fault → Bool
 is_fault (Ok n) = false
@@ -72,8 +71,8 @@ pub record JoinedAndRenewed (b : Buffers) (kind : Filable) (publisher : List ℕ
   pub filed : Filed
   pub offered : filed ≡ filed_as kind code.0 day text
   -- the buffers read as a store before and after, with the same table
-  pub read-before : reads b ≡ some (held b)
-  pub read-after : reads after ≡ some (held after)
+  pub read-before : reads b ≡ Some (held b)
+  pub read-after : reads after ≡ Some (held after)
   pub same-table : after.table ≡ b.table
   -- exactly this file's records join their journal behind the stored ones, and the other journal stays
   pub one_more : (held after).files ≡ (held b).files ++ (filed ∷ [])
@@ -81,7 +80,7 @@ pub record JoinedAndRenewed (b : Buffers) (kind : Filable) (publisher : List ℕ
   pub other : (k : ℕ) → (kind_number kind ≡ k → ⊥) → journal_of k (held after).files ≡ journal_of k (held b).files
   -- the stored ones keep their bytes, each at its place of its journal
   pub kept : (k place : ℕ) → place < records_of k (files_of b.files) → records_at after.regular after.corrections k place ≡ records_at b.regular b.corrections k place
-  -- the count: the records of both journals, after filing, whose number is named by some record of this file
+  -- the count: the records of both journals, after filing, whose number is named by Some record of this file
   pub counted : count ≡ count_of rules (held after).files filed
   -- the entries of the numbers named are worked out afresh, the others keep theirs byte for byte
   pub renewed : (k : ℕ) → k < line_count b.table → named_in kind text (line_at b.table k).number ≡ true

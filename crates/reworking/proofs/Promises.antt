@@ -5,12 +5,13 @@
 --     all-files            over the first `all_files` files of a store is over all
 --     none-again           a second time, nothing is listed
 --     none-in-a-reached    nor, over all files, in a store that starting and filing lead to
+use Rattle.std.proofs.lemmas.Option.{none-some, same_Some}
+use Rattle.std.specs.Prelude.{Some}
 use mathlib.Core.Path.{◌≡◌, refl, sym, ap, subst, ◌∙◌}
 use mathlib.Core.Bool.{Bool, true, false, not}
 use mathlib.Core.List.Memᴰ
 use mathlib.Core.List.{List, [], ◌∷◌, map, flat_map, zip_with, ◌++◌, Memᴰ}
 use mathlib.Core.Logic.{⊎_elim}
-use mathlib.Core.Option.{some, none-ne-some, some-injective}
 use Prim.Native.Nat.{ℕ, zero, suc, ◌≤◌, ◌<◌}
 use native.Mathlib.Nat.{eq-or-lt_of_le}
 use native.Mathlib.Omega.{arith}
@@ -42,7 +43,7 @@ use Rattle.filing.proofs.fitting.Worked.{worked-fits}
 use Rattle.asking.specs.answering.Figure.{differs, how_many, figure_of}
 use Rattle.asking.proofs.Standings.{length-first}
 use Rattle.reworking.specs.Reworking.{worked_slot, reworked_entries, places, changed_lines, all_files, rework_answer, with_room, line_of}
-use Rattle.reworking.specs.declared.rework.Reworked.{Reworked}
+use Rattle.std.specs.Prelude.{Ok}
 use Rattle.reworking.proofs.Answers.{with-room}
 
 -- ---- the store after reworking
@@ -116,9 +117,9 @@ module _ (b : Buffers) (whole : is_readable b ≡ true) (n : ℕ) where
       table-cong (line_count b.table) (entry_at after) (λ (k : ℕ). entry_over rules files (line_of b.table k)) reworked-entry
       ∙ sym (ap (map (entry_over rules files)) lines-table ∙ map-table (entry_over rules files) (line_count b.table) (line_of b.table))
 
-  pub reworked-reads : reads with ≡ some (record { lines = lines; files = read_files b.files b.regular b.corrections; entries = map (entry_over rules files) lines })
+  pub reworked-reads : reads with ≡ Some (record { lines = lines; files = read_files b.files b.regular b.corrections; entries = map (entry_over rules files) lines })
   unfolding held
-  reworked-reads = reads-some with reworked-readable ∙ (λ i. some (record { lines = lines; files = read_files b.files b.regular b.corrections; entries = entries-are i }))
+  reworked-reads = reads-some with reworked-readable ∙ (λ i. Some (record { lines = lines; files = read_files b.files b.regular b.corrections; entries = entries-are i }))
 
 -- ---- what is listed
 pub below-mem : (n i : ℕ) → i < n → Memᴰ i (table n (λ (k : ℕ). k))
@@ -179,12 +180,12 @@ all_held b whole =
     take_all 1024 (read_files b.files b.regular b.corrections)
     (omega (arith, length-first (file_count b.files) b.files b.regular b.corrections, few-files b.files (whole-files b whole)))
 
-pub all-files : (b : Buffers) (h : Held) → reads b ≡ some h → take all_files h.files ≡ h.files
+pub all-files : (b : Buffers) (h : Held) → reads b ≡ Some h → take all_files h.files ≡ h.files
 all-files b h q = go (is_readable b) refl
   where
     go : (w : Bool) → is_readable b ≡ w → take all_files h.files ≡ h.files
-    go true whole = subst (λ (g : Held). take all_files g.files ≡ g.files) (some-injective (held b) h (sym (reads-some b whole) ∙ q)) (all_held b whole)
-    go false unread = absurd (none-ne-some h (sym (reads_none b unread) ∙ q))
+    go true whole = subst (λ (g : Held). take all_files g.files ≡ g.files) (same_Some (held b) h (sym (reads-some b whole) ∙ q)) (all_held b whole)
+    go false unread = absurd (none-some h (sym (reads_none b unread) ∙ q))
 
 never-holds : {A : Type 0} (l : List A) (i : ℕ) → get_or (map (λ (x : A). false) l) i false ≡ false
 never-holds [] i = refl
@@ -200,8 +201,8 @@ none-changed files lines =
     ap places same ∙ keep-none (λ (i : ℕ). get_or (map (λ (l : TableLine Number). false) lines) i false) (table (length (map (λ (l : TableLine Number). false) lines)) (λ (i : ℕ). i)) (λ i m. never-holds lines i)
 
 pub none-again : (b : Buffers) (whole : is_readable b ≡ true) (n : ℕ) (list : List ℕ) → 1024 ≤ length list
-    → rework_answer n (with_room list (with b whole n)) ≡ Reworked.Changed 0
-none-again b whole n list room = ap (rework_answer n) (with-room (with b whole n) n list room ∙ reworked-reads b whole n) ∙ ap (λ (l : List ℕ). Reworked.Changed (length l)) (none-changed _ _)
+    → rework_answer n (with_room list (with b whole n)) ≡ Ok 0
+none-again b whole n list room = ap (rework_answer n) (with-room (with b whole n) n list room ∙ reworked-reads b whole n) ∙ ap (λ (l : List ℕ). Ok (length l)) (none-changed _ _)
 
 pub none-in-a-reached : {s : Store rules} → Reached rules s → changed_lines s.files s.lines s.entries ≡ []
 none-in-a-reached {s} r = ap (changed_lines s.files s.lines) (entries-worked-afresh r) ∙ none-changed s.files s.lines

@@ -7,11 +7,11 @@
 --     count-is-what-is-folded                      the count of answer 0 is that of the records that working out goes through
 --     same-history, standing-entry                 where a number stands, with the pair that confirmed last, has the store's entry
 --     unknown-number                               a record whose number is not in the table gets 12, whatever it says
+use Rattle.std.specs.Option.{option_map}
 use Rattle.std.specs.Prelude.{None}
 use mathlib.Core.Path.{◌≡◌, refl, ap, ◌∙◌}
 use mathlib.Core.Bool.{false}
 use mathlib.Core.List.{List, [], ◌∷◌, map, foldl, Perm}
-use mathlib.Core.Option
 use Prim.Native.Nat.{ℕ, ◌≤◌}
 use lib.ListN.{length}
 use Rattle.laws.specs.Lists.{keep, total}
@@ -38,7 +38,7 @@ use Rattle.rules.proofs.Lawful.{lawful}
 pub entries-worked-afresh : {s : Store rules} → Reached rules s → s.entries ≡ map (entry_over rules s.files) s.lines
 entries-worked-afresh r = entries-worked rules r
 
-pub entry-worked-afresh : {s : Store rules} → Reached rules s → (n : Number) → entry_of rules s.lines s.entries n ≡ Option.map (entry_over rules s.files) (line_of rules s.lines n)
+pub entry-worked-afresh : {s : Store rules} → Reached rules s → (n : Number) → entry_of rules s.lines s.entries n ≡ option_map (entry_over rules s.files) (line_of rules s.lines n)
 entry-worked-afresh r = entry-worked rules r
 
 pub other-numbers-untouched : (s : Store rules) (f : Filed) (n : Number) → named rules f n ≡ false → entry_of rules (filed rules s f).lines (filed rules s f).entries n ≡ entry_of rules s.lines s.entries n

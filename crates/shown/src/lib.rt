@@ -4,3 +4,7 @@
 pub mod entry;
 pub mod number;
 pub mod piece;
+
+// A value as it is printed: `{}` writes it.
+#[derive(Drop)]
+pub struct Shown<T: Drop>(pub T);

@@ -1,8 +1,8 @@
 -- What is written where the text is a table. Assumes nothing.
+use Rattle.std.specs.Prelude.{Option, Some, None}
 use mathlib.Core.Path.{◌≡◌, refl, sym, ap, ap₂, ◌∙◌}
 use mathlib.Core.Bool.{true, false}
 use mathlib.Core.List.{List, [], ◌∷◌, ◌++◌, flat_map, append-nil}
-use mathlib.Core.Option.{Option, none, some}
 use Prim.Native.Nat.{ℕ, ◌+◌, ◌-◌, ◌*◌, ◌≤◌}
 use native.Mathlib.Omega.{arith}
 use lib.ListN.{length, take, drop}
@@ -59,10 +59,10 @@ entries_next room e e₁ i l x q p r =
 
 -- ---- all of it
 module _ (text t f e : List ℕ) where
-  pub begun-not : table_of text ≡ none → Begun text t f e BadTable t f e
+  pub begun-not : table_of text ≡ None → Begun text t f e BadTable t f e
   begun-not g = record { answers = rw g; table_is = rw g; files-is = rw g; entries-is = rw g }
 
-  module _ (t' f' e' before room : List ℕ) (n : ℕ) (ls : List Line) (g : table_of text ≡ some ls) (s : Spread ls before n room) (long : 14338 ≤ length before)
+  module _ (t' f' e' before room : List ℕ) (n : ℕ) (ls : List Line) (g : table_of text ≡ Some ls) (s : Spread ls before n room) (long : 14338 ≤ length before)
       (w : Entered room n t f e t' f' e') where
     table-end : table_with room n t ≡ overlay t 0 (low_first 2 (length ls) ++ flat_map line_slot ls)
     unfolding table_with

@@ -3,7 +3,6 @@ use Rattle.std.specs.Prelude.{Option, Some, None}
 use mathlib.Core.Path.{◌≡◌, refl, sym, ap, ◌∙◌}
 use mathlib.Core.Bool.{Bool, true, false, cond, ◌&&◌}
 use mathlib.Core.List.{List, [], ◌∷◌, ◌++◌, map, flat_map, append_assoc}
-use mathlib.Core.Option.{Option, none, some}
 use Prim.Native.Nat.{ℕ, ◌+◌, ◌≤◌, ◌<◌}
 use native.Mathlib.Nat.{zero-add}
 use native.Mathlib.Omega.{arith}
@@ -40,25 +39,25 @@ use Rattle.starting.proofs.tables.Reading.{line-good}
 use Rattle.starting.proofs.tables.Spreading.{no_line}
 
 -- ---- what is known of a table that a text gives
-not_some : (ls : List Line) → none ≡ some ls → ⊥
+not_some : (ls : List Line) → None ≡ Some ls → ⊥
 not_some ls e = let z : ◌≡◌ {A = ℕ} 0 1 = cc in omega arith
 
-given-good : (ps : List (List ℕ)) (ls : List Line) → lines_given ps ≡ some ls → all good_line ls ≡ true
+given-good : (ps : List (List ℕ)) (ls : List Line) → lines_given ps ≡ Some ls → all good_line ls ≡ true
 unfolding lines_given all
 given-good [] ls e = absurd (not_some ls e)
 given-good (l ∷ []) ls e = go l e
   where
-    go : (l : List ℕ) → end_given l ≡ some ls → all good_line ls ≡ true
+    go : (l : List ℕ) → end_given l ≡ Some ls → all good_line ls ≡ true
     go [] q = let nothing : [] ≡ ls = cc in rw (← nothing)
     go (b ∷ bs) q = absurd (not_some ls q)
 given-good (l ∷ m ∷ more) ls e = go (line_given l) (lines_given (m ∷ more)) refl refl e (given-good (m ∷ more))
   where
-    go : (r : Option Line) (o : Option (List Line)) → line_given l ≡ r → lines_given (m ∷ more) ≡ o → with_line r o ≡ some ls
-        → ((ks : List Line) → lines_given (m ∷ more) ≡ some ks → all good_line ks ≡ true) → all good_line ls ≡ true
-    go (Some x) (some ks) p q h ih =
+    go : (r : Option Line) (o : Option (List Line)) → line_given l ≡ r → lines_given (m ∷ more) ≡ o → with_line r o ≡ Some ls
+        → ((ks : List Line) → lines_given (m ∷ more) ≡ Some ks → all good_line ks ≡ true) → all good_line ls ≡ true
+    go (Some x) (Some ks) p q h ih =
         let both : x ∷ ks ≡ ls = cc in
         rw (← both, line-good x l p, ih ks q)
-    go (Some x) none p q h ih = absurd (not_some ls h)
+    go (Some x) None p q h ih = absurd (not_some ls h)
     go None o p q h ih = absurd (not_some ls h)
 
 -- the lines are well formed, at most 1,024, with no number twice
@@ -67,15 +66,15 @@ pub record Table (ls : List Line) : Type 0 where
   pub few : length ls ≤ 1024
   pub once : none_twice same_number (map number_of_line ls) ≡ true
 
-pub table-good : (text : List ℕ) (ls : List Line) → table_of text ≡ some ls → Table ls
+pub table-good : (text : List ℕ) (ls : List Line) → table_of text ≡ Some ls → Table ls
 unfolding table_of checked
 table-good text ls e = go (lines_given (split 10 text)) refl e
   where
-    go : (o : Option (List Line)) → lines_given (split 10 text) ≡ o → checked o ≡ some ls → Table ls
-    go none p q = absurd (not_some ls q)
-    go (some ks) p q = at (leb (length ks) 1024 && none_twice same_number (map number_of_line ks)) refl q
+    go : (o : Option (List Line)) → lines_given (split 10 text) ≡ o → checked o ≡ Some ls → Table ls
+    go None p q = absurd (not_some ls q)
+    go (Some ks) p q = at (leb (length ks) 1024 && none_twice same_number (map number_of_line ks)) refl q
       where
-        at : (t : Bool) → (leb (length ks) 1024 && none_twice same_number (map number_of_line ks)) ≡ t → cond t (some ks) none ≡ some ls → Table ls
+        at : (t : Bool) → (leb (length ks) 1024 && none_twice same_number (map number_of_line ks)) ≡ t → cond t (Some ks) None ≡ Some ls → Table ls
         at false r h = absurd (not_some ls h)
         at true r h =
             let same : ks ≡ ls = cc in
@@ -178,7 +177,7 @@ module _ (b : Buffers) (ls : List Line) (w : Table ls) (enough : long_enough b �
   room : Long b
   room = long b enough
 
-  still-long : long_enough (with_table (some ls) b) ≡ true
+  still-long : long_enough (with_table (Some ls) b) ≡ true
   unfolding long_enough
   still-long =
       rw (
@@ -188,7 +187,7 @@ module _ (b : Buffers) (ls : List Line) (w : Table ls) (enough : long_enough b �
       )
       enough
 
-  readable : is_readable (with_table (some ls) b) ≡ true
+  readable : is_readable (with_table (Some ls) b) ≡ true
   unfolding is_readable
   readable =
       rw (
@@ -200,30 +199,30 @@ module _ (b : Buffers) (ls : List Line) (w : Table ls) (enough : long_enough b �
         entries-read b.entries ls w room.long-entries,
       )
 
-  holds : held (with_table (some ls) b) ≡ started_with ls
+  holds : held (with_table (Some ls) b) ≡ started_with ls
   unfolding held started_with first_files filed_in files_of
   holds =
-      let l : map table_line (lines_of (with_table (some ls) b).table) ≡ map table_line ls = ap (map table_line) (lines-back b.table ls w room.long-table) in
-      let f : read_files (with_table (some ls) b).files b.regular b.corrections ≡ [] = ap (filed_in (records_at b.regular b.corrections) []) (no-files b.files room.long-files) in
-      let e : table (line_count (with_table (some ls) b).table) (entry_at (with_table (some ls) b).entries) ≡ map first_of ls =
-      ap (λ (k : ℕ). table k (entry_at (with_table (some ls) b).entries)) (count-back b.table ls w room.long-table) ∙ entries-back b.entries ls w room.long-entries in
+      let l : map table_line (lines_of (with_table (Some ls) b).table) ≡ map table_line ls = ap (map table_line) (lines-back b.table ls w room.long-table) in
+      let f : read_files (with_table (Some ls) b).files b.regular b.corrections ≡ [] = ap (filed_in (records_at b.regular b.corrections) []) (no-files b.files room.long-files) in
+      let e : table (line_count (with_table (Some ls) b).table) (entry_at (with_table (Some ls) b).entries) ≡ map first_of ls =
+      ap (λ (k : ℕ). table k (entry_at (with_table (Some ls) b).entries)) (count-back b.table ls w room.long-table) ∙ entries-back b.entries ls w room.long-entries in
       λ i. record { lines = l i; files = f i; entries = e i }
 
-  pub table-held : reads (with_table (some ls) b) ≡ some (started_with ls)
-  table-held = reads-some (with_table (some ls) b) readable ∙ ap some holds
+  pub table-held : reads (with_table (Some ls) b) ≡ Some (started_with ls)
+  table-held = reads-some (with_table (Some ls) b) readable ∙ ap Some holds
 
 -- what answer 0 leaves reads as exactly the given table, no file, and one first entry for each line
 pub started-reads : (text : List ℕ) (before after : Buffers) (n : ℕ) → Starts text before (Done n) after
-    → (ls : List Line) × (table_of text ≡ some ls) × (n ≡ length ls) × (reads after ≡ some (started_with ls))
+    → (ls : List Line) × (table_of text ≡ Some ls) × (n ≡ length ls) × (reads after ≡ Some (started_with ls))
 unfolding start_answer start_buffers
 started-reads text before after n s = go (long_enough before) (table_of text) refl refl s.answers s.leaves
   where
     go : (t : Bool) (o : Option (List Line)) → long_enough before ≡ t → table_of text ≡ o → Done n ≡ cond t (answer_of (table_of text)) Short → after ≡ cond t (with_table (table_of text) before) before
-        → (ls : List Line) × (table_of text ≡ some ls) × (n ≡ length ls) × (reads after ≡ some (started_with ls))
-    go true (some ls) p q a l =
+        → (ls : List Line) × (table_of text ≡ Some ls) × (n ≡ length ls) × (reads after ≡ Some (started_with ls))
+    go true (Some ls) p q a l =
         let counted : n ≡ length ls = cc in
         (ls, q, counted, ap reads (l ∙ ap (λ (o : Option (List Line)). with_table o before) q) ∙ table-held before ls (table-good text ls q) p)
-    go true none p q a l = let z : ◌≡◌ {A = ℕ} 0 1 = cc in absurd (omega arith)
+    go true None p q a l = let z : ◌≡◌ {A = ℕ} 0 1 = cc in absurd (omega arith)
     go false o p q a l = let z : ◌≡◌ {A = ℕ} 0 1 = cc in absurd (omega arith)
 
 -- a refusal writes nothing
@@ -233,6 +232,6 @@ refused-stays text before after answer s never = go (long_enough before) (table_
   where
     go : (t : Bool) (o : Option (List Line)) → long_enough before ≡ t → table_of text ≡ o → answer ≡ cond t (answer_of (table_of text)) Short → after ≡ cond t (with_table (table_of text) before) before
         → after ≡ before
-    go true (some ls) p q a l = absurd (never (length ls) (a ∙ ap answer_of q))
-    go true none p q a l = l ∙ ap (λ (o : Option (List Line)). with_table o before) q
+    go true (Some ls) p q a l = absurd (never (length ls) (a ∙ ap answer_of q))
+    go true None p q a l = l ∙ ap (λ (o : Option (List Line)). with_table o before) q
     go false o p q a l = l

@@ -1,7 +1,7 @@
 -- What starting answers, and what it leaves in the buffers. Assumes nothing: these are definitions.
+use Rattle.std.specs.Prelude.{Option, Some, None}
 use Rattle.std.specs.Prelude.{◌≡◌, cond, ℕ, ◌*◌, length}
 use mathlib.Core.List.{List, [], ◌∷◌, ◌++◌, map, flat_map}
-use Rattle.std.proofs.Math.Option.{Option, none, some}
 use Rattle.laws.specs.Lists.{table}
 use Rattle.laws.specs.Overlay.{overlay, part}
 use Rattle.laws.specs.Told.{Told, told}
@@ -34,24 +34,24 @@ first_slot l = entry_slot (first_of l)
 
 -- ---- the answer: 44 for a short buffer before all else, then 6 for a text that gives no table
 abbrev pub answer_of : Option (List Line) → Started
-answer_of (some ls) = Done (length ls)
-answer_of none = BadTable
+answer_of (Some ls) = Done (length ls)
+answer_of None = BadTable
 
 unfoldable pub start_answer : List ℕ → Buffers → Started
 start_answer text b = cond (long_enough b) (answer_of (table_of text)) Short
 
 -- ---- the buffers: the count and the lines, no file, a first entry for each line; every other byte stays
 abbrev pub table_after : Option (List Line) → List ℕ → List ℕ
-table_after (some ls) t = overlay t 0 (low_first 2 (length ls) ++ flat_map line_slot ls)
-table_after none t = t
+table_after (Some ls) t = overlay t 0 (low_first 2 (length ls) ++ flat_map line_slot ls)
+table_after None t = t
 
 abbrev pub files_after : Option (List Line) → List ℕ → List ℕ
-files_after (some ls) f = overlay f 0 (low_first 2 0)
-files_after none f = f
+files_after (Some ls) f = overlay f 0 (low_first 2 0)
+files_after None f = f
 
 abbrev pub entries_after : Option (List Line) → List ℕ → List ℕ
-entries_after (some ls) e = overlay e 0 (flat_map first_slot ls)
-entries_after none e = e
+entries_after (Some ls) e = overlay e 0 (flat_map first_slot ls)
+entries_after None e = e
 
 abbrev pub with_table : Option (List Line) → Buffers → Buffers
 with_table given b = record {

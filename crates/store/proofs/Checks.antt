@@ -1,8 +1,8 @@
 -- The tests of the five buffers, one after the other, as the code makes them. Assumes nothing.
+use Rattle.std.specs.Prelude.{Some, None}
 use mathlib.Core.Path.{◌≡◌, ap}
 use mathlib.Core.Bool.{Bool, true, false, ◌&&◌}
 use mathlib.Core.List.{List}
-use mathlib.Core.Option.{none, some}
 use Prim.Native.Nat.{ℕ, ◌≤◌, ◌<◌}
 use lib.Dec.{leb}
 use lib.ListN.{length}
@@ -116,11 +116,11 @@ module _ (b : Buffers) where
   read-entries h t f r n e = rw (h, t, f, r, ← e)
 
   -- the buffers read as a store exactly where the test says so
-  pub reads-some : is_readable b ≡ true → reads b ≡ some (held b)
+  pub reads-some : is_readable b ≡ true → reads b ≡ Some (held b)
   unfolding reads
   reads-some e = rw e
 
-  pub reads_none : is_readable b ≡ false → reads b ≡ none
+  pub reads_none : is_readable b ≡ false → reads b ≡ None
   unfolding reads
   reads_none e = rw e
 

@@ -1,6 +1,6 @@
 -- What the five lent buffers mean: the store of the model, or nothing. Assumes nothing: these are definitions.
+use Rattle.std.specs.Prelude.{Option, Some, None}
 use Rattle.std.specs.Prelude.{Bool, cond, ◌&&◌, List, map, ℕ, leb, length}
-use Rattle.std.proofs.Math.Option.{Option, none, some}
 use Rattle.laws.specs.Lists.{table, all, none_twice}
 use Rattle.laws.specs.Slots.{slot_at}
 use Rattle.model.specs.Model.{Filed}
@@ -71,7 +71,7 @@ is_readable b =
 
 -- ---- what the buffers mean
 unfoldable pub reads : Buffers → Option Held
-reads b = cond (is_readable b) (some (held b)) none
+reads b = cond (is_readable b) (Some (held b)) None
 
 -- the buffers by name
 abbrev pub lent : List ℕ → List ℕ → List ℕ → List ℕ → List ℕ → Buffers

@@ -1,8 +1,6 @@
 -- When a slot of a journal holds a record in its layout. Assumes nothing: these are definitions.
 use Rattle.std.specs.Prelude.{is_some}
-use Rattle.layout.specs.declared.correction.Correction.{Correction}
-use Rattle.std.specs.Prelude.{Option, Some, None}
-use Rattle.std.specs.Prelude.{Bool, true, false, ◌&&◌, List, ℕ}
+use Rattle.std.specs.Prelude.{Bool, ◌&&◌, List, ℕ}
 use Rattle.laws.specs.Slots.{held_in, is_held}
 use Rattle.layout.specs.Correction.{correction_of}
 use Rattle.layout.specs.Report.{report_of}

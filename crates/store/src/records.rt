@@ -11,46 +11,24 @@ use crate::slots::record;
 use layout::correction::Correction;
 use layout::report::Report;
 
-// Whether bytes are a report.
-fn is_report(bytes: &[u8]) -> bool
-    ensures { result ≡ is_some (report_of bytes.now) }
-{
-    let Some(_) = Report::read(bytes) else {
-        return false;
-    };
-    true
-}
-
-// Whether bytes are a correction.
-fn is_correction(bytes: &[u8]) -> bool
-    ensures { result ≡ is_some (correction_of bytes.now) }
-{
-    let Some(_) = Correction::read(bytes) else {
-        return false;
-    };
-    true
-}
-
 // Whether the slot k of the regular journal holds a report.
+#[tactic(auto, unfolding(crate::specs::Records::good_report))]
 fn good_report(regular: &[u8], k: usize) -> bool
     requires { k * 45 + 45 ≤ length regular.now }
     ensures { result ≡ good_report (slot_at 0 45 regular.now k) }
 {
-    if !record::is_held(regular, REPORT_SLOT, k) {
-        return false;
-    }
-    is_report(record::bytes(regular, REPORT_SLOT, k))
+    record::is_held(regular, REPORT_SLOT, k)
+        && Report::read(record::bytes(regular, REPORT_SLOT, k)).is_some()
 }
 
 // Whether the slot k of the correction journal holds a correction.
+#[tactic(auto, unfolding(crate::specs::Records::good_correction))]
 fn good_correction(corrections: &[u8], k: usize) -> bool
     requires { k * 98 + 98 ≤ length corrections.now }
     ensures { result ≡ good_correction (slot_at 0 98 corrections.now k) }
 {
-    if !record::is_held(corrections, CORRECTION_SLOT, k) {
-        return false;
-    }
-    is_correction(record::bytes(corrections, CORRECTION_SLOT, k))
+    record::is_held(corrections, CORRECTION_SLOT, k)
+        && Correction::read(record::bytes(corrections, CORRECTION_SLOT, k)).is_some()
 }
 
 // Whether each of the first n slots of the regular journal does.

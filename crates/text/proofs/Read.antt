@@ -4,27 +4,31 @@ use Prim.Native.Nat.{ℕ, ◌+◌, ◌-◌, ◌*◌, ◌^◌, ◌<◌, ◌≤◌
 use native.Mathlib.Nat.{pow-suc, pow-le-pow_right}
 use native.Mathlib.Numerals.{add-one}
 use native.Mathlib.Omega.{arith}
-use mathlib.Core.Path.{◌≡◌}
+use mathlib.Core.Bool.{true, false}
+use mathlib.Core.Path.{◌≡◌, refl}
 use mathlib.Core.List.{List}
 use lib.ListN.{length, get_or, drop, drop_of_length-le}
 use lib.Seq.{drop-cons}
-use borrow.Author.Tests.{le-leb, lt-leb}
+use lib.Dec.{leb}
+use borrow.Author.Tests.{leb-true}
+use Rattle.std.specs.Char.{is_ascii_digit}
+use Rattle.laws.proofs.Tests.{and_left, and_right}
 use Rattle.laws.specs.Lists.{all}
 use Rattle.laws.specs.Digits.{is_digit, spelt}
 use Rattle.text.specs.Spelt.{spells}
 
+-- what std asks of a byte is what a digit is
+pub digit_between : (x : ℕ) → is_ascii_digit x ≡ true → (48 ≤ x) × (x ≤ 57)
+digit_between x p = (leb-true 48 x (and_left (leb 48 x) (leb x 57) p), leb-true x 57 (and_right (leb 48 x) (leb x 57) p))
+
 module _ (f : List ℕ) (n i : ℕ) (h : i < length f) where
-  pub turn : 48 ≤ get_or f i 0 → get_or f i 0 ≤ 57 → spells n (drop i f) ≡ spells (n * 10 + (get_or f i 0 - 48)) (drop (i + 1) f)
+  pub turn : is_ascii_digit (get_or f i 0) ≡ true → spells n (drop i f) ≡ spells (n * 10 + (get_or f i 0 - 48)) (drop (i + 1) f)
   unfolding spells all is_digit spelt
-  turn low high = rw (add-one, drop-cons f i 0) (simp (le-leb 48 (get_or f i 0), le-leb (get_or f i 0) 57))
+  turn d = rw (add-one, drop-cons f i 0, d) refl
 
-  pub too-low : get_or f i 0 < 48 → spells n (drop i f) ≡ None
+  pub no_digit : is_ascii_digit (get_or f i 0) ≡ false → spells n (drop i f) ≡ None
   unfolding spells all is_digit spelt
-  too-low low = rw (drop-cons f i 0) (simp (lt-leb 48 (get_or f i 0)))
-
-  pub too-high : 48 ≤ get_or f i 0 → 57 < get_or f i 0 → spells n (drop i f) ≡ None
-  unfolding spells all is_digit spelt
-  too-high low high = rw (drop-cons f i 0) (simp (le-leb 48 (get_or f i 0), lt-leb (get_or f i 0) 57))
+  no_digit d = rw (drop-cons f i 0, d) refl
 
 pub done : (f : List ℕ) (n i : ℕ) → length f ≤ i → spells n (drop i f) ≡ Some n
 unfolding spells all is_digit spelt

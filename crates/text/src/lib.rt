@@ -12,29 +12,19 @@ ghost use Rattle.text.specs.Spelt.{spells, digits_of};
 pub fn field_end(s: &[u8], at: usize, sep: u8) -> usize
     ensures { result ≡ end_of sep s.now at }
 {
-    let mut i = at;
-    while i < s.len() {
+    for i in at..s.len() {
         if s[i] == sep {
             return i;
         }
-        i += 1;
     }
-    i
+    at.max(s.len())
 }
 
 // How many separators `s` has: one less than it has pieces.
 pub fn cuts(s: &[u8], sep: u8) -> usize
     ensures { result ≡ length (split sep s.now) - 1 }
 {
-    let mut n: usize = 0;
-    let mut i: usize = 0;
-    while i < s.len() {
-        if s[i] == sep {
-            n += 1;
-        }
-        i += 1;
-    }
-    n
+    s.iter().filter(|&&b| b == sep).count()
 }
 
 // The piece `k` of `s`, from 0; nothing where there is none.
@@ -42,23 +32,15 @@ pub fn piece(s: &[u8], sep: u8, k: usize) -> &[u8]
     ensures { result.now ≡ piece_of sep s.now k }
 {
     let mut at: usize = 0;
-    let mut left = k;
-    while 0 < left {
+    for _passed in 0..k {
         let e = field_end(s, at, sep);
         if s.len() <= e {
-            return &s[0..0];
+            return &[];
         }
         at = e + 1;
-        left -= 1;
     }
     let e = field_end(s, at, sep);
     &s[at..e]
-}
-
-fn wide(b: u8) -> u64
-    ensures { result ≡ b }
-{
-    b as u64
 }
 
 // The number that the digits of `f` spell when they follow `start`.
@@ -67,17 +49,11 @@ fn spell(f: &[u8], start: u64) -> Option<u64>
     ensures { result ≡ spells start f.now }
 {
     let mut n = start;
-    let mut i: usize = 0;
-    while i < f.len() {
-        let b = f[i];
-        if b < 48 {
+    for &b in f {
+        if !b.is_ascii_digit() {
             return None;
         }
-        if 57 < b {
-            return None;
-        }
-        n = n * 10 + (wide(b) - 48);
-        i += 1;
+        n = n * 10 + u64::from(b - b'0');
     }
     Some(n)
 }
@@ -89,10 +65,7 @@ pub fn read_digits(f: &[u8], lead: bool) -> Option<u64>
     if 18 < f.len() {
         return None;
     }
-    if lead {
-        return spell(f, 1);
-    }
-    spell(f, 0)
+    spell(f, u64::from(lead))
 }
 
 // How many digits follow the first digit of `n`, counted up to `most`.
@@ -100,15 +73,13 @@ pub fn size(n: u64, most: usize) -> usize
     ensures { result ≡ size_of most n }
 {
     let mut m = n;
-    let mut k: usize = 0;
-    while k < most {
+    for k in 0..most {
         if m < 10 {
             return k;
         }
-        m = m / 10;
-        k += 1;
+        m /= 10;
     }
-    k
+    most
 }
 
 // `n` without its last `k` digits.
@@ -116,10 +87,8 @@ pub fn leading(n: u64, k: usize) -> u64
     ensures { result ≡ down k n }
 {
     let mut front = n;
-    let mut i = k;
-    while 0 < i {
-        front = front / 10;
-        i -= 1;
+    for _ in 0..k {
+        front /= 10;
     }
     front
 }
@@ -137,7 +106,7 @@ fn digit(d: u64) -> u8
     requires { d < 10 }
     ensures { result ≡ 48 + d }
 {
-    (48 + d) as u8
+    b'0' + d as u8
 }
 
 // The last `k` digits of `n` into a lent buffer; what follows them is the answer.
@@ -145,12 +114,10 @@ pub fn put_digits(out: &mut [u8], at: usize, k: usize, n: u64) -> usize
     requires { at + k ≤ length out.old }
     ensures { Laid out.old at (digits k n) out.new result }
 {
-    let mut i = k;
     let mut m = n;
-    while 0 < i {
-        i -= 1;
+    for i in (0..k).rev() {
         out[at + i] = digit(m % 10);
-        m = m / 10;
+        m /= 10;
     }
     at + k
 }

@@ -1,107 +1,85 @@
 // Why a file is refused with 4, and the line that is at fault, with a mark under what is wrong.
-use crate::span::part;
-use crate::{decimal, field, marked, number, refusal, span, text, wrong};
+use crate::span::Span;
+use crate::{field, marked, refusal, say, span, wrong};
 use desk::Host;
 use faults::cause::{Cause, FaultPlace};
 use records::names::kind::FileKind;
 
 fn at_place(rt: &impl Host, place: usize) {
-    text(rt, b" at place ");
-    number(rt, place);
-    text(rt, b", counted from 0");
+    say(rt, format_args!(" at place {place}, counted from 0"));
 }
 
 // A file with other line ends was most often changed on its way.
 fn line_feed(rt: &impl Host, found: &[u8]) {
-    let at = text::field_end(found, 0, b'\n');
-    if found.len() <= at {
-        return;
-    }
-    if at == 0 {
-        text(
+    match found.iter().position(|&b| b == b'\n') {
+        None => {}
+        Some(0) => say(
             rt,
-            b"; what is marked begins with a line feed: lines end with CR alone, not with CR LF",
-        );
-    } else {
-        text(
+            "; what is marked begins with a line feed: lines end with CR alone, not with CR LF",
+        ),
+        Some(_) => say(
             rt,
-            b"; what is marked has a line feed in it: lines end with CR alone, not with LF",
-        );
+            "; what is marked has a line feed in it: lines end with CR alone, not with LF",
+        ),
     }
 }
 
 // The end of the sentence, and the line with its mark.
-fn show(rt: &impl Host, line: &[u8], first: usize, end: usize) {
-    line_feed(rt, part(line, first, end));
-    text(rt, b"; ask the publisher for a whole file");
-    refusal::end(rt, 4);
-    marked::show(rt, line, first, end);
+fn show(rt: &impl Host, line: &[u8], marks: Span) {
+    line_feed(rt, marks.part(line));
+    say(rt, "; ask the publisher for a whole file");
+    say(rt, refusal::UNCHANGED);
+    marked::show(rt, line, marks);
 }
 
-fn in_field(rt: &impl Host, kind: FileKind, line: &[u8], place: usize, pos: usize, cause: Cause) {
-    let s = span::of(kind, line, pos);
-    text(rt, b"in the record");
-    at_place(rt, place);
-    text(rt, b", field ");
-    number(rt, pos);
-    text(rt, b" (");
+fn in_field(rt: &impl Host, kind: FileKind, line: &[u8], at: FaultPlace, cause: Cause) {
+    let pos = at.field;
+    let found = span::of(kind, line, pos);
+    say(rt, "in the record");
+    at_place(rt, at.place);
+    say(rt, format_args!(", field {pos} ("));
     field::name(rt, kind, pos);
-    text(rt, b") ");
-    wrong::say(
-        rt,
-        cause,
-        field::of(kind, pos),
-        pos,
-        part(line, s.first, s.end),
-    );
-    if line.len() == 0 {
-        text(rt, b"; the record is empty");
+    say(rt, ") ");
+    wrong::say_cause(rt, cause, field::of(kind, pos), pos, found.part(line));
+    if line.is_empty() {
+        say(rt, "; the record is empty");
     }
-    show(rt, line, s.first, s.end);
-}
-
-// The closing record of so many lines.
-fn expected(rt: &impl Host, lines: u64) {
-    text(rt, b"'Zeilenanzahl:");
-    decimal(rt, lines);
-    text(rt, b",'");
-}
-
-fn missing(rt: &impl Host, place: usize, lines: u64) {
-    text(rt, b"the closing record is missing: ");
-    expected(rt, lines);
-    text(rt, b" and its CR should stand");
-    at_place(rt, place);
-    show(rt, b"", 0, 0);
+    show(rt, line, found);
 }
 
 // The line that stands where the closing record should; nothing may be left of the file.
 fn closing(rt: &impl Host, line: &[u8], place: usize) {
-    let lines = std::num::wrapping_add_u64(place as u64, 1);
-    if line.len() == 0 {
-        missing(rt, place, lines);
+    let lines = (place as u64).wrapping_add(1);
+    if line.is_empty() {
+        say(
+            rt,
+            format_args!(
+                "the closing record is missing: 'Zeilenanzahl:{lines},' and its CR should stand"
+            ),
+        );
+        at_place(rt, place);
+        show(rt, line, Span::from(line, 0));
         return;
     }
-    text(rt, b"the closing record");
+    say(rt, "the closing record");
     at_place(rt, place);
     if records::closing::is_closing(line, lines) {
-        text(rt, b", has no CR at its end");
-        show(rt, line, line.len(), line.len());
+        say(rt, ", has no CR at its end");
+        show(rt, line, Span::from(line, line.len()));
         return;
     }
-    text(rt, b", should be ");
-    expected(rt, lines);
-    show(rt, line, 0, line.len());
+    say(rt, format_args!(", should be 'Zeilenanzahl:{lines},'"));
+    show(rt, line, Span::from(line, 0));
 }
 
 // What stands behind the end.
 fn after(rt: &impl Host, rest: &[u8], place: usize) {
-    text(
+    say(
         rt,
-        b"there are bytes after the end of the file: nothing may stand",
+        "there are bytes after the end of the file: nothing may stand",
     );
     at_place(rt, place);
-    show(rt, rest, 0, rest.len());
+    show(rt, rest, Span::from(rest, 0));
 }
 
 // What was refused, the text of the file, and its first fault.
@@ -113,13 +91,12 @@ pub fn refused(
     at: FaultPlace,
     cause: Cause,
 ) {
-    let place = at.place;
-    let first = span::behind(file, b'\r', place);
-    let line = part(file, first, text::field_end(file, first, b'\r'));
+    let first = span::behind(file, b'\r', at.place);
+    let line = span::up_to(file, first, b'\r').part(file);
     refusal::begin(rt, what, 4);
     match cause {
-        Cause::Closing => closing(rt, line, place),
-        Cause::After => after(rt, part(file, first, file.len()), place),
-        _ => in_field(rt, kind, line, place, at.field, cause),
+        Cause::Closing => closing(rt, line, at.place),
+        Cause::After => after(rt, Span::from(file, first).part(file), at.place),
+        _ => in_field(rt, kind, line, at, cause),
     }
 }

@@ -1,7 +1,9 @@
 // The fields of a record, as the specification's tables name them (4.5.1, 4.5.2.3, 4.7.8).
-use crate::text;
+use crate::say;
 use desk::Host;
 use records::names::kind::FileKind;
+use std::fmt;
+use std::fmt::{Display, Formatter, Write};
 
 #[derive(Drop)]
 pub enum Field {
@@ -20,14 +22,6 @@ pub enum Field {
     End,
 }
 
-// The part of a correction that a field belongs to.
-#[derive(Drop)]
-enum Part {
-    U,
-    K,
-    Neither,
-}
-
 // The six fields of a report, and of each part of a correction, counted from 1 with the commas between them.
 fn of_six(pos: usize) -> Field {
     match pos {
@@ -42,20 +36,10 @@ fn of_six(pos: usize) -> Field {
 }
 
 fn report(pos: usize) -> Field {
-    if pos == 12 {
-        return Field::End;
+    match pos {
+        12 => Field::End,
+        _ => of_six(pos),
     }
-    of_six(pos)
-}
-
-fn in_part(pos: usize) -> Field {
-    if 15 < pos {
-        return of_six(pos - 15);
-    }
-    if 2 < pos {
-        return of_six(pos - 2);
-    }
-    Field::Comma
 }
 
 fn correction(pos: usize) -> Field {
@@ -63,8 +47,9 @@ fn correction(pos: usize) -> Field {
         1 => Field::Code,
         2 => Field::U,
         15 => Field::K,
+        3..=14 => of_six(pos - 2),
         27 => Field::End,
-        _ => in_part(pos),
+        _ => of_six(pos.saturating_sub(15)),
     }
 }
 
@@ -80,48 +65,45 @@ fn request(pos: usize) -> Field {
 // The field at a "Pos." of the table of a kind of file.
 pub fn of(kind: FileKind, pos: usize) -> Field {
     match kind {
-        FileKind::Default => report(pos),
         FileKind::Correction => correction(pos),
         FileKind::Request => request(pos),
-        FileKind::Response => report(pos),
+        FileKind::Default | FileKind::Response => report(pos),
     }
 }
 
-fn part_of(kind: FileKind, pos: usize) -> Part {
-    let FileKind::Correction = kind else {
-        return Part::Neither;
-    };
-    match pos {
-        3..=14 => Part::U,
-        16..=26 => Part::K,
-        _ => Part::Neither,
+// The part of a correction that the field at `pos` belongs to.
+fn part_of(kind: FileKind, pos: usize) -> Option<char> {
+    match (kind, pos) {
+        (FileKind::Correction, 3..=14) => Some('U'),
+        (FileKind::Correction, 16..=26) => Some('K'),
+        _ => None,
     }
 }
 
-fn say(rt: &impl Host, field: Field) {
-    match field {
-        Field::First => text(rt, b"number field 1"),
-        Field::Last => text(rt, b"number field 2"),
-        Field::Date => text(rt, b"porting date"),
-        Field::Gaining => text(rt, b"gaining network"),
-        Field::Losing => text(rt, b"losing network"),
-        Field::Status => text(rt, b"status"),
-        Field::Code => text(rt, b"correction code"),
-        Field::U => text(rt, b"U:"),
-        Field::K => text(rt, b"K:"),
-        Field::Asking => text(rt, b"asking network"),
-        Field::Start => text(rt, b"start of the request"),
-        Field::Comma => text(rt, b"comma"),
-        Field::End => text(rt, b"CR, end of the record"),
+impl Display for Field {
+    fn fmt<W: Write>(&self, f: &mut Formatter<W>) -> fmt::Result {
+        f.write_str(match self {
+            Field::First => "number field 1",
+            Field::Last => "number field 2",
+            Field::Date => "porting date",
+            Field::Gaining => "gaining network",
+            Field::Losing => "losing network",
+            Field::Status => "status",
+            Field::Code => "correction code",
+            Field::U => "U:",
+            Field::K => "K:",
+            Field::Asking => "asking network",
+            Field::Start => "start of the request",
+            Field::Comma => "comma",
+            Field::End => "CR, end of the record",
+        })
     }
 }
 
 // The name of the field at `pos`.
 pub fn name(rt: &impl Host, kind: FileKind, pos: usize) {
     say(rt, of(kind, pos));
-    match part_of(kind, pos) {
-        Part::U => text(rt, b" of the U part"),
-        Part::K => text(rt, b" of the K part"),
-        Part::Neither => {}
+    if let Some(part) = part_of(kind, pos) {
+        say(rt, format_args!(" of the {part} part"));
     }
 }

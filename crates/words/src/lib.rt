@@ -9,64 +9,64 @@ mod span;
 mod wrong;
 
 ghost use Rattle.std.specs.Prelude.{◌≡◌};
+ghost use Rattle.desk.specs.declared.failure.Failure.TheVariants.{Fault};
 
-use desk::{Host, reason};
+use desk::{Failure, Host, reason};
+use std::fmt::Display;
 use std::io::Error;
 
-// What can't be written is left out: there is nowhere else to say it.
+// What can't be written is left out: there is nowhere else to say it. A path or a field need not be text.
 pub fn text(rt: &impl Host, bytes: &[u8]) {
     let _ = rt.say(bytes);
 }
 
-pub fn decimal(rt: &impl Host, n: u64) {
-    let mut digits = [0u8; 20];
-    let k = io::decimal(n, &mut digits);
-    text(rt, &digits[..k]);
+// The same of what is text.
+pub fn say(rt: &impl Host, what: impl Display + Drop) {
+    let _ = rt.eprint(what);
 }
 
-pub fn number(rt: &impl Host, n: usize) {
-    decimal(rt, n as u64);
-}
-
-// A line: what, a colon, and why.
-pub fn complain(rt: &impl Host, what: &[u8], why: &[u8]) {
-    text(rt, b"dagskimra: ");
+// A line: what, a colon, and why. Where nothing else is done, the command ends with the fault.
+pub fn complain(rt: &impl Host, what: &[u8], why: &[u8]) -> Failure
+    ensures { result ≡ Fault }
+{
+    say(rt, "dagskimra: ");
     text(rt, what);
-    text(rt, b": ");
+    say(rt, ": ");
     text(rt, why);
-    text(rt, b"\n");
+    say(rt, "\n");
+    Failure::Fault
 }
 
 // The same, with the system's words for the reason.
-pub fn failed(rt: &impl Host, what: &[u8], error: Error) {
+pub fn failed(rt: &impl Host, what: &[u8], error: Error) -> Failure
+    ensures { result ≡ Fault }
+{
     let mut why = [0u8; reason::LONGEST];
-    let n = reason::words(error, &mut why);
-    complain(rt, what, &why[..n]);
+    complain(rt, what, reason::words(error, &mut why))
 }
 
-// What a store wants whose entries were worked out with another holiday list. The status is 2.
-pub fn wants_rework(rt: &impl Host, folder: &[u8]) -> u8
-    ensures { result ≡ 2 }
+// What a store wants whose entries were worked out with another holiday list.
+pub fn wants_rework(rt: &impl Host, folder: &[u8]) -> Failure
+    ensures { result ≡ Fault }
 {
-    text(rt, b"dagskimra: ");
+    say(rt, "dagskimra: ");
     text(rt, folder);
-    text(
+    say(
         rt,
-        b": the entries were worked out with another holiday list; nothing was done. 'dagskimra rework ",
+        ": the entries were worked out with another holiday list; nothing was done. 'dagskimra rework ",
     );
     text(rt, folder);
-    text(rt, b"' works them out again and lists those that change\n");
-    2
+    say(rt, "' works them out again and lists those that change\n");
+    Failure::Fault
 }
 
-// A wrong command line: what is wrong, and the command's usage. The status is 2.
-pub fn usage(rt: &impl Host, wrong: &[u8], line: &[u8]) -> u8
-    ensures { result ≡ 2 }
+// A wrong command line: what is wrong, and the command's usage.
+pub fn usage(rt: &impl Host, wrong: &str, line: &str) -> Failure
+    ensures { result ≡ Fault }
 {
-    text(rt, b"dagskimra: ");
-    text(rt, wrong);
-    text(rt, b"\nusage: dagskimra ");
-    text(rt, line);
-    text(rt, b"\n");
-    2
+    say(
+        rt,
+        format_args!("dagskimra: {wrong}\nusage: dagskimra {line}\n"),
+    );
+    Failure::Fault
 }

@@ -3,105 +3,90 @@
 use records::names::kind::FileKind;
 
 // From its first byte to the one behind its last.
-#[derive(Drop)]
+#[derive(Clone, Copy)]
 pub struct Span {
     pub first: usize,
     pub end: usize,
 }
 
-// The bytes from `from` up to `to`; nothing where there are none.
-pub fn part(s: &[u8], from: usize, to: usize) -> &[u8] {
-    if s.len() < to {
-        return &s[0..0];
+impl Span {
+    // All from `first` on.
+    pub fn from(line: &[u8], first: usize) -> Span {
+        Span {
+            first,
+            end: line.len(),
+        }
     }
-    if to < from {
-        return &s[0..0];
+
+    // Its bytes; nothing where there are none.
+    pub fn part(self, line: &[u8]) -> &[u8] {
+        line.get(self.first..self.end).unwrap_or(&[])
     }
-    &s[from..to]
 }
 
 // The place behind `k` separators; the end where there are fewer.
 pub fn behind(s: &[u8], sep: u8, k: usize) -> usize {
     let mut at = 0;
-    let mut left = k;
-    while 0 < left {
-        let e = text::field_end(s, at, sep);
-        if s.len() <= e {
+    for _ in 0..k {
+        let end = text::field_end(s, at, sep);
+        if s.len() <= end {
             return s.len();
         }
-        at = e + 1;
-        left -= 1;
+        at = end + 1;
     }
     at
 }
 
-// Between the comma `k` and the next one; the first is comma 1.
-fn between(line: &[u8], k: usize) -> Span {
-    let first = behind(line, b',', k);
+// From `first` to the next separator.
+pub fn up_to(s: &[u8], first: usize, sep: u8) -> Span {
     Span {
         first,
-        end: text::field_end(line, first, b','),
+        end: text::field_end(s, first, sep),
     }
+}
+
+// Between the comma `k` and the next one; the first is comma 1.
+fn between(line: &[u8], k: usize) -> Span {
+    up_to(line, behind(line, b',', k), b',')
 }
 
 // All that stands behind the comma `k`.
 fn rest(line: &[u8], k: usize) -> Span {
-    Span {
-        first: behind(line, b',', k),
-        end: line.len(),
-    }
+    Span::from(line, behind(line, b',', k))
 }
 
 fn at_end(line: &[u8]) -> Span {
-    Span {
-        first: line.len(),
-        end: line.len(),
-    }
+    Span::from(line, line.len())
 }
 
 // As many bytes further on, but not behind `end`.
 fn on(at: usize, bytes: usize, end: usize) -> usize {
-    if end < at {
-        return end;
-    }
-    if end - at < bytes {
-        return end;
-    }
-    at + bytes
+    at.saturating_add(bytes).min(end)
 }
 
 // Code, `U:` and the first number field of a correction, which no comma parts.
 fn head(line: &[u8], pos: usize) -> Span {
-    let end = text::field_end(line, 0, b',');
-    let mark = on(0, faults::cut::code_width(part(line, 0, end)), end);
-    let number = on(mark, 2, end);
-    match pos {
-        1 => Span {
-            first: 0,
-            end: mark,
-        },
-        2 => Span {
-            first: mark,
-            end: number,
-        },
-        _ => Span { first: number, end },
-    }
+    let all = between(line, 0);
+    let mark = on(0, faults::cut::code_width(all.part(line)), all.end);
+    let number = on(mark, 2, all.end);
+    let (first, end) = match pos {
+        1 => (0, mark),
+        2 => (mark, number),
+        _ => (number, all.end),
+    };
+    Span { first, end }
 }
 
 // `K:` and the first number field of the K part.
 fn middle(line: &[u8], pos: usize) -> Span {
     let both = between(line, 6);
     let number = on(both.first, 2, both.end);
-    if pos == 15 {
-        return Span {
-            first: both.first,
-            end: number,
-        };
-    }
-    Span {
-        first: number,
-        end: both.end,
-    }
+    let (first, end) = if pos == 15 {
+        (both.first, number)
+    } else {
+        (number, both.end)
+    };
+    Span { first, end }
 }
 
 fn correction(line: &[u8], pos: usize) -> Span {
@@ -146,9 +131,8 @@ fn request(line: &[u8], pos: usize) -> Span {
 // The field `pos` of a line. Commas and the CR are asked for only where they are missing.
 pub fn of(kind: FileKind, line: &[u8], pos: usize) -> Span {
     match kind {
-        FileKind::Default => report(line, pos),
         FileKind::Correction => correction(line, pos),
         FileKind::Request => request(line, pos),
-        FileKind::Response => report(line, pos),
+        FileKind::Default | FileKind::Response => report(line, pos),
     }
 }

@@ -1,14 +1,14 @@
 -- Working out: the fold over the sorted keys is the one over the history. Assumes nothing.
 use mathlib.Core.Path.{◌≡◌, refl, sym, ap, ◌∙◌}
 use mathlib.Core.List.{List, [], ◌++◌, map, foldl}
-use Prim.Native.Nat.{ℕ, ◌+◌, ◌≤◌, ◌<◌}
+use Prim.Native.Nat.{ℕ, ◌≤◌, ◌<◌}
 use lib.Dec.{leb}
-use lib.ListN.{length, take, drop, get_or}
+use lib.ListN.{length, take, drop}
 use Rattle.laws.specs.Lists.{table}
 use Rattle.laws.specs.Order.{sorted}
 use Rattle.laws.proofs.Order.{length-in_order}
 use Rattle.laws.proofs.Rising.{take-sorted-any}
-use Rattle.laws.proofs.Folds.{fold_more, fold-map}
+use Rattle.laws.proofs.Folds.{fold-map}
 use Rattle.fields.specs.declared.number.Number.{Number}
 use Rattle.entries.specs.declared.entry.Entry.{Entry}
 use Rattle.entries.specs.declared.entry.Line.{Line}
@@ -27,21 +27,6 @@ use Rattle.working.specs.Working.{table_line, Sound, Gathered, stand_behind, fol
 use Rattle.store.proofs.journals.FirstFiles.{first-of-all}
 use Rattle.working.proofs.KeyLaws.{fold-keys, keys-count, bounded_at, fold-before}
 use Rattle.working.proofs.GatherLaws.{ranged, room-all, in-turn}
-
--- a turn of the fold
-pub before-turn : (line : Line) (regular corrections keys : List ℕ) (mark : ℕ) (s t : Standing) (i : ℕ) → i < length keys
-    → s ≡ foldl (stand_before line regular corrections mark) (first_standing line) (take i keys) → t ≡ stand_before line regular corrections mark s (get_or keys i 0)
-    → t ≡ foldl (stand_before line regular corrections mark) (first_standing line) (take (i + 1) keys)
-before-turn line regular corrections keys mark s t i h e q =
-    q ∙ ap (λ (u : Standing). stand_before line regular corrections mark u (get_or keys i 0)) e
-    ∙ sym (fold_more (stand_before line regular corrections mark) (first_standing line) 0 keys i h)
-
-pub fold-turn : (line : Line) (regular corrections keys : List ℕ) (s t : Standing) (i : ℕ) → i < length keys
-    → s ≡ foldl (stand_behind line regular corrections) (first_standing line) (take i keys) → t ≡ stand_behind line regular corrections s (get_or keys i 0)
-    → t ≡ foldl (stand_behind line regular corrections) (first_standing line) (take (i + 1) keys)
-fold-turn line regular corrections keys s t i h e q =
-    q ∙ ap (λ (u : Standing). stand_behind line regular corrections u (get_or keys i 0)) e
-    ∙ sym (fold_more (stand_behind line regular corrections) (first_standing line) 0 keys i h)
 
 -- ---- how many records name the number
 module _ (n : ℕ) (files regular corrections : List ℕ) (number : Number) (sound : Sound n files regular corrections) where

@@ -1,5 +1,4 @@
 pub mod Laying
-pub mod Listing
 pub mod Grouping
 pub mod Marking
 pub mod Finding

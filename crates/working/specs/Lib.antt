@@ -1,3 +1,4 @@
+pub mod Passing
 pub mod Slips
 pub mod Working
 pub mod indexing

@@ -2,3 +2,4 @@
 // of the number that each names, and a number's records are then found in its group.
 pub mod find;
 pub mod index;
+pub mod tags;

@@ -6,12 +6,12 @@
 --     verdict-promise        the verdict shown is the model's, at the record's own point of the history
 --     figure-promise         whatever was written over the entries, the figure is the number of those that were changed
 --     figure-of-changes, figure-nothing, changed-at (`Figures`), part-bytes, record-promise (`Parts`)
-use Rattle.std.specs.Prelude.{Option, Some, None}
+use Rattle.std.specs.Option.{option_map}
+use Rattle.std.specs.Prelude.{Option, Some, None, Result, Ok}
 use mathlib.Core.Path.{◌≡◌, refl, sym, ap, subst, ◌∙◌}
 use mathlib.Core.Logic.{◌⊎◌, inl, inr, ⊎_elim}
 use mathlib.Core.Bool.{true, false, not, true≢false}
 use mathlib.Core.List.{List, [], ◌∷◌, ◌++◌}
-use mathlib.Core.Option.{Option, none, some, map}
 use Prim.Native.Nat.{ℕ}
 use native.Mathlib.Omega.{arith}
 use borrow.Author.Tests.{not-true}
@@ -34,13 +34,12 @@ use Rattle.model.specs.Model as model
 use Rattle.model.proofs.Stores.{reached-once}
 use Rattle.rules.specs.Rules.{rules, standings, record_of, line_by}
 use Rattle.rules.proofs.Promises.{entry-worked-afresh, same-history, standing-entry}
-use Rattle.asking.specs.declared.pairs.Stored.{Stored}
-use Rattle.asking.specs.declared.pairs.WhyAnswer.{WhyAnswer}
+use Rattle.asking.specs.declared.answer.NotShown.{NotShown}
+use Rattle.asking.specs.declared.pairs.Pair.{Pair}
 use Rattle.asking.specs.Items.{item_at}
 use Rattle.asking.specs.Why.{stored_as, pair_of, why_on, why_in}
 use Rattle.asking.specs.Record.{point_verdict, asked_as}
 use Rattle.store.specs.Reads.{Held}
-use Rattle.asking.specs.declared.answering.figure.FigureAnswer.{FigureAnswer}
 use Rattle.asking.specs.answering.Confirmed.{processed_before, confirms, none_confirms}
 use Rattle.asking.specs.answering.Figure.{figure_of, figure_asked}
 use Rattle.asking.proofs.answering.Figures.{changes, figure-of-changes}
@@ -57,31 +56,31 @@ records_on s line = history rules s.files line.number
 pub record PairShown (s : Store rules) (number : Number) (line : TableLine Number) : Type 0 where
   pub first : Place
   pub second : Place
-  pub shown : why_in s.lines s.files number ≡ WhyAnswer.Pair (stored_as s.files first) (stored_as s.files second)
+  pub shown : why_in s.lines s.files number ≡ Ok (Some (record { first = stored_as s.files first; second = stored_as s.files second }))
   -- it is the pair of the last record of the history that was confirmed
   pub last-confirmed : Latest (line_by line) (first_standing (line_by line)) (records_on s line)
   pub its-pair : (stand_on (line_by line) (standing (line_by line) (first_standing (line_by line)) last-confirmed.earlier) (record_of last-confirmed.event)).why ≡ Why.Pair first second
   -- both are reports of the history, published by the network that has to, and stored at the places shown
   pub first-record : Root (line_by line).owner (records_on s line) first
   pub second-record : Root (line_by line).owner (records_on s line) second
-  pub first-stored : item_at (journal_of 0 s.files) (stored_as s.files first).place ≡ some first-record.event
-  pub second-stored : item_at (journal_of 0 s.files) (stored_as s.files second).place ≡ some second-record.event
+  pub first-stored : item_at (journal_of 0 s.files) (stored_as s.files first).place ≡ Some first-record.event
+  pub second-stored : item_at (journal_of 0 s.files) (stored_as s.files second).place ≡ Some second-record.event
   -- the report processed first comes first
   pub in_order : processed_before first-record.event second-record.event ≡ true
   -- they match
   pub pairing : Pairing first second
   -- and the stored entry has their gaining network as holder, and their date
   pub entry : Entry
-  pub held : entry_of rules s.lines s.entries number ≡ some entry
+  pub held : entry_of rules s.lines s.entries number ≡ Some entry
   pub holder : entry.holder ≡ second.report.gaining
   pub last : entry.last ≡ Some second.report.date
 
 -- none is shown
 pub record NoneShown (s : Store rules) (number : Number) (line : TableLine Number) : Type 0 where
-  pub shown : why_in s.lines s.files number ≡ WhyAnswer.Nothing
+  pub shown : why_in s.lines s.files number ≡ Ok None
   pub none-confirmed : none_confirms (line_by line) (first_entry (line_by line)) (records_on s line) ≡ true
   pub entry : Entry
-  pub held : entry_of rules s.lines s.entries number ≡ some entry
+  pub held : entry_of rules s.lines s.entries number ≡ Some entry
   pub holder : entry.holder ≡ (line_by line).owner
   pub last : entry.last ≡ None
 
@@ -99,7 +98,7 @@ unfolding none_confirms stand_on entry_after
 none-at line s [] e m h = not-true _ (and_left (not (confirms line s.entry e)) (none_confirms line (entry_after line s.entry (record_of e)) m) h)
 none-at line s (x ∷ l) e m h = none-at line (stand_on line s (record_of x)) l e m (and_right (not (confirms line s.entry x)) (none_confirms line (entry_after line s.entry (record_of x)) (l ++ (e ∷ m))) h)
 
-module _ {s : Store rules} (reached : Reached rules s) (number : Number) (line : TableLine Number) (listed : line_of rules s.lines number ≡ some line) where
+module _ {s : Store rules} (reached : Reached rules s) (number : Number) (line : TableLine Number) (listed : line_of rules s.lines number ≡ Some line) where
   abbrev own : Line
   own = line_by line
 
@@ -109,15 +108,15 @@ module _ {s : Store rules} (reached : Reached rules s) (number : Number) (line :
   abbrev stand : Standing
   stand = standing own (first_standing own) es
 
-  shows : (w : Why) → stand.why ≡ w → why_in s.lines s.files number ≡ pair_of s.files w
+  shows : (w : Why) → stand.why ≡ w → why_in s.lines s.files number ≡ Ok (pair_of s.files w)
   unfolding why_in
-  shows w e = ap (why_on s.files) listed ∙ ap (pair_of s.files) (ap (λ (t : Standing). t.why) (stands-over s.files line) ∙ e)
+  shows w e = ap (why_on s.files) listed ∙ ap (λ (v : Why). Ok (pair_of s.files v)) (ap (λ (t : Standing). t.why) (stands-over s.files line) ∙ e)
 
   abbrev worked : Entry
   worked = entry_over rules s.files line
 
-  held-worked : entry_of rules s.lines s.entries number ≡ some worked
-  held-worked = entry-worked-afresh reached number ∙ ap (map (entry_over rules s.files)) listed
+  held-worked : entry_of rules s.lines s.entries number ≡ Some worked
+  held-worked = entry-worked-afresh reached number ∙ ap (option_map (entry_over rules s.files)) listed
 
   worked-stands : worked ≡ stand.entry
   worked-stands = sym (standing-entry s.files line) ∙ ap (λ (t : Standing). t.entry) (stands-over s.files line)
@@ -173,26 +172,26 @@ module _ {s : Store rules} (reached : Reached rules s) (number : Number) (line :
       go Why.Nothing e = inl (no-pair e)
       go (Why.Pair a b) e = inr (a_pair a b e)
 
-  pub none-exactly : (why_in s.lines s.files number ≡ WhyAnswer.Nothing → none_confirms own (first_entry own) es ≡ true) × (none_confirms own (first_entry own) es ≡ true → why_in s.lines s.files number ≡ WhyAnswer.Nothing)
+  pub none-exactly : (why_in s.lines s.files number ≡ Ok None → none_confirms own (first_entry own) es ≡ true) × (none_confirms own (first_entry own) es ≡ true → why_in s.lines s.files number ≡ Ok None)
   none-exactly = (
-    (λ e. ⊎_elim (λ w. w.none-confirmed) (λ w. absurd (apart (stored_as s.files w.first) (stored_as s.files w.second) (sym w.shown ∙ e))) why-promise),
+    (λ e. ⊎_elim (λ w. w.none-confirmed) (λ w. absurd (apart (record { first = stored_as s.files w.first; second = stored_as s.files w.second }) (sym w.shown ∙ e))) why-promise),
     (λ h. ⊎_elim (λ w. w.shown) (λ w. absurd (true≢false (sym w.last-confirmed.confirmed ∙ none-at own (first_standing own) w.last-confirmed.earlier w.last-confirmed.event w.last-confirmed.later
         (ap (none_confirms own (first_entry own)) (sym w.last-confirmed.split) ∙ h)))) why-promise),
   )
     where
-      apart : (a b : Stored) → WhyAnswer.Pair a b ≡ WhyAnswer.Nothing → ⊥
-      apart a b q = let z : ◌≡◌ {A = ℕ} 0 1 = cc in absurd (omega arith)
+      apart : (p : Pair) → ◌≡◌ {A = Result (Option Pair) NotShown} (Ok (Some p)) (Ok None) → ⊥
+      apart p q = let z : ◌≡◌ {A = ℕ} 0 1 = cc in absurd (omega arith)
 
 -- ---- verdicts
 verdict-by : (files : List Filed) (e : Event) (l : Option (TableLine Number)) → number_of (point_verdict files e (record_of e) l) ≡ judged rules files e l
 unfolding judged
-verdict-by files e none = refl
-verdict-by files e (some line) = unfold model.verdict_over in refl
+verdict-by files e None = refl
+verdict-by files e (Some line) = unfold model.verdict_over in refl
 
 pub verdict-promise : (s : Store rules) (e : Event) → number_of (asked_as s.lines s.files e).verdict ≡ verdict_of rules s e
 unfolding verdict_of
 verdict-promise s e = verdict-by s.files e (line_of rules s.lines (model.number_of rules e))
 
 -- ---- the figure of buffers whose table and files are those of a reached store, whatever was written over the entries
-pub figure-promise : (h : Held) {s : Store rules} → Reached rules s → h.lines ≡ s.lines → h.files ≡ s.files → figure_asked (some h) ≡ FigureAnswer.Differ (changes s.entries h.entries)
-figure-promise h {s} r el ef = ap FigureAnswer.Differ ((λ j. figure_of (el j) (ef j) h.entries) ∙ figure-of-changes r h.entries)
+pub figure-promise : (h : Held) {s : Store rules} → Reached rules s → h.lines ≡ s.lines → h.files ≡ s.files → figure_asked (Some h) ≡ Ok (changes s.entries h.entries)
+figure-promise h {s} r el ef = ap Ok ((λ j. figure_of (el j) (ef j) h.entries) ∙ figure-of-changes r h.entries)

@@ -5,8 +5,7 @@ use Rattle.std.specs.Prelude.{Option, Some, None}
 use mathlib.Core.Path.{◌≡◌, refl, sym, ap, ◌∙◌}
 use mathlib.Core.Bool.{Bool, true, false, cond, ◌&&◌, true≢false}
 use mathlib.Core.List.Memᴰ
-use mathlib.Core.List.{List, [], ◌∷◌, ◌++◌, head?, flat_map, Memᴰ}
-use mathlib.Core.Option.{some}
+use mathlib.Core.List.{List, [], ◌∷◌, ◌++◌, flat_map, Memᴰ}
 use Prim.Native.Nat.{ℕ, zero, suc, ◌+◌, ◌<◌}
 use native.Mathlib.Decide.{ℕ_discrete}
 use native.Mathlib.Nat.{zero-add}
@@ -14,7 +13,6 @@ use native.Mathlib.Omega.{arith}
 use borrow.Author.Tests.{eqb-true, eq-eqb, ne_eqb}
 use lib.Dec.{eqb}
 use lib.ListN.{length, length-append, get_or-append}
-use lib.Seq.{drop-append-add}
 use Rattle.laws.specs.Lists.{table, keep}
 use Rattle.laws.proofs.Lists.{mem-keep, mem_below}
 use Rattle.laws.proofs.Order.{mem-in_order}
@@ -36,7 +34,7 @@ use Rattle.rules.specs.Records.{says_in, objected, corrected}
 use Rattle.rules.specs.Rules.{rules}
 use Rattle.asking.specs.Items.{item_at}
 use Rattle.asking.specs.Why.{is_file_of, reports_in, start_in, stored_as}
-use Rattle.asking.proofs.Lines.{item-at}
+use Rattle.asking.proofs.Lines.{item-behind, item-at}
 use Rattle.asking.proofs.answering.Roots.{Root}
 
 -- ---- only a record of a default file is a report
@@ -68,12 +66,12 @@ length-events : (g : Filed) → length (events g) ≡ length g.records
 unfolding events
 length-events g = length-table (length g.records) (event_at g)
 
-event-in : (g : Filed) (rest : List Event) (i : ℕ) → i < length g.records → item_at (events g ++ rest) i ≡ some (event_at g i)
+event-in : (g : Filed) (rest : List Event) (i : ℕ) → i < length g.records → item_at (events g ++ rest) i ≡ Some (event_at g i)
 unfolding events
 event-in g rest i h =
     let l = table (length g.records) (event_at g) in
     let b : i < length l = omega (arith, length-table (length g.records) (event_at g)) in
-    item-at (l ++ rest) i (event_at g i) (omega (arith, length-append l rest)) ∙ ap some (get_or-append l rest (event_at g i) i b ∙ get_or-table (length g.records) i (event_at g) (event_at g i) h)
+    item-at (l ++ rest) i (event_at g i) (omega (arith, length-append l rest)) ∙ ap Some (get_or-append l rest (event_at g i) i b ∙ get_or-table (length g.records) i (event_at g) (event_at g i) h)
 
 reports-yes : (g : Filed) → g.kind ≡ 0 → reports_in g ≡ length g.records
 unfolding reports_in
@@ -97,7 +95,7 @@ module _ (publisher day : ℕ) where
   is-file g k p d = rw (eq-eqb g.kind 0 k, eq-eqb g.publisher publisher p, eq-eqb g.day day d)
 
   start-at : (files : List Filed) → Once files → (f : Filed) → Memᴰ f files → f.kind ≡ 0 → f.publisher ≡ publisher → f.day ≡ day → (i : ℕ) → i < length f.records
-      → item_at (journal_of 0 files) (start_in publisher day files + i) ≡ some (event_at f i)
+      → item_at (journal_of 0 files) (start_in publisher day files + i) ≡ Some (event_at f i)
   start-at [] once f m k p d i h = absurd (Memᴰ.not-nil m)
   start-at (g ∷ fs) once f m k p d i h = go (is_file_of publisher day g) refl m (λ n. start-at fs (λ a b j l. once a b (Memᴰ.tail j) (Memᴰ.tail l)) f n k p d i h)
     where
@@ -110,25 +108,25 @@ module _ (publisher day : ℕ) where
       place-no : is_file_of publisher day g ≡ false → (g.kind ≡ 0 → ⊥) → start_in publisher day (g ∷ fs) + i ≡ start_in publisher day fs + i
       place-no e q = omega (arith, start-by false e, reports-no g q)
 
-      passed : is_file_of publisher day g ≡ false → item_at (journal_of 0 fs) (start_in publisher day fs + i) ≡ some (event_at f i) → item_at (journal_of 0 (g ∷ fs)) (start_in publisher day (g ∷ fs) + i) ≡ some (event_at f i)
+      passed : is_file_of publisher day g ≡ false → item_at (journal_of 0 fs) (start_in publisher day fs + i) ≡ Some (event_at f i) → item_at (journal_of 0 (g ∷ fs)) (start_in publisher day (g ∷ fs) + i) ≡ Some (event_at f i)
       passed e ih = elim (ℕ_discrete g.kind 0) [
         | yes q ↦
             ap (λ (n : ℕ). item_at (journal_of 0 (g ∷ fs)) n) (place-yes e q) ∙ ap (λ (l : List Event). item_at l (length (events g) + (start_in publisher day fs + i))) (journal-yes g fs q)
-            ∙ ap (λ (l : List Event). head? l) (drop-append-add (events g) (journal_of 0 fs) (start_in publisher day fs + i)) ∙ ih
+            ∙ item-behind (events g) (journal_of 0 fs) (start_in publisher day fs + i) ∙ ih
         | no q ↦ ap (λ (n : ℕ). item_at (journal_of 0 (g ∷ fs)) n) (place-no e q) ∙ ap (λ (l : List Event). item_at l (start_in publisher day fs + i)) (journal-no g fs q) ∙ ih
       ]
 
-      go : (t : Bool) → is_file_of publisher day g ≡ t → Memᴰ f (g ∷ fs) → (Memᴰ f fs → item_at (journal_of 0 fs) (start_in publisher day fs + i) ≡ some (event_at f i)) → item_at (journal_of 0 (g ∷ fs)) (start_in publisher day (g ∷ fs) + i) ≡ some (event_at f i)
+      go : (t : Bool) → is_file_of publisher day g ≡ t → Memᴰ f (g ∷ fs) → (Memᴰ f fs → item_at (journal_of 0 fs) (start_in publisher day fs + i) ≡ Some (event_at f i)) → item_at (journal_of 0 (g ∷ fs)) (start_in publisher day (g ∷ fs) + i) ≡ Some (event_at f i)
       go true e n ih =
           let w = file-of g e in
           let same : f ≡ g = once f g n (Memᴰ.head refl) (p ∙ sym w.1) (d ∙ sym w.2) (k ∙ sym w.0) in
           ap (λ (j : ℕ). item_at (journal_of 0 (g ∷ fs)) (j + i)) (start-by true e) ∙ ap (λ (j : ℕ). item_at (journal_of 0 (g ∷ fs)) j) (zero-add i)
-          ∙ ap (λ (l : List Event). item_at l i) (journal-yes g fs w.0) ∙ event-in g (journal_of 0 fs) i (omega (arith, ap (λ (x : Filed). length x.records) same)) ∙ ap (λ (x : Filed). some (event_at x i)) (sym same)
+          ∙ ap (λ (l : List Event). item_at l i) (journal-yes g fs w.0) ∙ event-in g (journal_of 0 fs) i (omega (arith, ap (λ (x : Filed). length x.records) same)) ∙ ap (λ (x : Filed). Some (event_at x i)) (sym same)
       go false e (Memᴰ.head q) ih = absurd (true≢false (sym (is-file g (ap (λ (x : Filed). x.kind) (sym q) ∙ k) (ap (λ (x : Filed). x.publisher) (sym q) ∙ p) (ap (λ (x : Filed). x.day) (sym q) ∙ d)) ∙ e))
       go false e (Memᴰ.tail n) ih = passed e (ih n)
 
 -- ---- the report of a place
-pub stored-root : (files : List Filed) → Once files → (owner : Code) (number : Number) (p : Place) (w : Root owner (history rules files number) p) → item_at (journal_of 0 files) (stored_as files p).place ≡ some w.event
+pub stored-root : (files : List Filed) → Once files → (owner : Code) (number : Number) (p : Place) (w : Root owner (history rules files number) p) → item_at (journal_of 0 files) (stored_as files p).place ≡ Some w.event
 unfolding history events
 stored-root files once owner number p w =
     let e = w.event in
@@ -142,4 +140,4 @@ stored-root files once owner number p w =
     let place : p.at ≡ at.0 = ap (λ (q : Place). q.at) w.placed ∙ ap (λ (d : Event). d.place) same in
     ap (λ (n : ℕ). item_at (journal_of 0 files) (start_in (publisher_of p.report).0 p.day.0 files + n)) place
     ∙ start-at (publisher_of p.report).0 p.day.0 files once f.0 f.1 kind (sym publisher) (sym day) at.0 at.1
-    ∙ ap some (sym same)
+    ∙ ap Some (sym same)

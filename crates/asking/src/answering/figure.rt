@@ -8,18 +8,12 @@ ghost use Rattle.entries.specs.comparing.Same.{same_entry};
 ghost use Rattle.working.specs.indexing.Index.{Wanted, Indexed};
 ghost use Rattle.asking.specs.answering.Figure.{differing, figure_asked};
 
+use crate::answer::Unreadable;
 use store::journals::files;
 use store::numbers::lines;
 use store::readable;
 use verdict::step::Standing;
 use working::indexing::index;
-
-// How many entries differ, or that the buffers do not read.
-#[derive(Drop)]
-pub enum FigureAnswer {
-    Differ(usize),
-    Unreadable,
-}
 
 // Whether the entry of the line i is another one than a standing has.
 fn is_other(entries: &[u8], i: usize, s: Standing) -> bool
@@ -134,14 +128,13 @@ pub fn figure<'a>(
     regular: &'a [u8],
     corrections: &'a [u8],
     entries: &[u8],
-) -> FigureAnswer
+) -> Result<usize, Unreadable>
     ensures { result ≡ figure_asked (reads (lent table.now files.now regular.now corrections.now entries.now)) }
 {
     if !readable::readable(table, files, regular, corrections, entries) {
-        return FigureAnswer::Unreadable;
+        return Err(Unreadable);
     }
     let n = files::file_count(files);
     let m = lines::line_count(table);
-    let count = differing_among(table, files, n, regular, corrections, entries, m);
-    FigureAnswer::Differ(count)
+    Ok(differing_among(table, files, n, regular, corrections, entries, m))
 }

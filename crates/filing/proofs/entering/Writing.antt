@@ -1,4 +1,5 @@
 -- The loop that writes the first lines of a text, and what is known of the lines of a file that was judged. Assumes nothing.
+use Rattle.layout.specs.declared.correction.Correction.{Correction as ACorrection}
 use Rattle.std.specs.Prelude.{Ok}
 use Rattle.std.specs.Prelude.{is_some}
 use Rattle.layout.specs.declared.report.Report.{Report}
@@ -110,7 +111,7 @@ report-short : (l : List ℕ) (r : Option Report) → report_of l ≡ r → is_s
 report-short l (Some x) q e = omega (arith, report-record l x q)
 report-short l None q e = absurd (let z : ◌≡◌ {A = ℕ} 0 1 = cc in omega arith)
 
-correction-short : (l : List ℕ) (c : Option Correction) → correction_of l ≡ c → is_some c ≡ true → length l < 98
+correction-short : (l : List ℕ) (c : Option ACorrection) → correction_of l ≡ c → is_some c ≡ true → length l < 98
 correction-short l (Some x) q e = omega (arith, correction-record l x q)
 correction-short l None q e = absurd (let z : ◌≡◌ {A = ℕ} 0 1 = cc in omega arith)
 

@@ -4,10 +4,10 @@
 --     renewed-readable    so the buffers still read as a store;
 --     renewed-reads       as which one
 --     last-filed          the file that came last
+use Rattle.std.specs.Prelude.{Some}
 use mathlib.Core.Path.{◌≡◌, refl, sym, ap, ap₂, ◌∙◌}
 use mathlib.Core.Bool.{Bool, true, false, cond}
 use mathlib.Core.List.{List, [], ◌∷◌, ◌++◌, map, flat_map, zip_with}
-use mathlib.Core.Option.{some}
 use Prim.Native.Nat.{ℕ, ◌+◌, ◌-◌, ◌*◌, ◌≤◌, ◌<◌}
 use native.Mathlib.Omega.{arith}
 use lib.ListN.{length, get_or, length-append, length-map, get_or-map}
@@ -166,6 +166,6 @@ module _ (b : Buffers) (e : is_readable b ≡ true) (f : Filed) where
   renewed-readable = sym (read-entries with still-long (whole-table b e) (whole-files b e) (whole-records b e) (line_count b.table) refl) ∙ renewed-good
 
   pub renewed-reads : (before : List Filed) → files ≡ before ++ (f ∷ [])
-      → reads with ≡ some (record { lines = lines; files = before ++ (f ∷ []); entries = zip_with (renewed rules before f) lines (held b).entries })
+      → reads with ≡ Some (record { lines = lines; files = before ++ (f ∷ []); entries = zip_with (renewed rules before f) lines (held b).entries })
   unfolding held
-  renewed-reads before q = reads-some with renewed-readable ∙ (λ i. some (record { lines = lines; files = q i; entries = renewed-read before q i }))
+  renewed-reads before q = reads-some with renewed-readable ∙ (λ i. Some (record { lines = lines; files = q i; entries = renewed-read before q i }))

@@ -1,10 +1,11 @@
 -- How many numbers are below a key. Assumes nothing.
---     search-up, search-down    of numbers in order: one that is below the key stands before that place, one that is not stands behind it
+--     below-past, below-here    of numbers in order: one that is below the key stands before that place, one that is not stands behind it
+--     parted, below-point       std's search by halves finds that place
 --     below-rise                from one key to a higher one: those between them
 --     between                   of numbers in order: those between two keys are one part
 use mathlib.Core.Path.{◌≡◌, refl, sym, ap, ap₂, ◌∙◌}
 use mathlib.Core.Logic.{⊎_elim}
-use mathlib.Core.Bool.{Bool, not, ◌&&◌}
+use mathlib.Core.Bool.{Bool, true, false, not, ◌&&◌}
 use mathlib.Core.List.{List, [], ◌∷◌, ◌++◌, Memᴰ}
 use Prim.Native.Nat.{ℕ, zero, suc, ◌+◌, ◌-◌, ◌≤◌, ◌<◌}
 use native.Mathlib.Nat.{le_trans}
@@ -12,12 +13,16 @@ use native.Mathlib.Omega.{arith}
 use borrow.Author.Tests.{leb-true, lt-leb, ltb-true, ltb-false, lt-ltb, le-ltb}
 use lib.Dec.{leb, ltb}
 use lib.ListN.{length, take, drop, get_or, length-append}
-use lib.Seq.{take_at, drop_at, length-take-le, get_or-take}
+use lib.Seq.{take_at, drop_at}
+use Rattle.std.specs.List.{AllWithin}
+use Rattle.std.specs.List.Sorted.{IsPartitionedBy, IsPartitionPoint}
+use Rattle.std.proofs.lemmas.List.Sorted.{IsPartitionedBy-ltb}
 use Rattle.laws.specs.Lists.{keep}
 use Rattle.laws.specs.Order.{sorted, Below, Ordered}
 use Rattle.laws.proofs.Tests.{le-or-lt}
 use Rattle.laws.proofs.Lists.{keep-yes, keep-no, keep-none, keep_all, keep_append, keep-passes, keep-both, keep-at-most}
 use Rattle.laws.proofs.Order.{keep-in_order, in_order-parts, in_order-ordered, length-in_order, mem-in_order}
+use Rattle.laws.proofs.Sorting.{non_decreasing}
 use Rattle.laws.proofs.ByKey.{by_number}
 use Rattle.order.specs.groups.Groups.{below}
 
@@ -57,13 +62,26 @@ module _ (key : ℕ) where
   below-here (x ∷ l) o zero h k = omega (arith, below_none key x l k o.0)
   below-here (x ∷ l) o (suc i) h k = ⊎_elim (λ (m : key ≤ x). omega (arith, below_none key x l m o.0)) (λ (m : x < key). omega (arith, below-yes key x l m, below-here l o.1 i (omega arith) k)) (le-or-lt key x)
 
--- the same of the first n of a list
-module _ (key : ℕ) (l : List ℕ) (n : ℕ) (h : n ≤ length l) (o : sorted (take n l) ≡ take n l) (i : ℕ) (k : i < n) where
-  pub search-up : get_or l i 0 < key → i + 1 ≤ below key (take n l)
-  search-up m = omega (arith, below-past key (take n l) (sorted-ordered (take n l) o) i (omega (arith, length-take-le n l h)) (omega (arith, get_or-take n l i 0 k)))
+-- std's search by halves, of numbers in order
+module _ (key : ℕ) (l : List ℕ) (o : sorted l ≡ l) where
+  pub parted : IsPartitionedBy (λ (x : ℕ). ltb x key) l
+  parted = IsPartitionedBy-ltb (λ (x : ℕ). x) l key (non_decreasing l (sorted-ordered l o))
 
-  pub search-down : key ≤ get_or l i 0 → below key (take n l) ≤ i
-  search-down m = below-here key (take n l) (sorted-ordered (take n l) o) i (omega (arith, length-take-le n l h)) (omega (arith, get_or-take n l i 0 k))
+  pub below-point : (i : ℕ) → i ≤ length l → IsPartitionPoint (λ (x : ℕ). ltb x key ≡ true) (λ (x : ℕ). ltb x key ≡ false) l i → i ≡ below key l
+  below-point i h p = ⊎_elim at-end within (le-or-lt (length l) i)
+    where
+      low : i ≤ below key l
+      low = go i h p.0
+        where
+          go : (n : ℕ) → n ≤ length l → AllWithin (λ (x : ℕ). ltb x key ≡ true) l 0 n → n ≤ below key l
+          go zero m q = omega arith
+          go (suc n) m q = below-past key l (sorted-ordered l o) n m (ltb-true (get_or l n 0) key (q n 0 (omega arith) (omega arith)))
+
+      at-end : length l ≤ i → i ≡ below key l
+      at-end m = omega (arith, low, below-most key l)
+
+      within : i < length l → i ≡ below key l
+      within m = omega (arith, low, below-here key l (sorted-ordered l o) i m (ltb-false (get_or l i 0) key (p.1 i 0 (omega arith) m)))
 
 -- ---- between two keys
 -- from a on, and below b

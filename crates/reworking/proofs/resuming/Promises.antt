@@ -1,10 +1,10 @@
 -- The promises of demand 3 for a store that was reworked. Assumes nothing.
 --     resumed-reached     buffers that reworking and then filing lead to read as a store that the model reaches
 --     demand-3-resumed    in them every number's entry equals the one worked out afresh from the journals
+use Rattle.std.specs.Prelude.{Option, Some}
 use mathlib.Core.Path.{◌≡◌, ap, ◌∙◌}
 use mathlib.Core.Bool.{true}
 use mathlib.Core.List.{List, map}
-use mathlib.Core.Option.{Option, some}
 use Prim.Native.Nat.{ℕ, ◌≤◌}
 use lib.ListN.{length, take}
 use lib.Seq.{take_all}
@@ -54,10 +54,10 @@ pub resumed-reached : {b : Buffers} → Resumed b → (is_readable b ≡ true) �
 unfolding held
 resumed-reached (rework {b} {n} {count} {list} {entries} {listed} all s) =
     let a = accepted b n count list s.answers in
-    let left : entries ≡ entries_after n (some (held b)) b.entries = s.leaves ∙ ap (λ (h : Option Held). entries_after n h b.entries) a.1 in
+    let left : entries ≡ entries_after n (Some (held b)) b.entries = s.leaves ∙ ap (λ (h : Option Held). entries_after n h b.entries) a.1 in
     rw left (left-reached b a.0 n all)
 resumed-reached (file c {kind} {publisher} {day} {text} s) = let p = resumed-reached c in filed-on kind publisher day text s p.0 p.1
 
 -- demand 3: every number's entry equals the one worked out afresh from the journals
-pub demand-3-resumed : {b : Buffers} → Resumed b → (reads b ≡ some (held b)) × ((held b).entries ≡ map (entry_over rules (held b).files) (held b).lines)
+pub demand-3-resumed : {b : Buffers} → Resumed b → (reads b ≡ Some (held b)) × ((held b).entries ≡ map (entry_over rules (held b).files) (held b).lines)
 demand-3-resumed {b} c = let p = resumed-reached c in (reads-some b p.0, entries-worked-afresh p.1)

@@ -3,7 +3,6 @@ use Rattle.std.specs.Prelude.{Option, Some, None}
 use mathlib.Core.Path.{◌≡◌, refl, sym, ap, ap₂, ◌∙◌}
 use mathlib.Core.Bool.{Bool, true, false, ◌&&◌}
 use mathlib.Core.List.{List, [], ◌∷◌, ◌++◌, map, flat_map, append_assoc, append-nil}
-use mathlib.Core.Option.{Option, none, some}
 use Prim.Native.Nat.{ℕ, ◌+◌, ◌*◌, ◌≤◌, ◌<◌}
 use native.Mathlib.Omega.{arith}
 use lib.ListN.{length, take, drop, get_or, length-append, drop_of_length-le}
@@ -28,8 +27,8 @@ use Rattle.starting.proofs.tables.Reading.{line-good}
 
 -- lines in front of lines, if there are any
 abbrev pub joined : List Line → Option (List Line) → Option (List Line)
-joined done (some ls) = some (done ++ ls)
-joined done none = none
+joined done (Some ls) = Some (done ++ ls)
+joined done None = None
 
 -- what has been laid out when the place `at` of the text is reached
 pub record Turn (text before : List ℕ) (at n : ℕ) (after : List ℕ) : Type 0 where
@@ -39,8 +38,8 @@ pub record Turn (text before : List ℕ) (at n : ℕ) (after : List ℕ) : Type 
   pub spread : Spread done before n after
 
 joined-none : (o : Option (List Line)) → o ≡ joined [] o
-joined-none (some ls) = refl
-joined-none none = refl
+joined-none (Some ls) = refl
+joined-none None = refl
 
 pub turn-start : (text before : List ℕ) → Turn text before 0 0 before
 unfolding all flat_map
@@ -58,22 +57,22 @@ in-front l [] h = absurd (omega arith)
 in-front l (m ∷ more) h = refl
 
 one_more : (done : List Line) (x : Line) (o : Option (List Line)) → joined done (with_line (Some x) o) ≡ joined (done ++ (x ∷ [])) o
-one_more done x (some ls) = ap some (sym (append_assoc done (x ∷ []) ls))
-one_more done x none = refl
+one_more done x (Some ls) = ap Some (sym (append_assoc done (x ∷ []) ls))
+one_more done x None = refl
 
-not-empty : (l : List ℕ) → 1 ≤ length l → lines_given (l ∷ []) ≡ none
+not-empty : (l : List ℕ) → 1 ≤ length l → lines_given (l ∷ []) ≡ None
 unfolding lines_given
 not-empty [] h = absurd (omega arith)
 not-empty (b ∷ bs) h = refl
 
-too_many : (done : List Line) (r : Option Line) (o : Option (List Line)) → 1024 ≤ length done → checked (joined done (with_line r o)) ≡ none
+too_many : (done : List Line) (r : Option Line) (o : Option (List Line)) → 1024 ≤ length done → checked (joined done (with_line r o)) ≡ None
 unfolding checked
-too_many done (Some x) (some ls) h =
+too_many done (Some x) (Some ls) h =
     rw (lt-leb (length (done ++ (x ∷ ls))) 1024 (omega (arith, length-append done (x ∷ ls))))
-too_many done (Some x) none h = refl
+too_many done (Some x) None h = refl
 too_many done None o h = refl
 
-no_line_lem : (done : List Line) (o : Option (List Line)) → checked (joined done (with_line None o)) ≡ none
+no_line_lem : (done : List Line) (o : Option (List Line)) → checked (joined done (with_line None o)) ≡ None
 unfolding checked
 no_line_lem done o = refl
 
@@ -82,7 +81,7 @@ module _ (text before : List ℕ) (at n : ℕ) (after : List ℕ) (t : Turn text
   turn-from = (ends_at 10 text at t.inside).from
 
   -- the line feeds are at an end, and something stands behind the last
-  pub turn-open : at < length text → length text ≤ end_of 10 text at → table_of text ≡ none
+  pub turn-open : at < length text → length text ≤ end_of 10 text at → table_of text ≡ None
   unfolding table_of checked
   turn-open h e =
       let ends = ends_at 10 text at t.inside in
@@ -95,13 +94,13 @@ module _ (text before : List ℕ) (at n : ℕ) (after : List ℕ) (t : Turn text
         ap lines_given (ends_more (ends_at 10 text at t.inside) e)
         ∙ in-front (between text at (end_of 10 text at)) (split 10 (drop (end_of 10 text at + 1) text)) (split-some 10 (drop (end_of 10 text at + 1) text))
 
-    pub turn_many : 1024 ≤ n → table_of text ≡ none
+    pub turn_many : 1024 ≤ n → table_of text ≡ None
     unfolding table_of
     turn_many h =
         ap checked (t.left ∙ ap (joined t.done) line-next)
         ∙ too_many t.done (line_given (between text at (end_of 10 text at))) (lines_given (split 10 (drop (end_of 10 text at + 1) text))) (omega (arith, t.spread.size))
 
-    pub turn-fault : line_given (between text at (end_of 10 text at)) ≡ None → table_of text ≡ none
+    pub turn-fault : line_given (between text at (end_of 10 text at)) ≡ None → table_of text ≡ None
     unfolding table_of
     turn-fault f =
         ap checked (t.left ∙ ap (joined t.done) (line-next ∙ ap (λ (r : Option Line). with_line r (lines_given (split 10 (drop (end_of 10 text at + 1) text)))) f))
@@ -134,11 +133,11 @@ module _ (text before : List ℕ) (at n : ℕ) (after : List ℕ) (t : Turn text
             ∙ ap (overlay before 2) (ap (λ (l : List ℕ). flat_map line_slot t.done ++ l) (sym (append-nil (line_slot x))) ∙ sym (flat_append line_slot t.done (x ∷ [])))
 
   -- all lines
-  pub turn_end : length text ≤ at → (ls : List Line) × (lines_given (split 10 text) ≡ some ls) × Spread ls before n after
+  pub turn_end : length text ≤ at → (ls : List Line) × (lines_given (split 10 text) ≡ Some ls) × Spread ls before n after
   unfolding split lines_given
   turn_end h = (
     t.done,
-    t.left ∙ ap (λ (s : List ℕ). joined t.done (lines_given (split 10 s))) (drop_of_length-le text h) ∙ ap some (append-nil t.done),
+    t.left ∙ ap (λ (s : List ℕ). joined t.done (lines_given (split 10 s))) (drop_of_length-le text h) ∙ ap Some (append-nil t.done),
     t.spread,
   )
 
@@ -178,14 +177,14 @@ module _ (ls : List Line) (before : List ℕ) (n : ℕ) (after : List ℕ) (s : 
   unfolding number_at
   numbers-laid = sym (map-table number_of_line n (line_at after)) ∙ ap (map number_of_line) lines-laid
 
-  module _ (text : List ℕ) (given : lines_given (split 10 text) ≡ some ls) where
-    pub judged-some : none_twice same_number (table n (number_at after)) ≡ true → table_of text ≡ some ls
+  module _ (text : List ℕ) (given : lines_given (split 10 text) ≡ Some ls) where
+    pub judged-some : none_twice same_number (table n (number_at after)) ≡ true → table_of text ≡ Some ls
     unfolding table_of checked
     judged-some e =
         let once : none_twice same_number (map number_of_line ls) ≡ true = ap (none_twice same_number) (sym numbers-laid) ∙ e in
         rw (given, le-leb (length ls) 1024 (omega (arith, s.size, s.few)), once)
 
-    pub judged-none : none_twice same_number (table n (number_at after)) ≡ false → table_of text ≡ none
+    pub judged-none : none_twice same_number (table n (number_at after)) ≡ false → table_of text ≡ None
     unfolding table_of checked
     judged-none e =
         let twice : none_twice same_number (map number_of_line ls) ≡ false = ap (none_twice same_number) (sym numbers-laid) ∙ e in

@@ -2,7 +2,6 @@
 use Rattle.std.specs.Prelude.{Option, Some, None}
 use Rattle.std.specs.Prelude.{◌≡◌, true, cond, ◌&&◌, ℕ, ◌≤◌, eqb, leb, length}
 use mathlib.Core.List.{List, [], ◌∷◌, map, flat_map}
-use Rattle.std.proofs.Math.Option.{Option, none, some}
 use Rattle.laws.specs.Lists.{all, none_twice}
 use Rattle.laws.specs.Overlay.{overlay}
 use Rattle.laws.specs.Split.{split, piece_of}
@@ -50,17 +49,17 @@ line_given l = cond (eqb (length (split 44 l)) 4) (four_of (piece_of 44 l 0) (pi
 -- ---- the lines
 -- behind the last line feed nothing stands
 abbrev pub end_given : List ℕ → Option (List Line)
-end_given [] = some []
-end_given (b ∷ bs) = none
+end_given [] = Some []
+end_given (b ∷ bs) = None
 
 abbrev pub with_line : Option Line → Option (List Line) → Option (List Line)
-with_line (Some l) (some ls) = some (l ∷ ls)
-with_line (Some l) none = none
-with_line None o = none
+with_line (Some l) (Some ls) = Some (l ∷ ls)
+with_line (Some l) None = None
+with_line None o = None
 
 -- the pieces between line feeds: a line each, but for the last
 unfoldable pub lines_given : List (List ℕ) → Option (List Line)
-lines_given [] = none
+lines_given [] = None
 lines_given (l ∷ []) = end_given l
 lines_given (l ∷ m ∷ more) = with_line (line_given l) (lines_given (m ∷ more))
 
@@ -69,8 +68,8 @@ abbrev pub number_of_line : Line → Number
 number_of_line l = l.number
 
 unfoldable pub checked : Option (List Line) → Option (List Line)
-checked (some ls) = cond (leb (length ls) 1024 && none_twice same_number (map number_of_line ls)) (some ls) none
-checked none = none
+checked (Some ls) = cond (leb (length ls) 1024 && none_twice same_number (map number_of_line ls)) (Some ls) None
+checked None = None
 
 -- the table that a text gives, if it gives one. A line feed is 10
 unfoldable pub table_of : List ℕ → Option (List Line)
@@ -84,9 +83,9 @@ pub record Spread (ls : List Line) (before : List ℕ) (n : ℕ) (after : List �
   pub bytes : after ≡ overlay before 2 (flat_map line_slot ls)
 
 abbrev pub LaidOut : List ℕ → List ℕ → Option ℕ → List ℕ → Type 0
-LaidOut text before (Some n) after = (ls : List Line) × (lines_given (split 10 text) ≡ some ls) × Spread ls before n after
-LaidOut text before None after = table_of text ≡ none
+LaidOut text before (Some n) after = (ls : List Line) × (lines_given (split 10 text) ≡ Some ls) × Spread ls before n after
+LaidOut text before None after = table_of text ≡ None
 
 abbrev pub Judged : List ℕ → List ℕ → Option ℕ → List ℕ → Type 0
-Judged text before (Some n) after = (ls : List Line) × (table_of text ≡ some ls) × Spread ls before n after
-Judged text before None after = table_of text ≡ none
+Judged text before (Some n) after = (ls : List Line) × (table_of text ≡ Some ls) × Spread ls before n after
+Judged text before None after = table_of text ≡ None

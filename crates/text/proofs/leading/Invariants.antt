@@ -1,10 +1,8 @@
 -- `text::leading` meets its contract. Assumes nothing.
+use Prim.Native.Nat.{◌-◌}
 use mathlib.Core.Path.{◌≡◌}
 use Rattle.laws.specs.Digits.{down}
 use Rattle.text.proofs.leading.Given as goal
 
-abbrev pub invariant-loop-i : goal.invariant-loop-i
-invariant-loop-i l = down l.k l.n ≡ down l.i l.front
-
-abbrev pub decreases-loop-i : goal.decreases-loop-i
-decreases-loop-i l = l.i
+abbrev pub invariant-loop : goal.invariant-loop
+invariant-loop l = down l.k l.n ≡ down (l.k - l.counter) l.front

@@ -3,11 +3,8 @@
 use Prim.Native.Nat.{◌-◌}
 use mathlib.Core.Path.{◌∙◌}
 use native.Mathlib.Omega.{arith}
-use Rattle.laws.proofs.Digits.{size-first, size_none, size-turn, size-end}
+use Rattle.laws.proofs.Digits.{size_none, size-turn, size-end}
 use Rattle.text.proofs.size.Goals as goal
-
-pub loop-k-init : goal.loop-k-init
-loop-k-init c = (omega arith, size-first c.args.n c.args.most)
 
 pub returns-then-m-lt10 : goal.returns-then-m-lt10
 returns-then-m-lt10 c =
@@ -15,7 +12,7 @@ returns-then-m-lt10 c =
 
 pub loop-k-preserved : goal.loop-k-preserved
 loop-k-preserved c =
-    (omega arith, c.loop-k.invariant.1 ∙ size-turn c.args.most c.loop-k.k c.loop-k.m (omega arith) (omega arith))
+    c.loop-k.invariant ∙ size-turn c.args.most c.loop-k.k c.loop-k.m (omega arith) (omega arith)
 
 pub returns : goal.returns
 returns c =

@@ -3,13 +3,13 @@ use mathlib.Core.Path.{◌≡◌, refl, sym, ap, subst, ◌∙◌}
 use mathlib.Core.Logic.{⊎_elim}
 use mathlib.Core.Bool.{Bool, true, false, ◌&&◌, ◌||◌, or-true}
 use mathlib.Core.List.{List, [], ◌∷◌, ◌++◌, map, map-append, Memᴰ}
-use Prim.Native.Nat.{ℕ, ◌+◌, ◌%◌, ◌≤◌, ◌<◌}
+use Prim.Native.Nat.{ℕ, ◌+◌, ◌%◌, ◌<◌}
 use native.Mathlib.Numerals.{add-one}
 use native.Mathlib.Omega.{arith}
 use borrow.Author.Tests.{eq-eqb}
 use lib.Dec.{eqb}
-use lib.ListN.{length, take, drop, get_or, set, length-take, length-drop, get_or-eq_default}
-use lib.Seq.{take-suc, get_or-drop}
+use lib.ListN.{length, take, get_or, set, length-take}
+use lib.Seq.{take-suc}
 use Rattle.laws.specs.Lists.{table, keep}
 use Rattle.laws.specs.Order.{sorted}
 use Rattle.laws.proofs.Lists.{keep-end-yes, keep-end-no, keep-both, keep_same, keep-map, mem-keep}
@@ -37,31 +37,26 @@ pub pick-none : (q : ℕ → Bool) (out : List ℕ) → Behind out 0 (keep q [])
 unfolding keep
 pick-none q out = behind-none out 0
 
-pub key-past : (keys : List ℕ) (c i : ℕ) → c ≤ i → 0 ≡ get_or (take c keys) i 0
-key-past keys c i h = sym (get_or-eq_default (take c keys) 0 (omega (arith, length-take c keys)))
-
-module _ (q : ℕ → Bool) (keys places : List ℕ) (from : ℕ) where
+module _ (q : ℕ → Bool) (keys places : List ℕ) where
   abbrev chosen : ℕ → List ℕ
-  chosen m = keep q (keys_behind keys (take m (drop from places)))
+  chosen m = keep q (keys_behind keys (take m places))
 
-  one_more : (i : ℕ) → from + i < length places → keys_behind keys (take (i + 1) (drop from places)) ≡ keys_behind keys (take i (drop from places)) ++ (get_or keys (get_or places (from + i) 0 % 16384) 0 ∷ [])
+  one_more : (i : ℕ) → i < length places → keys_behind keys (take (i + 1) places) ≡ keys_behind keys (take i places) ++ (get_or keys (get_or places i 0 % 16384) 0 ∷ [])
   one_more i h =
-      ap (λ (j : ℕ). keys_behind keys (take j (drop from places))) (add-one i)
-      ∙ ap (keys_behind keys) (take-suc (drop from places) i 0 (omega (arith, length-drop from places)))
-      ∙ map-append (λ (g : ℕ). get_or keys (g % 16384) 0) (take i (drop from places)) (get_or (drop from places) i 0 ∷ [])
-      ∙ ap (λ (g : ℕ). keys_behind keys (take i (drop from places)) ++ (get_or keys (g % 16384) 0 ∷ [])) (get_or-drop from places i 0)
+      ap (λ (j : ℕ). keys_behind keys (take j places)) (add-one i) ∙ ap (keys_behind keys) (take-suc places i 0 h)
+      ∙ map-append (λ (g : ℕ). get_or keys (g % 16384) 0) (take i places) (get_or places i 0 ∷ [])
 
-  module _ (out₀ out : List ℕ) (k i v : ℕ) (inv : Behind out₀ 0 (chosen i) out k) (h : from + i < length places) (e : v ≡ get_or keys (get_or places (from + i) 0 % 16384) 0) where
+  module _ (out₀ out : List ℕ) (k i v : ℕ) (inv : Behind out₀ 0 (chosen i) out k) (h : i < length places) (e : v ≡ get_or keys (get_or places i 0 % 16384) 0) where
     pub pick_yes : k < length out → q v ≡ true → Behind out₀ 0 (chosen (i + 1)) (set out k v) (k + 1)
     pick_yes b t =
         subst (λ (l : List ℕ). Behind out₀ 0 l (set out k v) (k + 1))
-        (sym (ap (keep q) (one_more i h ∙ ap (λ (x : ℕ). keys_behind keys (take i (drop from places)) ++ (x ∷ [])) (sym e)) ∙ keep-end-yes q (keys_behind keys (take i (drop from places))) v t))
+        (sym (ap (keep q) (one_more i h ∙ ap (λ (x : ℕ). keys_behind keys (take i places) ++ (x ∷ [])) (sym e)) ∙ keep-end-yes q (keys_behind keys (take i places)) v t))
         (behind_more v b inv)
 
     pub pick_no : q v ≡ false → Behind out₀ 0 (chosen (i + 1)) out k
     pick_no t =
         subst (λ (l : List ℕ). Behind out₀ 0 l out k)
-        (sym (ap (keep q) (one_more i h ∙ ap (λ (x : ℕ). keys_behind keys (take i (drop from places)) ++ (x ∷ [])) (sym e)) ∙ keep-end-no q (keys_behind keys (take i (drop from places))) v t))
+        (sym (ap (keep q) (one_more i h ∙ ap (λ (x : ℕ). keys_behind keys (take i places) ++ (x ∷ [])) (sym e)) ∙ keep-end-no q (keys_behind keys (take i places)) v t))
         inv
 
 -- ---- the records of a number

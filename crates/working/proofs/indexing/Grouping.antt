@@ -8,13 +8,11 @@ use native.Mathlib.Omega.{arith}
 use borrow.Author.Tests.{lt-ltb, le-ltb}
 use lib.Dec.{leb, ltb}
 use lib.ListN.{length, take, drop, get_or}
-use lib.Seq.{get_or-take, length-take-le}
 use Rattle.laws.specs.Lists.{table}
 use Rattle.laws.specs.Order.{sorted}
 use Rattle.laws.proofs.Order.{in_order-ordered, in_order-of-ordered}
 use Rattle.laws.proofs.ByKey.{by_number}
 use Rattle.laws.proofs.Rising.{take-sorted-any}
-use Rattle.laws.proofs.Tables.{table-cong}
 use Rattle.laws.proofs.Tests.{le-or-lt}
 use Rattle.order.specs.groups.Groups.{below, tag, tags, group}
 use Rattle.order.proofs.groups.Below.{sorted-ordered, below-most, below-past, below-here, below-rise}
@@ -63,9 +61,7 @@ module _ (l : List ℕ) (digits : ℕ) where
 pub sorted-again : (l : List ℕ) → sorted (sorted l) ≡ sorted l
 sorted-again l = in_order-of-ordered leb (sorted l) (in_order-ordered leb by_number l)
 
--- tags of each of the first c keys are the tags of these keys
-pub tags-laid : (φ : ℕ → ℕ) (keys laid after : List ℕ) (c : ℕ) → c ≤ length keys → take c laid ≡ table c (λ (i : ℕ). tag (φ (get_or keys i 0)) i) → after ≡ sorted (take c laid) ++ drop c laid → take c after ≡ tags φ (take c keys)
-tags-laid φ keys laid after c h e q =
-    ap (take c) q ∙ take-sorted-any c laid ∙ ap sorted e
-    ∙ ap sorted (table-cong c (λ (i : ℕ). tag (φ (get_or keys i 0)) i) (λ (i : ℕ). tag (φ (get_or (take c keys) i 0)) i) (λ i b. ap (λ (k : ℕ). tag (φ k) i) (sym (get_or-take c keys i 0 b))))
-    ∙ ap (λ (n : ℕ). sorted (table n (λ (i : ℕ). tag (φ (get_or (take c keys) i 0)) i))) (sym (length-take-le c keys h))
+-- tags of each of the keys, put in order, are the tags of these keys
+pub tags-laid : (φ : ℕ → ℕ) (keys laid after : List ℕ) (c : ℕ) → length keys ≡ c → take (length keys) laid ≡ table (length keys) (λ (i : ℕ). tag (φ (get_or keys i 0)) i) → after ≡ sorted (take c laid) ++ drop c laid → take c after ≡ tags φ keys
+tags-laid φ keys laid after c n e q =
+    ap (take c) q ∙ take-sorted-any c laid ∙ ap sorted (ap (λ (k : ℕ). take k laid) (sym n) ∙ e)

@@ -7,25 +7,21 @@ ghost use Rattle.store.specs.journals.Reads.{read_files};
 ghost use Rattle.store.specs.numbers.Lines.{line_at};
 ghost use Rattle.store.specs.Reads.{table_line};
 ghost use Rattle.rules.specs.Rules.{standings};
-ghost use Rattle.working.specs.Working.{Sound};
-ghost use Rattle.working.specs.indexing.Index.{Wanted, Indexed};
 ghost use Rattle.working.specs.overview.Lines.{line_tag, sorted_first};
 
-use crate::indexing::find;
-use crate::indexing::index::{FRONTS, PLACES};
+use crate::indexing::find::Index;
+use crate::indexing::{find, tags};
 use entries::entry::Line;
 use store::numbers::lines;
 use verdict::step::Standing;
 
 // The place of a line with the first field of its number in front.
+#[tactic(auto, unfolding(crate::specs::overview::Lines::line_tag))]
 fn line_tag(lines: &[u8], i: usize) -> u64
     requires { (2 + i * 14 + 14 ≤ length lines.now) × (i < 1024) }
     ensures { result ≡ line_tag lines.now i }
 {
-    let l = lines::line_at(lines, i);
-    let number = l.number;
-    let first = number.first;
-    first.0 % FRONTS * PLACES + i as u64
+    tags::tag(lines::line_at(lines, i).number, i)
 }
 
 // Those of the first m lines, one behind the other.
@@ -33,19 +29,9 @@ fn lay_tags(lines: &[u8], m: usize, wanted: &mut [u64])
     requires { (2 + m * 14 ≤ length lines.now) × (m ≤ 1024) × (m ≤ length wanted.old) }
     ensures { wanted.new ≡ overlay wanted.old 0 (table m (line_tag lines.now)) }
 {
-    let mut i = 0;
-    while i < m {
+    for i in 0..m {
         wanted[i] = line_tag(lines, i);
-        i += 1;
     }
-}
-
-// The same, into an array.
-fn lay_all_tags(lines: &[u8], m: usize, wanted: &mut [u64; 10240])
-    requires { (2 + m * 14 ≤ length lines.now) × (m ≤ 1024) }
-    ensures { wanted.new ≡ overlay wanted.old 0 (table m (line_tag lines.now)) }
-{
-    lay_tags(lines, m, wanted);
 }
 
 // The first fields of the first m lines as what is wanted: their tags, in order.
@@ -53,52 +39,19 @@ pub fn want_lines(lines: &[u8], m: usize, wanted: &mut [u64; 10240])
     requires { (2 + m * 14 ≤ length lines.now) × (m ≤ 1024) }
     ensures { wanted.new ≡ sorted_first m (overlay wanted.old 0 (table m (line_tag lines.now))) }
 {
-    lay_all_tags(lines, m, wanted);
+    lay_tags(lines, m, wanted);
     order::sort(wanted, m);
 }
 
-// Where the line i stands over the first n files, from the index of these files.
-pub fn line_standing<'a>(
-    lines: &[u8],
-    files: &'a [u8],
-    n: usize,
-    regular: &'a [u8],
-    corrections: &'a [u8],
-    wanted: &'a [u64; 10240],
-    w: usize,
-    keys: &'a [u64; 10240],
-    places: &'a [u64; 10240],
-    c: usize,
-    i: usize,
-    room: &mut [u64; 10240],
-) -> Standing
-    requires sound { Sound n files.now regular.now corrections.now }
-    requires wanted { Wanted wanted.now w }
-    requires indexed { Indexed n files.now regular.now corrections.now (take w wanted.now) keys.now places.now c }
-    requires i_in_bounds { 2 + i * 14 + 14 ≤ length lines.now }
-    ensures { result ≡ entry_over standings (take n (read_files files.now regular.now corrections.now)) (table_line (line_at lines.now i)) }
+// Where the line i stands over the first files of the index.
+pub fn line_standing(lines: &[u8], index: &Index, i: usize, room: &mut [u64; 10240]) -> Standing
+    requires { 2 + i * 14 + 14 ≤ length lines.now }
+    ensures { let f = index.now.filed in result ≡ entry_over standings (take f.n (read_files f.files.now f.journals.regular.now f.journals.corrections.now)) (table_line (line_at lines.now i)) }
 {
     let l = lines::line_at(lines, i);
-    let number = l.number;
-    let owner = l.owner;
-    let setup = l.setup;
     let line = Line {
-        owner: owner,
-        setup: setup,
+        owner: l.owner,
+        setup: l.setup,
     };
-    let worked = find::work_indexed(
-        files,
-        n,
-        regular,
-        corrections,
-        wanted,
-        w,
-        keys,
-        places,
-        c,
-        number,
-        line,
-        room,
-    );
-    worked.standing
+    find::work_indexed(index, l.number, line, room).standing
 }

@@ -16,31 +16,31 @@ file_count-n-requires c =
     let s = showable a.table.now a.files.now a.regular.now a.corrections.now (sym c.showable.ensures ∙ c.if-not-showable.false) in
     omega (arith, s.long-files)
 
-pub locate-found-requires : goal.locate-found-requires
-locate-found-requires c =
+pub locate-requires : goal.locate-requires
+locate-requires c =
     let a = c.args in
     let s = showable a.table.now a.files.now a.regular.now a.corrections.now (sym c.showable.ensures ∙ c.if-not-showable.false) in
     (omega (arith, s.long-files, s.range.few, c.file_count-n.ensures.0), omega (arith, s.range.few, c.file_count-n.ensures.0))
 
-pub asked_at-r-requires : goal.asked_at-r-requires
-asked_at-r-requires c =
+pub asked_at-requires : goal.asked_at-requires
+asked_at-requires c =
     let a = c.args in
     let s = showable a.table.now a.files.now a.regular.now a.corrections.now (sym c.showable.ensures ∙ c.if-not-showable.false) in
     let n = c.file_count-n in
-    let w = rw c.in-In.is at c.locate-found.ensures in
+    let w = rw c.in-Some.is at c.locate.ensures in
     record { sound = sound a.table.now a.files.now a.regular.now a.corrections.now n.result s (omega (arith, n.ensures.0)); k_lt_n = (w.listed, w.within); table_in_bounds = omega (arith, s.long-table, s.few-lines) }
 
-pub returns-in-In : goal.returns-in-In
-returns-in-In c =
+pub returns : goal.returns
+returns c =
     let a = c.args in
     let n = c.file_count-n in
-    let f = c.in-In in
-    let w = rw (f.is, c.kind_of.ensures) at c.locate-found.ensures in
-    asked-record a.table.now a.files.now a.regular.now a.corrections.now a.which a.place (sym c.showable.ensures ∙ c.if-not-showable.false) n.result n.ensures.0 f.k f.at c.asked_at-r.result w c.asked_at-r.ensures
+    let f = c.in-Some in
+    let w = rw (f.is, c.kind_of.ensures) at c.locate.ensures in
+    asked-record a.table.now a.files.now a.regular.now a.corrections.now a.which a.place (sym c.showable.ensures ∙ c.if-not-showable.false) n.result n.ensures.0 f.k f.at c.asked_at.result w c.asked_at.ensures
 
-pub returns-in-Nowhere : goal.returns-in-Nowhere
-returns-in-Nowhere c =
+pub returns-in_default : goal.returns-in_default
+returns-in_default c =
     let a = c.args in
     let n = c.file_count-n in
-    let w = rw (c.in-Nowhere.is, c.kind_of.ensures) at c.locate-found.ensures in
+    let w = rw (c.in_default.is, c.kind_of.ensures) at c.locate.ensures in
     asked-beyond a.table.now a.files.now a.regular.now a.corrections.now a.which a.place (sym c.showable.ensures ∙ c.if-not-showable.false) n.result n.ensures.0 w

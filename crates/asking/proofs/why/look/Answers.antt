@@ -21,7 +21,7 @@ pub standing_at-s-requires : goal.standing_at-s-requires
 standing_at-s-requires c =
     let a = c.args in
     let s = showable a.table.now a.files.now a.regular.now a.corrections.now (sym c.showable.ensures ∙ c.if-not-showable.false) in
-    let found = c.find_line-found in
+    let found = c.find_line in
     let f = c.in-Some in record { sound = sound a.table.now a.files.now a.regular.now a.corrections.now c.file_count-n.result s (omega (arith, c.file_count-n.ensures.0)); i_in_bounds = omega (arith, s.long-table, s.few-lines, found_below a.table.now a.number (omega (arith, s.long-table, s.few-lines)) f.i (sym f.is ∙ found.ensures)) }
 
 pub pair_in-requires : goal.pair_in-requires
@@ -31,15 +31,15 @@ pair_in-requires c =
     let n = c.file_count-n in
     record { n_in_bounds = (omega (arith, s.long-files, s.range.few, n.ensures.0), omega (arith, s.range.few, n.ensures.0)); files_bound = reports-first a.files.now n.result s.range n.ensures.0 }
 
-pub returns-in-Some : goal.returns-in-Some
-returns-in-Some c =
+pub returns : goal.returns
+returns c =
     let a = c.args in
-    let found = c.find_line-found in
+    let found = c.find_line in
     let f = c.in-Some in
     let n = c.file_count-n in
     why-pair a.table.now a.files.now a.regular.now a.corrections.now a.number (sym c.showable.ensures ∙ c.if-not-showable.false) f.i n.result c.standing_at-s.result c.pair_in.result (sym f.is ∙ found.ensures) n.ensures.0 c.standing_at-s.ensures c.pair_in.ensures
 
-pub returns-in-None : goal.returns-in-None
-returns-in-None c =
+pub returns-in_default : goal.returns-in_default
+returns-in_default c =
     let a = c.args in
-    why-unknown a.table.now a.files.now a.regular.now a.corrections.now a.number (sym c.showable.ensures ∙ c.if-not-showable.false) (sym c.in-None.is ∙ c.find_line-found.ensures)
+    why-unknown a.table.now a.files.now a.regular.now a.corrections.now a.number (sym c.showable.ensures ∙ c.if-not-showable.false) (sym c.in_default.is ∙ c.find_line.ensures)

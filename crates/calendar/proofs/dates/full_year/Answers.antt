@@ -1,21 +1,27 @@
--- `calendar::dates::full_year` meets its contract: each return rewrites with the tests that led there.
--- Assumes nothing.
-use borrow.Author.Tests.{lt-ltb, le-ltb, le-leb, lt-leb}
+-- `calendar::dates::full_year` meets its contract. Assumes nothing.
+use Rattle.std.specs.Prelude.{Some}
+use Prim.Native.Nat.{ℕ, ◌+◌, ◌≤◌}
+use mathlib.Core.Path.{◌≡◌}
+use native.Mathlib.Omega.{arith}
+use Rattle.std.proofs.lemmas.Bool.Decides.{nat_tests}
 use Rattle.calendar.specs.Answers.{full_year}
 use Rattle.calendar.proofs.dates.full_year.Goals as goal
 
-pub returns-then-two-lt50 : goal.returns-then-two-lt50
+pub returns-in-0-to-49 : goal.returns-in-0-to-49
 unfolding full_year
-returns-then-two-lt50 c = simp (lt-ltb _ _ c.if-two-lt50.true)
+returns-in-0-to-49 c = grind (arith, nat_tests)
 
-pub returns-then-two-lt98 : goal.returns-then-two-lt98
+late : (t : ℕ) → 98 ≤ t → t ≤ 99 → Some (1900 + t) ≡ full_year t
 unfolding full_year
-returns-then-two-lt98 c = simp (le-ltb _ _ c.if-two-lt50.false, lt-ltb _ _ c.if-two-lt98.true)
+late t h k = grind (arith, nat_tests)
 
-pub returns-then-two-gt99 : goal.returns-then-two-gt99
-unfolding full_year
-returns-then-two-gt99 c = simp (le-ltb _ _ c.if-two-lt50.false, le-ltb _ _ c.if-two-lt98.false, lt-leb _ _ c.if-two-gt99.true)
+pub returns-in-98 : goal.returns-in-98
+returns-in-98 c = late c.args.two (omega arith) (omega arith)
 
-pub returns : goal.returns
+pub returns-in_default : goal.returns-in_default
 unfolding full_year
-returns c = simp (le-ltb _ _ c.if-two-lt50.false, le-ltb _ _ c.if-two-lt98.false, le-leb _ _ c.if-two-gt99.false)
+returns-in_default c = grind (arith, nat_tests)
+
+pub returns-in_default-2 : goal.returns-in_default-2
+unfolding full_year
+returns-in_default-2 c = grind (arith, nat_tests)

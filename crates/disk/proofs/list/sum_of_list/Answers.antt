@@ -11,4 +11,4 @@ use Rattle.disk.proofs.list.sum_of_list.Goals as goal
 
 pub returns : goal.returns
 unfolding sum_to table flat_map put leap month_days year_start month_start day_number easter nine_of holidays_of years holidays
-returns c = ap (λ (s : Sum). s.b) c.days_summed-sum.ensures
+returns c = ap (λ (s : Sum). s.b) c.days_summed.ensures

@@ -1,14 +1,12 @@
--- `entries::places::is_open` meets its contract: some place passes exactly if the first that does is one of them (`laws`). Assumes nothing.
-use lib.ListN.{length}
-use mathlib.Core.Path.{◌≡◌}
-use Rattle.laws.proofs.Firsts.{any-first}
-use Rattle.entries.specs.Entry.{place_count}
+-- `entries::places::is_open` meets its contract. Assumes nothing.
+use Rattle.std.proofs.Common.{rules, tests, ◌∙◌, sym}
+use Rattle.std.proofs.lemmas.Iterator.{YieldsList-from_slice}
+use Rattle.std.proofs.lemmas.Iterator.Search.{any_from_yields_List}
+use Rattle.laws.proofs.Chains.{any_as_std}
 use Rattle.entries.specs.places.Places.{holds_open}
-use borrow.Author.Rules.{rules}
 use Rattle.entries.proofs.places.is_open.Goals as goal
 
 pub returns : goal.returns
 returns c =
-    let g = c.args in
-    let h : length g.places ≡ place_count = search rules in
-    rw (any-first (holds_open g.k g.r) g.places, h, c.place_of.ensures)
+    any_from_yields_List (holds_open c.args.k c.args.r) _ _ c.any.result c.any.ensures.ran (YieldsList-from_slice c.args.places c.iter.ensures.rest) (λ x b q k. search (rules, tests))
+    ∙ sym (any_as_std (holds_open c.args.k c.args.r) c.args.places)

@@ -7,6 +7,6 @@ pub returns-then-p-d : goal.returns-then-p-d
 unfolding lapsed
 returns-then-p-d c = rw c.free_place.ensures (search rules depth 4)
 
-pub returns-else-p-d : goal.returns-else-p-d
+pub returns : goal.returns
 unfolding lapsed
-returns-else-p-d c = search rules depth 4
+returns c = search rules depth 4

@@ -1,21 +1,17 @@
--- `entries::places::lowest_free` meets its contract: the loop's invariant is that of a search (`laws`). Assumes nothing.
-use native.Mathlib.Omega.{arith}
-use Rattle.laws.proofs.Loops.{search-on, search-here, search-none}
-use Rattle.entries.specs.Entry.{free_place}
+-- `entries::places::lowest_free` meets its contract. Assumes nothing.
+use Rattle.std.proofs.Common.{rules, tests, ◌≡◌, ◌∙◌, length}
+use Rattle.std.proofs.lemmas.Iterator.{YieldsList-from_slice}
+use Rattle.std.proofs.lemmas.Iterator.Search.{position_from_yields_List}
+use Rattle.laws.proofs.Chains.{found_as_std}
+use Rattle.entries.specs.Entry.{place_count}
 use Rattle.entries.specs.places.Places.{is_free}
-use borrow.Author.Rules.{rules}
 use Rattle.entries.proofs.places.lowest_free.Goals as goal
 
-pub returns-then-not-p : goal.returns-then-not-p
-unfolding is_free
-returns-then-not-p c =
-    search-here is_free free_place c.args.places c.loop-i.i c.loop-i.invariant.1 (omega arith) c.if-not-p.true
-
-pub loop-i-preserved : goal.loop-i-preserved
-unfolding is_free
-loop-i-preserved c =
-    (search rules, search-on is_free free_place c.args.places c.loop-i.i c.loop-i.invariant.1 (omega arith) c.if-not-p.false)
-
 pub returns : goal.returns
+unfolding is_free
 returns c =
-    search-none is_free free_place c.args.places c.loop-i.i c.loop-i.invariant.1 (omega arith)
+    let ps = c.args.places in
+    let long : length ps ≡ place_count = search rules in
+    c.unwrap_or.ensures
+    ∙ (rw long at (found_as_std is_free ps c.position.result
+    (position_from_yields_List is_free _ _ c.position.result c.position.ensures.ran (YieldsList-from_slice ps c.iter.ensures.rest) (λ x b q k. search (rules, tests)))))

@@ -1,23 +1,17 @@
--- `entries::places::place_of` meets its contract: the loop's invariant is that of a search (`laws`). Assumes nothing.
-use mathlib.Core.Path.{◌∙◌, sym}
-use native.Mathlib.Omega.{arith}
-use Rattle.laws.proofs.Loops.{search-on, search-here, search-none}
-use Rattle.entries.specs.Entry.{free_place}
-use Rattle.entries.specs.places.Places.{holds_open}
-use borrow.Author.Rules.{rules}
+-- `entries::places::place_of` meets its contract. Assumes nothing.
+use Rattle.std.proofs.Common.{rules, tests, ◌≡◌, ◌∙◌, length}
+use Rattle.std.proofs.lemmas.Iterator.{YieldsList-from_slice}
+use Rattle.std.proofs.lemmas.Iterator.Search.{position_from_yields_List}
+use Rattle.laws.proofs.Chains.{found_as_std}
+use Rattle.entries.specs.Entry.{place_count}
+use Rattle.entries.specs.places.Places.{is_free, holds_open}
 use Rattle.entries.proofs.places.place_of.Goals as goal
 
-pub returns-then-holds : goal.returns-then-holds
-returns-then-holds c =
-    let g = c.args in
-    search-here (holds_open g.k g.r) free_place g.places c.loop-i.i c.loop-i.invariant.1 (omega arith) (sym c.holds.ensures ∙ c.if-holds.true)
-
-pub loop-i-preserved : goal.loop-i-preserved
-loop-i-preserved c =
-    let g = c.args in
-    (search rules, search-on (holds_open g.k g.r) free_place g.places c.loop-i.i c.loop-i.invariant.1 (omega arith) (sym c.holds.ensures ∙ c.if-holds.false))
-
 pub returns : goal.returns
+unfolding is_free
 returns c =
-    let g = c.args in
-    search-none (holds_open g.k g.r) free_place g.places c.loop-i.i c.loop-i.invariant.1 (omega arith)
+    let ps = c.args.places in
+    let long : length ps ≡ place_count = search rules in
+    c.unwrap_or.ensures
+    ∙ (rw long at (found_as_std (holds_open c.args.k c.args.r) ps c.position.result
+    (position_from_yields_List (holds_open c.args.k c.args.r) _ _ c.position.result c.position.ensures.ran (YieldsList-from_slice ps c.iter.ensures.rest) (λ x b q k. search (rules, tests)))))

@@ -1,37 +1,31 @@
--- `working::gather::gather_file` meets its contract: the loop's invariant is the contract over the first i records; a turn is `behind-yes` or `behind-no`. Assumes nothing.
-use mathlib.Core.Path.{◌≡◌, sym, subst, ◌∙◌}
-use Prim.Native.Nat.{ℕ}
+-- `working::gather::gather_file` meets its contract: a turn of the loop is `file-yes` or `file-no`. Assumes nothing.
+use mathlib.Core.Path.{◌≡◌, sym, ◌∙◌}
+use Prim.Native.Nat.{◌+◌}
 use native.Mathlib.Omega.{arith}
-use lib.ListN.{length-set}
 use Rattle.store.specs.journals.Reads.{records_at}
-use Rattle.working.specs.Slips.{keys_in}
-use Rattle.working.specs.Working.{Behind}
-use Rattle.working.proofs.GatherLaws.{behind-none, behind-yes, behind-no}
-use borrow.Author.Rules.{rules}
-use Rattle.working.proofs.gather.gather_file.Goals.{then-names, else-names}
+use Rattle.working.specs.Passing.{passes_at}
+use Rattle.working.proofs.PassLaws.{file-none, file-yes, file-no}
+use Rattle.working.proofs.gather.gather_file.Goals.{then-takes, else-takes}
 use Rattle.working.proofs.gather.gather_file.Goals as goal
 
 pub loop-i-init : goal.loop-i-init
-loop-i-init c =
-    let args = c.args in
-    (search rules, search rules, search rules, behind-none (records_at args.regular.now args.corrections.now) args.number args.f args.start args.keys.now args.at)
+loop-i-init g c =
+    let a = c.args in
+    let f = a.records.now in
+    let r = records_at f.journals.regular.now f.journals.corrections.now in
+    record { few = omega arith; laid = file-none (passes_at (g.W.Wanting.takes a.wanting.now) r) r f.file f.start a.keys.now a.at }
 
 pub loop-i-preserved : goal.loop-i-preserved
-loop-i-preserved c =
-    let args = c.args in
-    let r = records_at args.regular.now args.corrections.now in
-    let inv = c.loop-i.invariant.3 in (
-      search rules,
-      elim c.if-names.branch [ then-names w ↦ rw w.keys-is (simp length-set c.loop-i.invariant.1) | else-names w ↦ rw w.keys-is c.loop-i.invariant.1 ],
-      elim c.if-names.branch [ then-names w ↦ rw w.r-is (omega arith) | else-names w ↦ rw w.r-is (omega arith) ],
-      elim c.if-names.branch [
-        | then-names w ↦ rw (w.keys-is, w.r-is) (behind-yes r args.number args.f args.start args.keys.now c.loop-i.keys args.at c.loop-i.r c.loop-i.i inv _ (omega arith) (sym c.names.ensures ∙ w.if-names.true) w.key_at.ensures)
-        | else-names w ↦ rw (w.keys-is, w.r-is) (behind-no r args.number args.f args.start args.keys.now c.loop-i.keys args.at c.loop-i.r c.loop-i.i inv (sym c.names.ensures ∙ w.if-names.false))
-      ],
-    )
-
-pub returns : goal.returns
-returns c =
-    let args = c.args in
-    let e : c.loop-i.i ≡ args.f.count = omega arith in
-    subst (λ (j : ℕ). Behind args.keys.now args.at (keys_in (records_at args.regular.now args.corrections.now) args.number args.f args.start j) c.loop-i.keys c.loop-i.r) e c.loop-i.invariant.3
+loop-i-preserved g c =
+    let a = c.args in
+    let f = a.records.now in
+    let r = records_at f.journals.regular.now f.journals.corrections.now in
+    let p = passes_at (g.W.Wanting.takes a.wanting.now) r in
+    let l = c.loop-i in
+    let here : g.W.Wanting.takes a.wanting.now f.file.kind (r f.file.kind (f.start + l.i)) ≡ c.takes.result = rw (← c.bytes.ensures) (sym c.takes.ensures) in record {
+      few = elim c.if-takes.branch [ then-takes w ↦ rw w.r-is (omega (arith, l.invariant.few)) | else-takes w ↦ rw w.r-is (omega (arith, l.invariant.few)) ];
+      laid = elim c.if-takes.branch [
+        | then-takes w ↦ rw (w.keys-is, w.r-is) (file-yes p r f.file f.start a.keys.now l.keys a.at l.r l.i l.invariant.laid _ (omega (arith, l.invariant.few, c.requires, l.auto.keys)) (here ∙ w.if-takes.true) w.key.ensures)
+        | else-takes w ↦ rw (w.keys-is, w.r-is) (file-no p r f.file f.start a.keys.now l.keys a.at l.r l.i l.invariant.laid (here ∙ w.if-takes.false))
+      ];
+    }

@@ -24,8 +24,8 @@ line_count-m-requires c =
     let s = readable-showable a.table.now a.files.now a.regular.now a.corrections.now a.entries.now (sym c.readable.ensures ∙ c.if-not-readable.false) in
     omega (arith, s.long-table)
 
-pub differing_among-count-requires : goal.differing_among-count-requires
-differing_among-count-requires c =
+pub differing_among-requires : goal.differing_among-requires
+differing_among-requires c =
     let a = c.args in
     let whole = sym c.readable.ensures ∙ c.if-not-readable.false in
     let s = readable-showable a.table.now a.files.now a.regular.now a.corrections.now a.entries.now whole in
@@ -38,4 +38,4 @@ returns c =
     let a = c.args in
     let n = c.file_count-n in
     let m = c.line_count-m in
-    figure-answer a.table.now a.files.now a.regular.now a.corrections.now a.entries.now (sym c.readable.ensures ∙ c.if-not-readable.false) n.result m.result c.differing_among-count.result n.ensures.0 m.ensures.0 c.differing_among-count.ensures
+    figure-answer a.table.now a.files.now a.regular.now a.corrections.now a.entries.now (sym c.readable.ensures ∙ c.if-not-readable.false) n.result m.result c.differing_among.result n.ensures.0 m.ensures.0 c.differing_among.ensures

@@ -1,16 +1,12 @@
--- `working::indexing::find::gather_indexed` meets its contract: what is in the number's group is all that names it (`gathered`), or the journals are gone through. Assumes nothing.
+-- `working::indexing::find::gather_indexed` meets its contract: a group holds all of a number's records (`gathered`). Assumes nothing.
 use mathlib.Core.Path.{sym, ◌∙◌}
 use lib.ListN.{take}
-use Rattle.working.proofs.indexing.Finding.{index-ordered, gathered}
+use Rattle.working.proofs.indexing.Finding.{gathered}
 use Rattle.working.proofs.indexing.find.gather_indexed.Goals as goal
 
-pub gather_group-requires : goal.gather_group-requires
-gather_group-requires c =
-    let args = c.args in
-    (c.requires.indexed.few, index-ordered args.n args.files.now args.regular.now args.corrections.now (take args.w args.wanted.now) args.keys.now args.places.now args.c c.requires.sound c.requires.indexed args.number)
-
-pub returns-then-is_wanted : goal.returns-then-is_wanted
-returns-then-is_wanted c =
-    let args = c.args in
-    gathered args.n args.files.now args.regular.now args.corrections.now (take args.w args.wanted.now) args.keys.now args.places.now args.c c.requires.sound c.requires.indexed args.number
-    c.if-first-eq1.false (sym c.is_wanted.ensures ∙ c.if-is_wanted.true) args.out.now _ c.gather_group.result c.gather_group.ensures
+pub returns-then-have : goal.returns-then-have
+returns-then-have c =
+    let i = c.args.index.now in
+    let f = i.filed in
+    gathered f.n f.files.now f.journals.regular.now f.journals.corrections.now (take i.wanted.count i.wanted.words.now) i.keys.now i.places.words.now i.places.count f.sound i.indexed c.args.number
+    c.if-number-ne1.true (sym c.have.ensures ∙ c.if-have.true) c.args.out.now _ c.gather_group.result c.gather_group.ensures

@@ -1,30 +1,22 @@
--- `working::indexing::index::lay_tags` meets its contract: the tags of the first i keys are laid. Assumes nothing.
-use Rattle.laws.proofs.Tables.{lay-none, lay-next}
-use mathlib.Core.Path.{◌≡◌, subst}
+-- `working::indexing::index::lay_tags` meets its contract: the tags laid grow by one in a turn (`lay-next`). Assumes nothing.
+use mathlib.Core.Path.{ap, ◌∙◌}
 use Prim.Native.Nat.{ℕ}
 use native.Mathlib.Omega.{arith}
-use lib.ListN.{take, get_or}
-use Rattle.laws.specs.Lists.{table}
+use lib.ListN.{get_or}
+use Rattle.laws.proofs.Tables.{lay-none, lay-next}
+use Rattle.fields.specs.declared.number.Number.{Number}
 use Rattle.order.specs.groups.Groups.{tag}
-use Rattle.working.specs.indexing.Index.{front_behind}
-use borrow.Author.Rules.{rules}
+use Rattle.working.specs.indexing.Index.{front, front_behind}
 use Rattle.working.proofs.indexing.index.lay_tags.Goals as goal
 
 pub loop-i-init : goal.loop-i-init
 loop-i-init c =
-    let args = c.args in
-    (search rules, search rules, lay-none (λ (k : ℕ). tag (front_behind args.regular.now args.corrections.now (get_or args.keys.now k 0)) k) args.places.now)
+    let a = c.args in
+    lay-none (λ (k : ℕ). tag (front_behind a.journals.now.regular.now a.journals.now.corrections.now (get_or a.keys.now k 0)) k) a.places.now
 
 pub loop-i-preserved : goal.loop-i-preserved
+unfolding front_behind
 loop-i-preserved c =
-    let args = c.args in (
-      search rules,
-      search rules,
-      lay-next (λ (k : ℕ). tag (front_behind args.regular.now args.corrections.now (get_or args.keys.now k 0)) k) c.loop-i.places c.loop-i.i c.tag_behind.result (omega arith) c.tag_behind.ensures c.loop-i.invariant.2,
-    )
-
-pub returns : goal.returns
-returns c =
-    let args = c.args in
-    let e : c.loop-i.i ≡ args.c = omega arith in
-    subst (λ (j : ℕ). take j c.loop-i.places ≡ table j (λ (k : ℕ). tag (front_behind args.regular.now args.corrections.now (get_or args.keys.now k 0)) k)) e c.loop-i.invariant.2
+    let a = c.args in
+    let l = c.loop-i in
+    lay-next (λ (k : ℕ). tag (front_behind a.journals.now.regular.now a.journals.now.corrections.now (get_or a.keys.now k 0)) k) l.places l.i c.tag.result (omega (arith, c.loop-i-test.true, c.requires, l.auto.places)) (c.tag.ensures ∙ ap (λ (n : Number). tag (front n.first.0) l.i) c.number_behind.ensures) l.invariant

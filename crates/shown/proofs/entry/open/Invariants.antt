@@ -1,6 +1,0 @@
--- `shown::entry::open` is safe and ends. The measure is what is left to do. Assumes nothing.
-use Rattle.std.proofs.Common.{◌-◌}
-use Rattle.shown.proofs.entry.open.Given as goal
-
-abbrev pub decreases-loop-i : goal.decreases-loop-i
-decreases-loop-i g l = 8 - l.i
