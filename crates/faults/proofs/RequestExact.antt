@@ -18,7 +18,7 @@ use Rattle.laws.proofs.Split.{rest-piece}
 use Rattle.laws.proofs.Tests.{and_left, and_right, never, chosen, agree-where}
 use Rattle.fields.specs.Bytes.{field_byte}
 use Rattle.fields.specs.Code.{code_of}
-use Rattle.fields.specs.Date.{maybe_date_of}
+use Rattle.fields.specs.Date.{date_field_of, maybe_date_of}
 use Rattle.layout.specs.Part.{on_date}
 use Rattle.layout.specs.Request.{on_sender, three_of, request_of}
 use Rattle.faults.specs.declared.cause.Cause.TheVariants.{Length}
@@ -27,7 +27,7 @@ use Rattle.faults.specs.Field.{code_alone}
 use Rattle.faults.specs.Record.{commas, request_fault}
 use Rattle.faults.proofs.CutLaws.{fields-counted}
 use Rattle.faults.proofs.FieldExact.{needed, code-right, date-right, nothing_right}
-use Rattle.faults.proofs.SixExact.{field-then, commas-then, right_or, date-reads}
+use Rattle.faults.proofs.SixExact.{field-then, commas-then, right_or, maybe_reads}
 
 three-exact : (a b c : List ℕ) → is_some (three_of a b c) ≡ (is_some (code_of a) && (right_or true (maybe_date_of b) && eqb (length c) 0))
 unfolding three_of
@@ -51,7 +51,7 @@ empty-bytes (b ∷ f) e = absurd (omega (arith, eqb-true (length (b ∷ f)) 0 e)
 module _ (s : List ℕ) where
   request-tests : is_ok (request_fault s) ≡ (is_some (code_of (field_at s 0)) && (right_or true (maybe_date_of (field_at s 1)) && (eqb (length (rest_at s 2)) 0 && leb 2 (commas s))))
   unfolding request_fault
-  request-tests = simp (field-then, code-needed, date-right, date-reads, nothing_right, commas-then)
+  request-tests = simp (field-then, code-needed, date-right, maybe_reads date_field_of, nothing_right, commas-then)
 
   -- a line without a fault has three fields
   three-without-fault : is_ok (request_fault s) ≡ true → length (split 44 s) ≡ 3

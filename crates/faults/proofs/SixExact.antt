@@ -1,6 +1,6 @@
 -- Six fields have no fault exactly if they are read as a part in which nothing is missing that must stand there. Assumes nothing.
 --     field-then, record-then, allowed_then, commas-then     no fault in a row of fields: none in the first, and none behind it
---     date-reads                  a date that is right, by what the field is read as where it may be empty
+--     maybe_reads                 a field that is right, by what it is read as where it may be empty
 --     six-exact                   six fields; `is_filled` is what a report asks of a part but for the number
 --     six-bytes, six-status       six fields without a fault are made of the bytes of fields; where none may be missing, the last is not empty
 --     first-empty                 the first number of a part is empty exactly if its field is
@@ -31,10 +31,11 @@ use Rattle.fields.specs.declared.kind.Kind.{Kind}
 use Rattle.fields.specs.declared.kind.Kind.TheVariants.{P, L, Z}
 use Rattle.fields.specs.declared.number.Digits.{Digits}
 use Rattle.fields.specs.Bytes.{field_byte}
-use Rattle.fields.specs.Code.{code_of, maybe_code_of, maybe_code_from}
-use Rattle.fields.specs.Date.{date_field_of, maybe_date_of, maybe_date_from}
+use Rattle.fields.specs.Field.{maybe_of, maybe_from}
+use Rattle.fields.specs.Code.{code_of, maybe_code_of}
+use Rattle.fields.specs.Date.{date_field_of, maybe_date_of}
 use Rattle.fields.specs.Gaining.{gaining_of}
-use Rattle.fields.specs.Kind.{kind_of, maybe_kind_of, maybe_kind_from}
+use Rattle.fields.specs.Kind.{kind_of, maybe_kind_of}
 use Rattle.fields.specs.Number.{digits_field_of, digits_from, digits_size, is_empty, number_of, number_from}
 use Rattle.fields.proofs.NumberLaws.{digits-back, digits-counted, number-back, size-some}
 use Rattle.layout.specs.declared.part.Part.{Part}
@@ -84,49 +85,31 @@ abbrev return_there : Option (Option Kind) → Bool
 return_there (Some k) = returns k
 return_there None = false
 
-module _ (may : Bool) where
-  pub date-reads : (f : List ℕ) → cond (eqb (length f) 0) may (is_some (date_field_of f)) ≡ right_or may (maybe_date_of f)
-  unfolding maybe_date_of maybe_date_from
-  date-reads [] = sym (or-false may)
-  date-reads (b ∷ f) = rw (ne_eqb (length (b ∷ f)) 0 (λ z. omega arith)) (go (date_field_of (b ∷ f)))
-    where
-      go : (r : Option CalendarDays) → is_some r ≡ right_or may (maybe_date_from r)
-      go (Some d) = sym (or-true may)
-      go None = refl
-
-  code_reads : (f : List ℕ) → cond (eqb (length f) 0) may (is_some (code_of f)) ≡ right_or may (maybe_code_of f)
-  unfolding maybe_code_of maybe_code_from
-  code_reads [] = sym (or-false may)
-  code_reads (b ∷ f) = rw (ne_eqb (length (b ∷ f)) 0 (λ z. omega arith)) (go (code_of (b ∷ f)))
-    where
-      go : (r : Option Code) → is_some r ≡ right_or may (maybe_code_from r)
-      go (Some c) = sym (or-true may)
-      go None = refl
-
-  kind-reads : (f : List ℕ) → cond (eqb (length f) 0) may (is_some (kind_of f)) ≡ right_or may (maybe_kind_of f)
-  unfolding maybe_kind_of maybe_kind_from
-  kind-reads [] = sym (or-false may)
-  kind-reads (b ∷ f) = rw (ne_eqb (length (b ∷ f)) 0 (λ z. omega arith)) (go (kind_of (b ∷ f)))
-    where
-      go : (r : Option Kind) → is_some r ≡ right_or may (maybe_kind_from r)
-      go (Some k) = sym (or-true may)
-      go None = refl
+-- a field that may be empty
+pub maybe_reads : {A : Type 0} (of : List ℕ → Option A) (may : Bool) (f : List ℕ) → cond (eqb (length f) 0) may (is_some (of f)) ≡ right_or may (maybe_of of f)
+unfolding maybe_of maybe_from
+maybe_reads of may [] = sym (or-false may)
+maybe_reads {A} of may (b ∷ f) = rw (ne_eqb (length (b ∷ f)) 0 (λ z. omega arith)) (go (of (b ∷ f)))
+  where
+    go : (r : Option A) → is_some r ≡ right_or may (maybe_from r)
+    go (Some x) = sym (or-true may)
+    go None = refl
 
 code-stands : (f : List ℕ) → not (eqb (length f) 0) ≡ code_there (maybe_code_of f)
-unfolding maybe_code_of maybe_code_from
+unfolding maybe_of maybe_from
 code-stands [] = refl
 code-stands (b ∷ f) = rw (ne_eqb (length (b ∷ f)) 0 (λ z. omega arith)) (go (code_of (b ∷ f)))
   where
-    go : (r : Option Code) → true ≡ code_there (maybe_code_from r)
+    go : (r : Option Code) → true ≡ code_there (maybe_from r)
     go (Some c) = refl
     go None = refl
 
 kind-returns : (f : List ℕ) → return_read (kind_of f) ≡ return_there (maybe_kind_of f)
-unfolding maybe_kind_of maybe_kind_from
+unfolding maybe_of maybe_from
 kind-returns [] = unfold kind_of in refl
 kind-returns (b ∷ f) = rw (ne_eqb (length (b ∷ f)) 0 (λ z. omega arith)) (go (kind_of (b ∷ f)))
   where
-    go : (r : Option Kind) → return_read r ≡ return_there (maybe_kind_from r)
+    go : (r : Option Kind) → return_read r ≡ return_there (maybe_from r)
     go (Some k) = refl
     go None = refl
 
@@ -201,14 +184,14 @@ module _ (pos : ℕ) (none missing : Result ⊤ Cause) (a b c d e f : List ℕ) 
         digits-right b (Ok tt),
         range-reads (digits_field_of a) b,
         date-right c missing,
-        date-reads (is_ok missing) c,
+        maybe_reads date_field_of (is_ok missing) c,
         code-right d (Ok tt),
-        code_reads true d,
+        maybe_reads code_of true d,
         code-right e missing,
-        code_reads (is_ok missing) e,
+        maybe_reads code_of (is_ok missing) e,
         allowed_then (kind_alone missing f) (is_named_or missing d f),
         kind-right f missing,
-        kind-reads (is_ok missing) f,
+        maybe_reads kind_of (is_ok missing) f,
         code-stands d,
         kind-returns f,
       )

@@ -18,10 +18,11 @@ use Rattle.calendar.specs.WorkingDays.{days_after, working_after, smallest, work
 use Rattle.calendar.specs.Answers.{day_of, weekday_of}
 use Rattle.calendar.proofs.WorkingLaws.{kth}
 use Rattle.text.specs.Spelt.{spells, digits_of}
-use Rattle.fields.specs.Code.{code_from, code_of, maybe_code_from, maybe_code_of}
+use Rattle.fields.specs.Field.{maybe_of, maybe_from}
+use Rattle.fields.specs.Code.{code_from, code_of}
 use Rattle.fields.specs.CorrectionCode.{correction_code_from, correction_code_of}
-use Rattle.fields.specs.Date.{date_found, date_from, date_field_of, maybe_date_from, maybe_date_of}
-use Rattle.fields.specs.Kind.{kind_by, kind_of, maybe_kind_from, maybe_kind_of}
+use Rattle.fields.specs.Date.{date_found, date_from, date_field_of}
+use Rattle.fields.specs.Kind.{kind_by, kind_of}
 use Rattle.fields.specs.Number.{digits_from, digits_field_of, number_of, same_number}
 use Rattle.layout.specs.Part.{six_of, part_of}
 use Rattle.layout.specs.Report.{whole_of, report_from, report_of}
@@ -78,7 +79,7 @@ unfolding sum_to table flat_map put leap month_days year_start month_start day_n
 last-in-list = refl
 
 pub worked_through : WorkedThrough
-unfolding sum_to table any all keep flat_map zip_with put in_order not_after before split is_digit spelt digits leap month_days year_start month_start day_number valid weekday day_of weekday_of spells digits_of code_from code_of maybe_code_from maybe_code_of correction_code_from correction_code_of date_found date_from date_field_of maybe_date_from maybe_date_of kind_by kind_of maybe_kind_from maybe_kind_of digits_from digits_field_of number_of same_number six_of part_of whole_of report_from report_of head_of reported_of is_sound sound_of three_of correction_of named_number holds_open is_free lapsed is_among stand_on entry_after events journal about named history entry_over earlier verdict_over started filed line_of judged verdict_of number_in class_in says_in
+unfolding sum_to table any all keep flat_map zip_with put in_order not_after before split is_digit spelt digits leap month_days year_start month_start day_number valid weekday day_of weekday_of spells digits_of code_from code_of correction_code_from correction_code_of date_found date_from date_field_of kind_by kind_of digits_from digits_field_of number_of same_number six_of part_of whole_of report_from report_of head_of reported_of is_sound sound_of three_of correction_of named_number holds_open is_free lapsed is_among stand_on entry_after events journal about named history entry_over earlier verdict_over started filed line_of judged verdict_of number_in class_in says_in maybe_of maybe_from
 worked_through = (
   refl,
   refl,
