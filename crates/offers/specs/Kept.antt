@@ -1,17 +1,12 @@
--- Answers kept in a lent list, four numbers each, at most 16,384 of them. Assumes nothing: these are definitions.
-use Rattle.std.specs.Prelude.{ℕ, ◌+◌, ◌*◌, min, cond, List, leb, get_or, set}
-use Rattle.offers.specs.declared.kept.Told.{Told}
+-- Answers kept, at most 16,384 of them. Assumes nothing: these are definitions.
+use Rattle.std.specs.Prelude.{cond, List, [], ◌∷◌, ◌++◌, leb, length, take}
+use Rattle.filing.specs.declared.checking.answer.Answer.{Answer}
+use Rattle.offers.specs.declared.kept.Kept.{Kept}
 
--- the answer to the offer k, kept; there is no place for one behind the last
-abbrev pub kept_with : List ℕ → ℕ → Told → List ℕ
-kept_with kept k t = cond (leb 16384 k) kept (set (set (set (set kept (4 * k) t.number) (4 * k + 1) t.value) (4 * k + 2) t.field) (4 * k + 3) t.cause)
+-- those that are kept
+abbrev pub kept : Kept → List Answer
+kept k = take k.count k.answers
 
--- where there is no place, the store is damaged
-abbrev pub none_kept : Told
-none_kept = record { number = 44; value = 0; field = 0; cause = 0 }
-
--- the answer to the offer k
-abbrev pub kept_at : List ℕ → ℕ → Told
-kept_at kept k =
-    cond (leb 16384 k) none_kept
-    (record { number = min (get_or kept (4 * k) 0) 255; value = get_or kept (4 * k + 1) 0; field = get_or kept (4 * k + 2) 0; cause = min (get_or kept (4 * k + 3) 0) 255 })
+-- one more; there is no place for one behind the last
+abbrev pub with_answer : List Answer → Answer → List Answer
+with_answer answers a = cond (leb 16384 (length answers)) answers (answers ++ a ∷ [])

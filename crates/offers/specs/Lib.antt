@@ -1,4 +1,2 @@
 pub mod Kept
-pub mod Counted
-pub mod Filed
 pub mod Offer

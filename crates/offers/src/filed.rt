@@ -1,88 +1,38 @@
 // What is asked of the library: one file, filed. Why a file is refused with 4 is said at once, since its text is at hand.
-ghost use Rattle.std.specs.Prelude.{◌≡◌};
-ghost use Rattle.store.specs.Reads.{lent};
-ghost use Rattle.filing.specs.declared.checking.answer.Answer.TheVariants.{Fault};
-ghost use Rattle.offers.specs.Filed.{plainly, told_of, FilesTold};
+ghost use Rattle.disk.specs.Books.{buffers_of};
+ghost use Rattle.filing.specs.Effect.{Files};
 
-use crate::kept::Told;
 use calendar::dates::CalendarDays;
 use desk::Host;
-use disk::{CORRECTIONS, ENTRIES, FILES, REGULAR, TABLE};
-use faults::cause::{Cause, FaultPlace};
+use disk::Books;
 use filing::checking::answer::Answer;
 use filing::entering::kind::Filable;
 
-// An answer that is its number, and the count of a 0.
-fn plain(a: Answer, value: usize) -> Told
-    ensures { result ≡ plainly a value }
-{
-    Told {
-        number: filing::checking::answer::number(a),
-        value,
-        field: 0,
-        cause: 0,
-    }
-}
-
-fn fault(
-    rt: &impl Host,
-    path: &[u8],
-    kind: Filable,
-    text: &[u8],
-    at: FaultPlace,
-    cause: Cause,
-) -> Told
-    ensures { result ≡ told_of (Fault at cause) }
-{
-    words::fault::refused(rt, path, kind.file_kind(), text, at, cause);
-    Told {
-        number: 4,
-        value: at.place,
-        field: at.field,
-        cause: cause.number(),
-    }
-}
-
-fn as_told(rt: &impl Host, path: &[u8], kind: Filable, text: &[u8], a: Answer) -> Told
-    ensures { result ≡ told_of a }
-{
-    match a {
-        Answer::Filed(count) => plain(a, count),
-        Answer::Fault(at, cause) => fault(rt, path, kind, text, at, cause),
-        Answer::Unreadable => plain(a, 0),
-        Answer::NoCode => plain(a, 0),
-        Answer::NoDay => plain(a, 0),
-        Answer::FiledAlready => plain(a, 0),
-        Answer::Full => plain(a, 0),
-    }
-}
-
-// Files a file, and tells what filing answers.
+// Files a file, and answers what filing answers.
 pub fn file(
     rt: &impl Host,
     path: &[u8],
-    table: &[u8; TABLE],
-    files: &mut [u8; FILES],
-    regular: &mut [u8; REGULAR],
-    corrections: &mut [u8; CORRECTIONS],
-    entries: &mut [u8; ENTRIES],
+    books: &mut Books,
     kind: Filable,
     publisher: &[u8],
     day: CalendarDays,
     text: &[u8],
-) -> Told
-    ensures { FilesTold (lent table.now files.old regular.old corrections.old entries.old) kind publisher.now day.0 text.now result (lent table.now files.new regular.new corrections.new entries.new) }
+) -> Answer
+    ensures { Files (buffers_of books.old) kind publisher.now day.0 text.now result (buffers_of books.new) }
 {
     let answer = filing::file::file(
-        table,
-        files,
-        regular,
-        corrections,
-        entries,
+        &books.table,
+        &mut books.files,
+        &mut books.regular,
+        &mut books.corrections,
+        &mut books.entries,
         kind,
         publisher,
         day,
         text,
     );
-    as_told(rt, path, kind, text, answer)
+    if let Answer::Fault(at, cause) = answer {
+        words::fault::refused(rt, path, kind.file_kind(), text, at, cause);
+    }
+    answer
 }

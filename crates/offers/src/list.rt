@@ -1,78 +1,63 @@
 // A list of offers: PUBLISHER, a tab and PATH each, with a separator behind it. Blank lines are passed over.
-ghost use Rattle.std.specs.Prelude.{◌≡◌, ◌≤◌, length};
+ghost use Rattle.std.specs.Prelude.{◌≡◌, ◌≤◌, IfOk};
 ghost use Rattle.laws.specs.Split.{piece_of};
-ghost use Rattle.offers.specs.Counted.{FitsOne};
 
 use crate::MOST;
 
-// Where the line that starts at `at` ends.
-pub fn line_end(list: &[u8], at: usize, sep: u8) -> usize
-    ensures { result ≤ length list.now }
-{
-    let end = text::field_end(list, at, sep);
-    if list.len() < end { list.len() } else { end }
+#[derive(Clone, Copy)]
+pub struct List<'a> {
+    pub bytes: &'a [u8],
+    pub separator: u8,
 }
 
-#[derive(Drop)]
-pub enum Counted {
-    Offers(usize),
+// Why a list is not taken.
+#[derive(Clone, Copy)]
+pub enum ListError {
     // a line, counted from 1, has no tab
     NoTab(usize),
     TooMany,
 }
 
-// How many offers a line is: 0 where it is blank, 1 with a tab, and 2 for one that is none.
-fn offers_in(line: &[u8]) -> usize {
-    if line.len() == 0 {
-        return 0;
-    }
-    if text::field_end(line, 0, b'\t') < line.len() {
-        return 1;
-    }
-    2
-}
-
-// How many offers a list has.
-pub fn count(list: &[u8], sep: u8) -> Counted
-    ensures { FitsOne result }
-{
-    let mut at = 0;
-    let mut n = 0;
-    let mut line = 0;
-    while at < list.len() {
-        let end = line_end(list, at, sep);
-        if end < at {
-            return Counted::TooMany;
+impl<'a> List<'a> {
+    // How many offers there are.
+    pub fn count(self) -> Result<usize, ListError>
+        ensures { IfOk result (λ n. n ≤ 16384) }
+    {
+        let List { bytes, separator } = self;
+        let bad = bytes
+            .split(|&b| b == separator)
+            .position(|line| !line.is_empty() && !line.contains(&b'\t'));
+        if let Some(line) = bad {
+            return Err(ListError::NoTab(line + 1));
         }
-        line += 1;
-        let k = offers_in(&list[at..end]);
-        if 1 < k {
-            return Counted::NoTab(line);
+        let n = bytes
+            .split(|&b| b == separator)
+            .filter(|line| !line.is_empty())
+            .count();
+        if MOST < n {
+            Err(ListError::TooMany)
+        } else {
+            Ok(n)
         }
-        n += k;
-        at = end + 1;
     }
-    if MOST < n {
-        return Counted::TooMany;
-    }
-    Counted::Offers(n)
 }
 
-// The publisher of a line.
-pub fn publisher(line: &[u8]) -> &[u8]
-    ensures { result.now ≡ piece_of 9 line.now 0 }
-{
-    text::piece(line, b'\t', 0)
+// A file at a path, and its publisher.
+#[derive(Clone, Copy)]
+pub struct Offer<'a> {
+    pub publisher: &'a [u8],
+    pub path: &'a [u8],
 }
 
-// Where the path of a line begins.
-pub fn path_at(line: &[u8]) -> usize
-    ensures { result ≤ length line.now }
-{
-    let end = text::field_end(line, 0, b'\t');
-    if line.len() <= end {
-        line.len()
-    } else {
-        end + 1
+impl<'a> Offer<'a> {
+    // From a line of the list.
+    pub fn of(line: &'a [u8]) -> Offer<'a>
+        ensures { result.publisher.now ≡ piece_of 9 line.now 0 }
+    {
+        let publisher = text::piece(line, b'\t', 0);
+        Offer {
+            publisher,
+            path: line.get(publisher.len() + 1..).unwrap_or(&[]),
+        }
     }
 }

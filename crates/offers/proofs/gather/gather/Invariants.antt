@@ -1,6 +1,6 @@
--- `offers::gather::gather` is safe and ends. The measure is what is left to do. Assumes nothing.
-use Rattle.std.proofs.Common.{◌-◌}
+-- `offers::gather::gather` meets its contract: each offer ends in the list. Assumes nothing.
+use Rattle.std.proofs.Common.{◌≤◌, length}
 use Rattle.offers.proofs.gather.gather.Given as goal
 
-abbrev pub decreases-loop-k : goal.decreases-loop-k
-decreases-loop-k g l = l.end - l.k
+abbrev pub invariant-loop-k : goal.invariant-loop-k
+invariant-loop-k g l = l.at ≤ length l.list
