@@ -27,7 +27,7 @@ use Rattle.working.specs.Working.{Sound, Behind, Gathered}
 use Rattle.working.proofs.GatherLaws.{ranged}
 use Rattle.working.proofs.KeyLaws.{behind, bounded}
 use Rattle.working.proofs.SlipLaws.{kept}
-use Rattle.working.specs.indexing.Index.{front, is_wanted, may_name, candidate, listed, number_behind, front_behind, about_key, Indexed, keys_behind}
+use Rattle.working.specs.indexing.Index.{front, is_wanted, Wanted, may_name, candidate, listed, number_behind, front_behind, about_key, Indexed, keys_behind}
 use Rattle.rules.proofs.First.{first-in}
 use Rattle.working.proofs.indexing.Laying.{behind-none, behind_more}
 use Rattle.working.proofs.indexing.Grouping.{sorted-again}
@@ -59,6 +59,14 @@ module _ (q : ℕ → Bool) (keys places : List ℕ) where
         (sym (ap (keep q) (one_more i h ∙ ap (λ (x : ℕ). keys_behind keys (take i places) ++ (x ∷ [])) (sym e)) ∙ keep-end-no q (keys_behind keys (take i places)) v t))
         inv
 
+-- ---- the places of an index are in order
+pub places-ordered : (n : ℕ) (files regular corrections wanted keys places : List ℕ) (c : ℕ) → Indexed n files regular corrections wanted keys places c → Wanted places c
+places-ordered n files regular corrections wanted keys places c x = record {
+  few = x.few;
+  ordered =
+      ap sorted x.grouped ∙ sorted-again (table (length (take c keys)) (λ (i : ℕ). tag (front_behind regular corrections (get_or (take c keys) i 0)) i)) ∙ sym x.grouped;
+}
+
 -- ---- the records of a number
 and-implied : (s t : Bool) → (s ≡ true → t ≡ true) → (s && t) ≡ s
 and-implied true t h = h refl
@@ -68,10 +76,6 @@ module _ (n : ℕ) (files regular corrections wanted keys places : List ℕ) (c 
     (x : Indexed n files regular corrections wanted keys places c) (number : Number) where
   abbrev r : ℕ → ℕ → List ℕ
   r = records_at regular corrections
-
-  pub index-ordered : sorted (take c places) ≡ take c places
-  index-ordered =
-      ap sorted x.grouped ∙ sorted-again (table (length (take c keys)) (λ (i : ℕ). tag (front_behind regular corrections (get_or (take c keys) i 0)) i)) ∙ sym x.grouped
 
   about-behind : (s : Slip) → Memᴰ s (slips r (file_at files) n) → about_slip r number s ≡ about_key regular corrections number (key_of s)
   unfolding about_slip about_key number_behind event_behind

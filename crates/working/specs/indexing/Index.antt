@@ -30,11 +30,6 @@ pub record Wanted (wanted : List ℕ) (w : ℕ) : Type 0 where
 pub record Marked (wanted : List ℕ) (marks : List Bool) : Type 0 where
   pub each : (i : ℕ) → i < length wanted → get_or marks (get_or wanted i 0 / 16384 % 1024) false ≡ true
 
--- the first w tags, in order and marked
-pub record Sought (wanted : List ℕ) (w : ℕ) (marks : List Bool) : Type 0 where
-  pub ordered : Wanted wanted w
-  pub marked : Marked (take w wanted) marks
-
 -- ---- a record may name a number with a wanted first field: the field that comes first in its bytes is empty, or is wanted
 unfoldable pub may_name : List ℕ → ℕ → List ℕ → Bool
 may_name wanted kind bytes = eqb (first_in kind bytes) 1 || is_wanted wanted (first_in kind bytes)

@@ -23,6 +23,30 @@ pub struct Index<'a> {
     pub ghost indexed: { Indexed filed.n filed.files.now filed.journals.regular.now filed.journals.corrections.now (take wanted.count wanted.words.now) keys.now places.words.now places.count },
 }
 
+impl<'a> Index<'a> {
+    // The index of the first files for the wanted first fields, in the room for its keys and its places.
+    pub fn new(
+        filed: &Filed<'a>,
+        wanted: &Tags<'a>,
+        keys: &'a mut [u64; 10240],
+        places: &'a mut [u64; 10240],
+    ) -> Index<'a>
+        ensures filed { result.filed ≡ filed.now }
+        ensures wanted { result.wanted ≡ wanted.now }
+    {
+        let count = index::index(filed, wanted, keys, places);
+        Index {
+            filed: *filed,
+            wanted: *wanted,
+            keys,
+            places: Tags {
+                words: places,
+                count,
+            },
+        }
+    }
+}
+
 // The key that a tag stands for; 0 where there is none.
 fn key_of(keys: &[u64], tag: u64) -> u64
     ensures { result ≡ get_or keys.now (tag % 16384) 0 }
