@@ -11,16 +11,13 @@ use store::numbers::{find, lines};
 use store::readable::ENTRIES_LENGTH;
 
 // Whether table and entries have room, and how many lines there are is in range.
+#[tactic(auto, unfolding(crate::specs::Standing::has_entries))]
 fn has_entries(table: &[u8], entries: &[u8]) -> bool
     ensures { result ≡ has_entries table.now entries.now }
 {
-    if table.len() < lines::TABLE_LENGTH {
-        return false;
-    }
-    if entries.len() < ENTRIES_LENGTH {
-        return false;
-    }
-    lines::line_count(table) <= lines::NUMBERS
+    lines::TABLE_LENGTH <= table.len()
+        && ENTRIES_LENGTH <= entries.len()
+        && lines::line_count(table) <= lines::NUMBERS
 }
 
 // The stored entry of a number: a look.

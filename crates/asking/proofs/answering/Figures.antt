@@ -60,13 +60,13 @@ module _ (files : List Filed) (t e : List ℕ) where
   abbrev here : ℕ → Bool
   here i = differs files (table_line (line_at t i)) (entry_at e i)
 
-  pub differing-none : 0 ≡ differing files t e 0
+  pub differing_none : 0 ≡ differing files t e 0
   unfolding differing table keep
-  differing-none = refl
+  differing_none = refl
 
-  pub differing-more : (i count m : ℕ) (d : Bool) → d ≡ here i → m ≡ cond d 1 0 → count ≡ differing files t e i → count + m ≡ differing files t e (i + 1)
+  pub differing_more : (i count m : ℕ) (d : Bool) → d ≡ here i → m ≡ cond d 1 0 → count ≡ differing files t e i → count + m ≡ differing files t e (i + 1)
   unfolding differing
-  differing-more i count m d ed em ec =
+  differing_more i count m d ed em ec =
       (λ j. ec j + (em ∙ ap (λ (u : Bool). cond u 1 0) ed) j)
       ∙ sym (ap how_many (table_more i here) ∙ length-keep-end (λ (u : Bool). u) (table i here) (here i))
 
