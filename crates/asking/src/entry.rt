@@ -21,6 +21,7 @@ fn has_entries(table: &[u8], entries: &[u8]) -> bool
 }
 
 // The stored entry of a number: a look.
+#[tactic(auto, using(crate::proofs::Standings::has_room, crate::proofs::Lines::found_below, crate::proofs::Standings::entry_unshowable, crate::proofs::Standings::entry_unknown, crate::proofs::Standings::entry_here))]
 pub fn look(table: &[u8], entries: &[u8], number: Number) -> Result<Entry, NotSeen>
     ensures { result ≡ entry_looked table.now entries.now number }
 {
@@ -34,6 +35,7 @@ pub fn look(table: &[u8], entries: &[u8], number: Number) -> Result<Entry, NotSe
 }
 
 // The entry of a number before the file at n arrived: a look.
+#[tactic(auto, using(crate::proofs::Showing::showable, crate::proofs::Lines::found_below, crate::proofs::Standings::before_unshowable, crate::proofs::Standings::before_unknown))]
 pub fn look_before<'a>(
     table: &[u8],
     files: &'a [u8],

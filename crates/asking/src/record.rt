@@ -133,6 +133,7 @@ fn verdict_at<'a>(
 }
 
 // The record at a place of the file k, with its verdict; 12 where its number has no line.
+#[tactic(auto, using(crate::proofs::Lines::found_below, crate::proofs::Records::asked_unknown, crate::proofs::Records::asked_here))]
 fn asked_at<'a>(
     table: &[u8],
     files: &'a [u8],
@@ -161,6 +162,7 @@ fn asked_at<'a>(
 }
 
 // The record at a place of a journal: a look.
+#[tactic(auto, using(crate::proofs::Showing::showable, crate::proofs::Showing::sound, crate::proofs::Records::record_unshowable, crate::proofs::Records::asked_beyond))]
 pub fn look<'a>(
     table: &[u8],
     files: &'a [u8],

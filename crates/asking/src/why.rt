@@ -13,6 +13,7 @@ use store::journals::{files, records};
 use store::numbers::find;
 
 // Why a number stands where it does: a look. It shows the pair that confirmed last, or that there is none.
+#[tactic(auto, using(crate::proofs::Showing::showable, crate::proofs::Showing::sound, crate::proofs::Showing::reports_first, crate::proofs::Lines::found_below, crate::proofs::Whys::why_unshowable, crate::proofs::Whys::why_unknown))]
 pub fn look<'a>(
     table: &[u8],
     files: &'a [u8],

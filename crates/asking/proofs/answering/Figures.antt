@@ -79,13 +79,13 @@ module _ (files : List Filed) (t e : List ℕ) where
 
 -- ---- the answers
 module _ (t f r c e : List ℕ) where
-  pub figure-unread : is_readable (lent t f r c e) ≡ false → Err (record {}) ≡ figure_asked (reads (lent t f r c e))
-  figure-unread h = ap figure_asked (sym (reads_none (lent t f r c e) h))
+  pub figure_unread : is_readable (lent t f r c e) ≡ false → Err (record {}) ≡ figure_asked (reads (lent t f r c e))
+  figure_unread h = ap figure_asked (sym (reads_none (lent t f r c e) h))
 
-  pub figure-answer : is_readable (lent t f r c e) ≡ true → (n m count : ℕ) → n ≡ file_count f → m ≡ line_count t → count ≡ differing (take n (read_files f r c)) t e m
+  pub figure_answer : is_readable (lent t f r c e) ≡ true → (n m count : ℕ) → n ≡ file_count f → m ≡ line_count t → count ≡ differing (take n (read_files f r c)) t e m
       → Ok count ≡ figure_asked (reads (lent t f r c e))
   unfolding held
-  figure-answer h n m count en em ec =
+  figure_answer h n m count en em ec =
       ap Ok
       (ec ∙ ap (λ (k : ℕ). differing (take n (read_files f r c)) t e k) em
       ∙ ap (λ (fs : List Filed). differing fs t e (line_count t)) (take_all n (read_files f r c) (omega (arith, length-first (file_count f) f r c)))

@@ -113,6 +113,7 @@ fn differing_among<'a>(
 }
 
 // The figure of a store; 44 before all else.
+#[tactic(auto, using(crate::proofs::answering::Readables::readable_showable, crate::proofs::answering::Readables::lines_room, crate::proofs::Showing::sound, crate::proofs::answering::Figures::figure_unread, crate::proofs::answering::Figures::figure_answer))]
 pub fn figure<'a>(
     table: &[u8],
     files: &'a [u8],

@@ -4,7 +4,7 @@ use native.Mathlib.Omega.{arith}
 use lib.ListN.{take}
 use Rattle.store.specs.journals.Reads.{read_files}
 use Rattle.asking.proofs.Lines.{found_below}
-use Rattle.asking.proofs.Records.{asked-unknown, asked_here}
+use Rattle.asking.proofs.Records.{asked_unknown, asked_here}
 use Rattle.asking.proofs.record.asked_at.Goals as goal
 use Rattle.asking.proofs.record.asked_at.Goals.{in-Some, in-None}
 
@@ -21,5 +21,5 @@ returns c =
     let m = c.match-find_line in
     elim m.branch [
       | in-Some w ↦ asked_here a.table.now a.files.now a.regular.now a.corrections.now files a.k a.at c.requires.table_in_bounds said.result said.ensures w.in-Some.i (sym w.in-Some.is ∙ c.find_line.ensures) m.verdict (rw w.verdict-is w.verdict_at-verdict.ensures)
-      | in-None w ↦ rw w.verdict-is (asked-unknown a.table.now a.files.now a.regular.now a.corrections.now files a.k a.at c.requires.table_in_bounds said.result said.ensures (sym w.in-None.is ∙ c.find_line.ensures))
+      | in-None w ↦ rw w.verdict-is (asked_unknown a.table.now a.files.now a.regular.now a.corrections.now files a.k a.at c.requires.table_in_bounds said.result said.ensures (sym w.in-None.is ∙ c.find_line.ensures))
     ]
