@@ -6,7 +6,7 @@ use mathlib.Core.Bool.{Bool, true, false, cond, ◌&&◌}
 use mathlib.Core.List.{List, [], ◌∷◌, ◌++◌}
 use Prim.Native.Nat.{ℕ, suc, ◌+◌, ◌*◌, ◌≤◌, ◌<◌}
 use native.Mathlib.Omega.{arith}
-use borrow.Author.Tests.{ltb-true, ltb-false, leb-true, lt-leb, le-leb}
+use borrow.Author.Tests.{ltb-true, ltb-false, leb-true}
 use lib.Dec.{leb, ltb}
 use lib.ListN.{length, take}
 use lib.Seq.{take_all}
@@ -16,6 +16,7 @@ use Rattle.laws.proofs.Tables.{length-table, map-table}
 use Rattle.fields.specs.declared.number.Number.{Number}
 use Rattle.entries.specs.declared.entry.Entry.{Entry}
 use Rattle.verdict.specs.declared.step.Standing.{Standing}
+use Rattle.model.specs.Rules.{TableLine}
 use Rattle.model.specs.Model.{Filed, entry_over}
 use Rattle.store.specs.journals.Files.{file_at, file_count}
 use Rattle.store.specs.journals.Reads.{filed_in, first_files, read_files, records_at}
@@ -23,18 +24,18 @@ use Rattle.store.specs.declared.journals.files.File.{File}
 use Rattle.rules.specs.Rules.{rules, standings}
 use Rattle.rules.proofs.Promises.{standing-entry}
 use Rattle.store.specs.numbers.Lines.{line_at, line_count, lines_of}
+use Rattle.store.specs.entry_slots.Entries.{entry_at}
 use Rattle.store.specs.numbers.Find.{found_line}
 use Rattle.store.specs.Reads.{table_line}
 use Rattle.asking.specs.declared.answer.NotShown.{NotShown}
 use Rattle.asking.specs.declared.looks.NotSeen.{NotSeen}
 use Rattle.asking.specs.Items.{item_at}
 use Rattle.asking.specs.Standing.{lines_in, held_as, entry_in, entry_before, has_entries}
-use Rattle.asking.specs.Looks.{stood_on, stood_at}
+use Rattle.asking.specs.Showable.{is_showable}
+use Rattle.asking.specs.Looks.{look_of, entry_looked, before_looked, stood_on, stood_at, standing_looked}
+use Rattle.working.specs.Working.{Sound}
+use Rattle.asking.proofs.Showing.{Showable, showable, sound}
 use Rattle.asking.proofs.Lines.{item-table, item-beyond, found-line, no_line, found-entry, no-entry}
-
--- an answer where the test of the buffers holds
-pub shows : {A : Type 0} (b : Bool) (v w x : A) → b ≡ true → x ≡ v → x ≡ cond b v w
-shows b v w x e q = rw e q
 
 -- ---- the first files
 length-filed : (r : ℕ → ℕ → List ℕ) (before fs : List File) → length (filed_in r before fs) ≡ length fs
@@ -60,8 +61,8 @@ among_below n k m e = rw e (go (ltb n k) refl)
     go true q = omega (arith, ltb-true n k q)
     go false q = omega arith
 
-pub among-files : (f r c : List ℕ) (n m : ℕ) → m ≡ cond (ltb n (file_count f)) n (file_count f) → take m (read_files f r c) ≡ take n (read_files f r c)
-among-files f r c n m e = ap (λ (k : ℕ). take k (read_files f r c)) e ∙ take-among (read_files f r c) n (file_count f) (length-first (file_count f) f r c)
+pub among_files : (f r c : List ℕ) (n m : ℕ) → m ≡ cond (ltb n (file_count f)) n (file_count f) → take m (read_files f r c) ≡ take n (read_files f r c)
+among_files f r c n m e = ap (λ (k : ℕ). take k (read_files f r c)) e ∙ take-among (read_files f r c) n (file_count f) (length-first (file_count f) f r c)
 
 -- ---- where a line stands
 module _ (t : List ℕ) (files : List Filed) (n i : ℕ) where
@@ -99,19 +100,6 @@ has_room t e h =
       few-lines = leb-true (line_count t) 1024 (and_right b d h₁);
     }
 
-module _ (t e : List ℕ) where
-  pub has-short-table : length t < 14338 → false ≡ has_entries t e
-  unfolding has_entries
-  has-short-table h = rw (lt-leb 14338 (length t) h)
-
-  pub has-short-entries : 14338 ≤ length t → length e < 102400 → false ≡ has_entries t e
-  unfolding has_entries
-  has-short-entries h g = rw (le-leb 14338 (length t) h, lt-leb 102400 (length e) g)
-
-  pub has-lines : (n : ℕ) → 14338 ≤ length t → 102400 ≤ length e → n ≡ line_count t → leb n 1024 ≡ has_entries t e
-  unfolding has_entries
-  has-lines n h g q = rw (le-leb 14338 (length t) h, le-leb 102400 (length e) g, q)
-
 module _ (t : List ℕ) (x : Number) (room : 2 + line_count t * 14 ≤ length t) where
   module _ (g : ℕ → Entry) where
     pub held-unknown : None ≡ found_line t x → Err NotShown.UnknownNumber ≡ entry_in (lines_in t) (table (line_count t) g) x
@@ -134,3 +122,61 @@ module _ (t : List ℕ) (x : Number) (room : 2 + line_count t * 14 ≤ length t)
     before_here i y s q e p =
         ap Ok (p ∙ ap (λ (u : Standing). u.entry) e ∙ standing-entry (take n files) (table_line (line_at t i)))
         ∙ sym (ap (λ l. held_as (option_map (entry_over rules (take n files)) l)) (found-line t x room i q))
+
+-- ---- a look at a stored entry
+module _ (t e : List ℕ) (x : Number) where
+  pub entry_unshowable : has_entries t e ≡ false → Err NotSeen.Unshowable ≡ entry_looked t e x
+  unfolding entry_looked
+  entry_unshowable h = rw h
+
+  module _ (yes : has_entries t e ≡ true) where
+    line_room : 2 + line_count t * 14 ≤ length t
+    line_room = let s = has_room t e yes in omega (arith, s.long-table, s.few-lines)
+
+    pub entry_unknown : None ≡ found_line t x → Err NotSeen.UnknownNumber ≡ entry_looked t e x
+    unfolding entry_looked
+    entry_unknown q = rw yes (ap look_of (held-unknown t x line_room (entry_at e) q))
+
+    pub entry_here : (i : ℕ) (y : Entry) → Some i ≡ found_line t x → y ≡ entry_at e i → Ok y ≡ entry_looked t e x
+    unfolding entry_looked
+    entry_here i y q p = rw yes (ap look_of (held-here t x line_room (entry_at e) i y q p))
+
+-- ---- and at any line or entry over the first files
+module _ (t f r c : List ℕ) (n : ℕ) where
+  -- working out over them is sound
+  pub sound_among : (m : ℕ) → Showable t f r c → m ≡ cond (ltb n (file_count f)) n (file_count f) → Sound m f r c
+  sound_among m s e = sound t f r c m s (among_below n (file_count f) m e)
+
+  over-files : (line : TableLine Number) (m : ℕ) → m ≡ cond (ltb n (file_count f)) n (file_count f) → entry_over standings (take m (read_files f r c)) line ≡ entry_over standings (take n (read_files f r c)) line
+  over-files line m e = ap (λ (l : List Filed). entry_over standings l line) (among_files f r c n m e)
+
+  pub before_unshowable : (x : Number) → is_showable t f r c ≡ false → Err NotSeen.Unshowable ≡ before_looked t f r c n x
+  unfolding before_looked
+  before_unshowable x h = rw h
+
+  pub stood_unshowable : (i : ℕ) → is_showable t f r c ≡ false → Err NotSeen.Unshowable ≡ standing_looked t f r c n i
+  unfolding standing_looked
+  stood_unshowable i h = rw h
+
+  module _ (yes : is_showable t f r c ≡ true) where
+    shown_room : 2 + line_count t * 14 ≤ length t
+    shown_room = let s = showable t f r c yes in omega (arith, s.long-table, s.few-lines)
+
+    pub before_unknown : (x : Number) → None ≡ found_line t x → Err NotSeen.UnknownNumber ≡ before_looked t f r c n x
+    unfolding before_looked
+    before_unknown x q = rw yes (ap look_of (before-unknown t x shown_room (read_files f r c) n q))
+
+    pub entry_before_here : (x : Number) (i m : ℕ) (s : Standing) → Some i ≡ found_line t x → m ≡ cond (ltb n (file_count f)) n (file_count f)
+        → s ≡ entry_over standings (take m (read_files f r c)) (table_line (line_at t i)) → Ok s.entry ≡ before_looked t f r c n x
+    unfolding before_looked
+    entry_before_here x i m s q em e =
+        rw yes (ap look_of (before_here t x shown_room (read_files f r c) n i s.entry s q (e ∙ over-files (table_line (line_at t i)) m em) refl))
+
+    pub stood_beyond : (i k : ℕ) → k ≡ line_count t → k ≤ i → Err NotSeen.UnknownNumber ≡ standing_looked t f r c n i
+    unfolding standing_looked
+    stood_beyond i k ek h = rw yes (stood-beyond t (read_files f r c) n i (omega (arith, ek)))
+
+    pub stood_here : (i k m : ℕ) (s : Standing) → k ≡ line_count t → i < k → m ≡ cond (ltb n (file_count f)) n (file_count f)
+        → s ≡ entry_over standings (take m (read_files f r c)) (table_line (line_at t i)) → Ok s ≡ standing_looked t f r c n i
+    unfolding standing_looked
+    stood_here i k m s ek h em e = rw yes (stood-here t (read_files f r c) n i s (omega (arith, ek)) (e ∙ over-files (table_line (line_at t i)) m em))

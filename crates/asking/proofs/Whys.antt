@@ -31,22 +31,22 @@ use Rattle.asking.proofs.Standings.{length-first}
 use Rattle.asking.proofs.Starts.{pair-files}
 
 module _ (t f r c : List ℕ) (x : Number) where
-  pub why-unshowable : is_showable t f r c ≡ false → Err NotSeen.Unshowable ≡ why_looked t f r c x
+  pub why_unshowable : is_showable t f r c ≡ false → Err NotSeen.Unshowable ≡ why_looked t f r c x
   unfolding why_looked
-  why-unshowable e = rw e
+  why_unshowable e = rw e
 
   module _ (yes : is_showable t f r c ≡ true) where
     room : 2 + line_count t * 14 ≤ length t
     room = let s = showable t f r c yes in omega (arith, s.long-table, s.few-lines)
 
-    pub why-unknown : None ≡ found_line t x → Err NotSeen.UnknownNumber ≡ why_looked t f r c x
+    pub why_unknown : None ≡ found_line t x → Err NotSeen.UnknownNumber ≡ why_looked t f r c x
     unfolding why_looked why_in
-    why-unknown q = rw (yes, no_line t x room q)
+    why_unknown q = rw (yes, no_line t x room q)
 
-    pub why-pair : (i n : ℕ) (s : Standing) (a : Option Pair) → Some i ≡ found_line t x → n ≡ file_count f → s ≡ entry_over standings (take n (read_files f r c)) (table_line (line_at t i))
+    pub why_pair : (i n : ℕ) (s : Standing) (a : Option Pair) → Some i ≡ found_line t x → n ≡ file_count f → s ≡ entry_over standings (take n (read_files f r c)) (table_line (line_at t i))
         → a ≡ listed_pair (table n (file_at f)) s.why → Ok a ≡ why_looked t f r c x
     unfolding why_looked why_in
-    why-pair i n s a q en es ea =
+    why_pair i n s a q en es ea =
         let all : take n (read_files f r c) ≡ read_files f r c = take_all n (read_files f r c) (omega (arith, length-first (file_count f) f r c)) in
         let stands : s ≡ entry_over standings (read_files f r c) (table_line (line_at t i)) = es ∙ ap (λ (l : List Filed). entry_over standings l (table_line (line_at t i))) all in
         ap Ok

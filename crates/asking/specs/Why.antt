@@ -48,6 +48,11 @@ unfoldable pub why_in : List (TableLine Number) → List Filed → Number → Re
 why_in lines files number = why_on files (line_of rules lines number)
 
 -- ---- the two reports
+-- the place of a report that is shown; where none is, one beyond all reports
+abbrev pub place_of : Option Stored → ℕ
+place_of (Some s) = s.place
+place_of None = 8192
+
 -- the places of the pair; where an answer shows no pair, each is beyond all reports
 abbrev pub first_place : Result (Option Pair) NotShown → ℕ
 first_place (Ok (Some p)) = p.first.place

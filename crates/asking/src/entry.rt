@@ -11,19 +11,17 @@ use store::numbers::{find, lines};
 use store::readable::ENTRIES_LENGTH;
 
 // Whether table and entries have room, and how many lines there are is in range.
+#[tactic(auto, unfolding(crate::specs::Standing::has_entries))]
 fn has_entries(table: &[u8], entries: &[u8]) -> bool
     ensures { result ≡ has_entries table.now entries.now }
 {
-    if table.len() < lines::TABLE_LENGTH {
-        return false;
-    }
-    if entries.len() < ENTRIES_LENGTH {
-        return false;
-    }
-    lines::line_count(table) <= lines::NUMBERS
+    lines::TABLE_LENGTH <= table.len()
+        && ENTRIES_LENGTH <= entries.len()
+        && lines::line_count(table) <= lines::NUMBERS
 }
 
 // The stored entry of a number: a look.
+#[tactic(auto, using(crate::proofs::Standings::has_room, crate::proofs::Lines::found_below, crate::proofs::Standings::entry_unshowable, crate::proofs::Standings::entry_unknown, crate::proofs::Standings::entry_here))]
 pub fn look(table: &[u8], entries: &[u8], number: Number) -> Result<Entry, NotSeen>
     ensures { result ≡ entry_looked table.now entries.now number }
 {
@@ -37,6 +35,7 @@ pub fn look(table: &[u8], entries: &[u8], number: Number) -> Result<Entry, NotSe
 }
 
 // The entry of a number before the file at n arrived: a look.
+#[tactic(auto, using(crate::proofs::Showing::showable, crate::proofs::Lines::found_below, crate::proofs::Standings::before_unshowable, crate::proofs::Standings::before_unknown))]
 pub fn look_before<'a>(
     table: &[u8],
     files: &'a [u8],

@@ -28,6 +28,7 @@ pub struct Pair {
 }
 
 // Whether a file is the default file of a publisher and a day.
+#[tactic(auto, unfolding(crate::specs::pairs::Pairs::is_listed_of))]
 fn is_listed_of(f: File, publisher: Code, day: CalendarDays) -> bool
     ensures { result ≡ is_listed_of publisher.0 day.0 f }
 {
@@ -40,19 +41,18 @@ fn start_of(files: &[u8], n: usize, publisher: Code, day: CalendarDays) -> usize
     ensures { result ≡ start_by publisher.0 day.0 (tabled n (file_at files.now)) }
 {
     let mut start = 0;
-    let mut k = 0;
-    while k < n {
+    for k in 0..n {
         let f = files::file_at(files, k);
         if is_listed_of(f, publisher, day) {
             return start;
         }
         start += sums::records_in(f, 0);
-        k += 1;
     }
     start
 }
 
 // The stored report of a place: its file is that of the report's publisher on its publication day.
+#[tactic(auto, using(crate::proofs::pairs::Starts::start_below))]
 fn stored_of(files: &[u8], n: usize, p: Place) -> Stored
     requires n_in_bounds { (2 + n * 8 ≤ length files.now) × (n < 65536) }
     requires files_bound { records_of 0 (tabled n (file_at files.now)) ≤ 8192 }

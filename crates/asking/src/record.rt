@@ -7,7 +7,7 @@ ghost use Rattle.store.specs.numbers.Lines.{line_count, line_at};
 ghost use Rattle.store.specs.Reads.{table_line};
 ghost use Rattle.working.specs.Working.{Sound, record_in};
 ghost use Rattle.asking.specs.Standing.{lines_in};
-ghost use Rattle.asking.specs.Record.{kind_of, Locates, said_by, point_verdict, asked_as, journal_shown, place_shown, part_shown};
+ghost use Rattle.asking.specs.Record.{kind_of, Locates, said_by, point_verdict, asked_as, part_shown};
 ghost use Rattle.asking.specs.Looks.{record_looked};
 
 use crate::answer::NoRecord;
@@ -132,19 +132,8 @@ fn verdict_at<'a>(
     step::verdict(Some(line), e, rec)
 }
 
-// A record with its verdict.
-fn with_verdict(rec: Record, at: usize, v: Verdict) -> AskedRecord
-    ensures { result ≡ record { publisher = rec.publisher; day = rec.day; place = at; verdict = v } }
-{
-    AskedRecord {
-        publisher: rec.publisher,
-        day: rec.day,
-        place: at,
-        verdict: v,
-    }
-}
-
 // The record at a place of the file k, with its verdict; 12 where its number has no line.
+#[tactic(auto, using(crate::proofs::Lines::found_below, crate::proofs::Records::asked_unknown, crate::proofs::Records::asked_here))]
 fn asked_at<'a>(
     table: &[u8],
     files: &'a [u8],
@@ -160,14 +149,20 @@ fn asked_at<'a>(
     ensures { result ≡ asked_as (lines_in table.now) (take n (read_files files.now regular.now corrections.now)) (record_in files.now regular.now corrections.now k at) }
 {
     let s = said_at(files, n, regular, corrections, k, at);
-    let v = match find::find_line(table, s.number) {
+    let verdict = match find::find_line(table, s.number) {
         Some(i) => verdict_at(table, files, n, regular, corrections, k, at, i, s.rec),
         None => Verdict::UnknownNumber,
     };
-    with_verdict(s.rec, at, v)
+    AskedRecord {
+        publisher: s.rec.publisher,
+        day: s.rec.day,
+        place: at,
+        verdict,
+    }
 }
 
 // The record at a place of a journal: a look.
+#[tactic(auto, using(crate::proofs::Showing::showable, crate::proofs::Showing::sound, crate::proofs::Records::record_unshowable, crate::proofs::Records::asked_beyond))]
 pub fn look<'a>(
     table: &[u8],
     files: &'a [u8],
@@ -192,26 +187,6 @@ pub fn look<'a>(
     })
 }
 
-// The journal of the record that an answer shows; where it shows none, the regular one.
-fn journal_shown(answer: Result<ShownRecord, NoRecord>) -> Journal
-    ensures { result ≡ journal_shown answer }
-{
-    match answer {
-        Ok(s) => s.journal,
-        Err(_) => Journal::Regular,
-    }
-}
-
-// Its place there; where the answer shows no record, one beyond all records.
-fn place_shown(answer: Result<ShownRecord, NoRecord>) -> usize
-    ensures { result ≡ place_shown answer }
-{
-    match answer {
-        Ok(s) => s.place,
-        Err(_) => REPORTS,
-    }
-}
-
 // The bytes of the record that an answer shows, a part of its journal; empty where it shows none.
 pub fn part<'a>(
     regular: &'a [u8],
@@ -220,7 +195,8 @@ pub fn part<'a>(
 ) -> &'a [u8]
     ensures { result.now ≡ part_shown regular.now corrections.now answer }
 {
-    let which = journal_shown(answer);
-    let place = place_shown(answer);
-    records::record_bytes(regular, corrections, which, REPORTS, place)
+    match answer {
+        Ok(s) => records::record_bytes(regular, corrections, s.journal, REPORTS, s.place),
+        Err(_) => records::record_bytes(regular, corrections, Journal::Regular, REPORTS, REPORTS),
+    }
 }

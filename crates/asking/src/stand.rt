@@ -48,6 +48,7 @@ pub(crate) fn standing_at<'a>(
 }
 
 // Where the line i stands over the first n files: a look.
+#[tactic(auto, using(crate::proofs::Showing::showable, crate::proofs::Standings::stood_unshowable, crate::proofs::Standings::stood_beyond, crate::proofs::Standings::stood_here))]
 pub fn look<'a>(
     table: &[u8],
     files: &'a [u8],

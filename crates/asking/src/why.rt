@@ -1,11 +1,11 @@
 // Why a number stands where it does: the two stored reports of its last confirmed pair.
 ghost use Rattle.std.specs.Prelude.{◌≡◌};
-ghost use Rattle.asking.specs.Why.{first_place, second_place, part_at};
+ghost use Rattle.asking.specs.Why.{place_of, first_place, second_place, part_at};
 ghost use Rattle.asking.specs.Looks.{why_looked};
 
 use crate::answer::NotShown;
 use crate::looks::NotSeen;
-use crate::pairs::{Pair, pair_in};
+use crate::pairs::{Pair, Stored, pair_in};
 use crate::{showable, stand};
 use fields::number::Number;
 use store::journals::records::{Journal, REPORTS};
@@ -13,6 +13,7 @@ use store::journals::{files, records};
 use store::numbers::find;
 
 // Why a number stands where it does: a look. It shows the pair that confirmed last, or that there is none.
+#[tactic(auto, using(crate::proofs::Showing::showable, crate::proofs::Showing::sound, crate::proofs::Showing::reports_first, crate::proofs::Lines::found_below, crate::proofs::Whys::why_unshowable, crate::proofs::Whys::why_unknown))]
 pub fn look<'a>(
     table: &[u8],
     files: &'a [u8],
@@ -33,26 +34,12 @@ pub fn look<'a>(
     Ok(pair_in(files, n, s.why))
 }
 
-// The place of the pair's first report; where no pair is shown, one beyond all reports.
-fn first_place(answer: Result<Option<Pair>, NotShown>) -> usize
-    ensures { result ≡ first_place answer }
+// The bytes of a report that is shown, a part of the regular journal; empty where none is.
+fn part<'a>(regular: &'a [u8], corrections: &'a [u8], report: Option<Stored>) -> &'a [u8]
+    ensures { result.now ≡ part_at regular.now (place_of report) }
 {
-    match answer {
-        Ok(Some(pair)) => pair.first.place,
-        Ok(None) => REPORTS,
-        Err(_) => REPORTS,
-    }
-}
-
-// The place of its second report.
-fn second_place(answer: Result<Option<Pair>, NotShown>) -> usize
-    ensures { result ≡ second_place answer }
-{
-    match answer {
-        Ok(Some(pair)) => pair.second.place,
-        Ok(None) => REPORTS,
-        Err(_) => REPORTS,
-    }
+    let place = report.map_or(REPORTS, |s| s.place);
+    records::record_bytes(regular, corrections, Journal::Regular, REPORTS, place)
 }
 
 // The bytes of the pair's first report, a part of the regular journal; empty where no pair is shown.
@@ -63,8 +50,8 @@ pub fn first_part<'a>(
 ) -> &'a [u8]
     ensures { result.now ≡ part_at regular.now (first_place answer) }
 {
-    let first = first_place(answer);
-    records::record_bytes(regular, corrections, Journal::Regular, REPORTS, first)
+    let pair = answer.ok().flatten();
+    part(regular, corrections, pair.map(|p| p.first))
 }
 
 // The bytes of its second report.
@@ -75,6 +62,6 @@ pub fn second_part<'a>(
 ) -> &'a [u8]
     ensures { result.now ≡ part_at regular.now (second_place answer) }
 {
-    let second = second_place(answer);
-    records::record_bytes(regular, corrections, Journal::Regular, REPORTS, second)
+    let pair = answer.ok().flatten();
+    part(regular, corrections, pair.map(|p| p.second))
 }

@@ -23,7 +23,7 @@ use Rattle.store.specs.Reads.{Buffers, Held, table_line, held, is_readable, read
 use Rattle.store.proofs.Checks.{reads-some, reads_none}
 use Rattle.store.proofs.entry_slots.Back.{length-entry}
 use Rattle.filing.proofs.fitting.Worked.{worked-fits}
-use Rattle.asking.proofs.Standings.{among-files}
+use Rattle.asking.proofs.Standings.{among_files}
 use Rattle.asking.specs.answering.Figure.{differs}
 use Rattle.asking.proofs.answering.Figures.{zip-table}
 use Rattle.std.specs.Prelude.{Ok, Err}
@@ -67,7 +67,7 @@ module _ (b : Buffers) (n : ℕ) (list : List ℕ) where
     rework-done h k m count after listed ek em done =
         let e : with_room list b ≡ Some (held b) = with-room ∙ reads-some b h in
         let fs = read_files b.files b.regular b.corrections in
-        let files : take k fs ≡ take n fs = among-files b.files b.regular b.corrections n k ek in
+        let files : take k fs ≡ take n fs = among_files b.files b.regular b.corrections n k ek in
         let lines : table m (line_of b.table) ≡ map table_line (lines_of b.table) = ap (λ (j : ℕ). table j (line_of b.table)) em ∙ sym (map-table table_line (line_count b.table) (line_at b.table)) in
         let listed-lines : changes_to (take k fs) b.table b.entries m ≡ changed_lines (take n fs) (map table_line (lines_of b.table)) (table (line_count b.table) (entry_at b.entries)) =
         changes-listed (take k fs) b.table b.entries m

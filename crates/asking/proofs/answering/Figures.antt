@@ -60,13 +60,13 @@ module _ (files : List Filed) (t e : List ℕ) where
   abbrev here : ℕ → Bool
   here i = differs files (table_line (line_at t i)) (entry_at e i)
 
-  pub differing-none : 0 ≡ differing files t e 0
+  pub differing_none : 0 ≡ differing files t e 0
   unfolding differing table keep
-  differing-none = refl
+  differing_none = refl
 
-  pub differing-more : (i count m : ℕ) (d : Bool) → d ≡ here i → m ≡ cond d 1 0 → count ≡ differing files t e i → count + m ≡ differing files t e (i + 1)
+  pub differing_more : (i count m : ℕ) (d : Bool) → d ≡ here i → m ≡ cond d 1 0 → count ≡ differing files t e i → count + m ≡ differing files t e (i + 1)
   unfolding differing
-  differing-more i count m d ed em ec =
+  differing_more i count m d ed em ec =
       (λ j. ec j + (em ∙ ap (λ (u : Bool). cond u 1 0) ed) j)
       ∙ sym (ap how_many (table_more i here) ∙ length-keep-end (λ (u : Bool). u) (table i here) (here i))
 
@@ -79,13 +79,13 @@ module _ (files : List Filed) (t e : List ℕ) where
 
 -- ---- the answers
 module _ (t f r c e : List ℕ) where
-  pub figure-unread : is_readable (lent t f r c e) ≡ false → Err (record {}) ≡ figure_asked (reads (lent t f r c e))
-  figure-unread h = ap figure_asked (sym (reads_none (lent t f r c e) h))
+  pub figure_unread : is_readable (lent t f r c e) ≡ false → Err (record {}) ≡ figure_asked (reads (lent t f r c e))
+  figure_unread h = ap figure_asked (sym (reads_none (lent t f r c e) h))
 
-  pub figure-answer : is_readable (lent t f r c e) ≡ true → (n m count : ℕ) → n ≡ file_count f → m ≡ line_count t → count ≡ differing (take n (read_files f r c)) t e m
+  pub figure_answer : is_readable (lent t f r c e) ≡ true → (n m count : ℕ) → n ≡ file_count f → m ≡ line_count t → count ≡ differing (take n (read_files f r c)) t e m
       → Ok count ≡ figure_asked (reads (lent t f r c e))
   unfolding held
-  figure-answer h n m count en em ec =
+  figure_answer h n m count en em ec =
       ap Ok
       (ec ∙ ap (λ (k : ℕ). differing (take n (read_files f r c)) t e k) em
       ∙ ap (λ (fs : List Filed). differing fs t e (line_count t)) (take_all n (read_files f r c) (omega (arith, length-first (file_count f) f r c)))

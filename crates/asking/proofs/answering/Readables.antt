@@ -3,7 +3,9 @@ use Rattle.std.specs.Prelude.{Option, Some, Result, Ok, Err}
 use mathlib.Core.Path.{◌≡◌, refl, sym, ap, ◌∙◌}
 use mathlib.Core.Bool.{Bool, true, cond}
 use mathlib.Core.List.{List}
-use Prim.Native.Nat.{ℕ, ◌≤◌}
+use Prim.Native.Nat.{ℕ, ◌+◌, ◌*◌, ◌≤◌}
+use native.Mathlib.Omega.{arith}
+use lib.ListN.{length}
 use borrow.Author.Tests.{le-leb}
 use Rattle.laws.specs.Lists.{table}
 use Rattle.fields.specs.declared.number.Number.{Number}
@@ -50,8 +52,8 @@ module _ (t f r c e : List ℕ) where
     few : line_count t ≤ 1024
     few = few-lines t (whole-table b whole)
 
-    pub readable-showable : Showable t f r c
-    readable-showable = record {
+    pub readable_showable : Showable t f r c
+    readable_showable = record {
       long-table = room.long-table;
       long-files = room.long-files;
       long-regular = room.long-regular;
@@ -66,36 +68,40 @@ module _ (t f r c e : List ℕ) where
     }
 
     pub showing : is_showable t f r c ≡ true
-    showing = showable-true t f r c readable-showable
+    showing = showable-true t f r c readable_showable
 
-    pub entries-too : has_entries t e ≡ true
+    pub entries_too : has_entries t e ≡ true
     unfolding has_entries
-    entries-too = rw (le-leb 14338 _ room.long-table, le-leb 102400 _ room.long-entries, le-leb (line_count t) 1024 few)
+    entries_too = rw (le-leb 14338 _ room.long-table, le-leb 102400 _ room.long-entries, le-leb (line_count t) 1024 few)
+
+    -- there is room for all lines and their entries
+    pub lines_room : (m : ℕ) → m ≡ line_count t → (2 + m * 14 ≤ length t) × (m * 100 ≤ length e) × (m ≤ 1024)
+    lines_room m q = (omega (arith, room.long-table, few, q), omega (arith, room.long-entries, few, q), omega (arith, few, q))
 
     read : reads b ≡ Some (held b)
     read = reads-some b whole
 
     -- ---- the answers of a store that reads: what a look shows of it
-    pub entry-asked : (x : Number) → answer_of (entry_looked t e x) ≡ entry_asked (reads b) (Some x)
+    pub entry_answers : (x : Number) → answer_of (entry_looked t e x) ≡ entry_asked (reads b) (Some x)
     unfolding held entry_looked
-    entry-asked x =
-        ap (λ (u : Bool). answer_of (cond u (look_of (entry_in (lines_in t) (table (line_count t) (entry_at e)) x)) (Err NotSeen.Unshowable))) entries-too
+    entry_answers x =
+        ap (λ (u : Bool). answer_of (cond u (look_of (entry_in (lines_in t) (table (line_count t) (entry_at e)) x)) (Err NotSeen.Unshowable))) entries_too
         ∙ answer_back (entry_in (lines_in t) (table (line_count t) (entry_at e)) x) ∙ ap (λ (h : Option Held). entry_asked h (Some x)) (sym read)
 
-    pub before-asked : (n : ℕ) (x : Number) → answer_of (before_looked t f r c n x) ≡ before_asked (reads b) n (Some x)
+    pub before_answers : (n : ℕ) (x : Number) → answer_of (before_looked t f r c n x) ≡ before_asked (reads b) n (Some x)
     unfolding held before_looked
-    before-asked n x =
+    before_answers n x =
         ap (λ (u : Bool). answer_of (cond u (look_of (entry_before (lines_in t) (read_files f r c) n x)) (Err NotSeen.Unshowable))) showing
         ∙ answer_back (entry_before (lines_in t) (read_files f r c) n x) ∙ ap (λ (h : Option Held). before_asked h n (Some x)) (sym read)
 
-    pub why-asked : (x : Number) → answer_of (why_looked t f r c x) ≡ why_asked (reads b) (Some x)
+    pub why_answers : (x : Number) → answer_of (why_looked t f r c x) ≡ why_asked (reads b) (Some x)
     unfolding held why_looked
-    why-asked x =
+    why_answers x =
         ap (λ (u : Bool). answer_of (cond u (look_of (why_in (lines_in t) (read_files f r c) x)) (Err NotSeen.Unshowable))) showing
         ∙ answer_back (why_in (lines_in t) (read_files f r c) x) ∙ ap (λ (h : Option Held). why_asked h (Some x)) (sym read)
 
-    pub record-asked : (which : Journal) (place : ℕ) → record_answer (record_looked t f r c which place) ≡ record_asked (reads b) which place
+    pub record_answers : (which : Journal) (place : ℕ) → record_answer (record_looked t f r c which place) ≡ record_asked (reads b) which place
     unfolding held record_looked
-    record-asked which place =
+    record_answers which place =
         ap (λ (u : Bool). record_answer (cond u (record_look (asked_in (lines_in t) (read_files f r c) which place)) (Err RecordNotSeen.Unshowable))) showing
         ∙ record-back (asked_in (lines_in t) (read_files f r c) which place) ∙ ap (λ (h : Option Held). record_asked h which place) (sym read)

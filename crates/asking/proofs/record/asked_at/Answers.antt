@@ -4,12 +4,12 @@ use native.Mathlib.Omega.{arith}
 use lib.ListN.{take}
 use Rattle.store.specs.journals.Reads.{read_files}
 use Rattle.asking.proofs.Lines.{found_below}
-use Rattle.asking.proofs.Records.{asked-unknown, asked_here}
+use Rattle.asking.proofs.Records.{asked_unknown, asked_here}
 use Rattle.asking.proofs.record.asked_at.Goals as goal
 use Rattle.asking.proofs.record.asked_at.Goals.{in-Some, in-None}
 
-pub verdict_at-v-requires-clause-i_in_bounds : goal.verdict_at-v-requires-clause-i_in_bounds
-verdict_at-v-requires-clause-i_in_bounds c =
+pub verdict_at-verdict-requires-clause-i_in_bounds : goal.verdict_at-verdict-requires-clause-i_in_bounds
+verdict_at-verdict-requires-clause-i_in_bounds c =
     let a = c.args in
     omega (arith, c.requires.table_in_bounds, found_below a.table.now c.said_at-s.result.number c.requires.table_in_bounds c.in-Some.i (sym c.in-Some.is ∙ c.find_line.ensures))
 
@@ -19,8 +19,7 @@ returns c =
     let said = c.said_at-s in
     let files = take a.n (read_files a.files.now a.regular.now a.corrections.now) in
     let m = c.match-find_line in
-    c.with_verdict.ensures
-    ∙ elim m.branch [
-      | in-Some w ↦ asked_here a.table.now a.files.now a.regular.now a.corrections.now files a.k a.at c.requires.table_in_bounds said.result said.ensures w.in-Some.i (sym w.in-Some.is ∙ c.find_line.ensures) m.v (rw w.v-is w.verdict_at-v.ensures)
-      | in-None w ↦ rw w.v-is (asked-unknown a.table.now a.files.now a.regular.now a.corrections.now files a.k a.at c.requires.table_in_bounds said.result said.ensures (sym w.in-None.is ∙ c.find_line.ensures))
+    elim m.branch [
+      | in-Some w ↦ asked_here a.table.now a.files.now a.regular.now a.corrections.now files a.k a.at c.requires.table_in_bounds said.result said.ensures w.in-Some.i (sym w.in-Some.is ∙ c.find_line.ensures) m.verdict (rw w.verdict-is w.verdict_at-verdict.ensures)
+      | in-None w ↦ rw w.verdict-is (asked_unknown a.table.now a.files.now a.regular.now a.corrections.now files a.k a.at c.requires.table_in_bounds said.result said.ensures (sym w.in-None.is ∙ c.find_line.ensures))
     ]
