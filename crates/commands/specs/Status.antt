@@ -1,10 +1,11 @@
 -- The status of a command: 0 all was done, 1 something was refused, 2 the command line, a file or the system is at fault.
 -- Assumes nothing: these are definitions.
+use Rattle.std.specs.Prelude.{Err, Ok, Result}
 use Rattle.std.specs.Prelude.{◌≡◌, true, ◌⊎◌, List, ℕ}
 use Rattle.files.specs.declared.judge.Judged.{Judged}
 use Rattle.store.specs.Reads.{Buffers, is_readable}
-use Rattle.starting.specs.declared.start.Started.{Started}
-use Rattle.starting.specs.declared.start.Started.TheVariants.{Done, Short, BadTable}
+use Rattle.starting.specs.declared.start.NotStarted.{NotStarted}
+use Rattle.starting.specs.declared.start.NotStarted.TheVariants.{Short, BadTable}
 use Rattle.starting.specs.Start.{start_answer, start_buffers}
 
 -- as it should be, or 2 where the answer can't be written or kept
@@ -21,10 +22,10 @@ read_status (Judged.Records n) = 0
 read_status (Judged.Fault place cause) = 1
 
 -- of starting, by what it answers
-abbrev pub start_status : Started → ℕ
-start_status (Done n) = 0
-start_status Short = 1
-start_status BadTable = 1
+abbrev pub start_status : Result ℕ NotStarted → ℕ
+start_status (Ok n) = 0
+start_status (Err Short) = 1
+start_status (Err BadTable) = 1
 
 pub record StartsBy (text : List ℕ) (before : Buffers) (status : ℕ) (after : Buffers) : Type 0 where
   pub ends : Ends (start_status (start_answer text before)) status

@@ -8,7 +8,7 @@ use desk::place::PATH_MAX;
 use desk::{Host, args, page, place, within};
 use disk::{CORRECTIONS, ENTRIES, FILES, REGULAR, TABLE, lock, saved};
 use page::ROOM;
-use starting::start::Started;
+use starting::start::NotStarted;
 use std::io::ErrorKind;
 
 fn there_already(rt: &impl Host, folder: &[u8]) -> u8
@@ -97,9 +97,9 @@ fn start_on(
     ensures { StartsBy text.now (lent table.old files.old regular.old corrections.old entries.old) result (lent table.new files.new regular.new corrections.new entries.new) }
 {
     match starting::start::start(text, table, files, regular, corrections, entries) {
-        Started::Short => refused(rt, path, 44),
-        Started::BadTable => refused(rt, path, 6),
-        Started::Done(n) => {
+        Err(NotStarted::Short) => refused(rt, path, 44),
+        Err(NotStarted::BadTable) => refused(rt, path, 6),
+        Ok(n) => {
             let status = save_new(rt, folder, table, files, regular, corrections, entries);
             if status != 0 {
                 return status;

@@ -2,6 +2,7 @@
 -- that is one equation between the answer, a part lent back or a lent buffer and a definition is settled by `equation-settles`, several of
 -- them by `pair_settles` and so on; those that are a record of a crate's own stand below, each by name. tests/outcomes.sh goes through all public
 -- functions and holds each to one of these. Assumes nothing.
+use Rattle.std.specs.Prelude.{Result}
 use mathlib.Core.Path.{◌≡◌, sym, ap, ◌∙◌}
 use mathlib.Core.List.{List}
 use Prim.Native.Nat.{ℕ, ◌+◌}
@@ -14,7 +15,7 @@ use Rattle.entries.specs.declared.entry.Line.{Line}
 use Rattle.records.specs.declared.names.written.Written.{Written}
 use Rattle.records.specs.names.Written.{Wrote}
 use Rattle.store.specs.Reads.{Buffers}
-use Rattle.starting.specs.declared.start.Started.{Started}
+use Rattle.starting.specs.declared.start.NotStarted.{NotStarted}
 use Rattle.starting.specs.Start.{Starts}
 use Rattle.filing.specs.declared.entering.kind.Filable.{Filable}
 use Rattle.filing.specs.declared.checking.answer.Answer.{Answer}
@@ -62,7 +63,7 @@ pub filing-settles : (b : Buffers) (kind : Filable) (publisher : List ℕ) (day 
 filing-settles b kind publisher day text x y p q = pair_settles _ _ x y (p.answers, p.leaves) (q.answers, q.leaves)
 
 -- starting: the answer and the five buffers
-pub starting-settles : (text : List ℕ) (b : Buffers) → Settles (λ (o : Started × Buffers). Starts text b o.0 o.1)
+pub starting-settles : (text : List ℕ) (b : Buffers) → Settles (λ (o : Result ℕ NotStarted × Buffers). Starts text b o.0 o.1)
 starting-settles text b x y p q = pair_settles _ _ x y (p.answers, p.leaves) (q.answers, q.leaves)
 
 -- writing a file or its name: the answer and the buffer
