@@ -8,26 +8,26 @@ ghost use Rattle.capi.specs.Told.{in_numbers, Tells};
 
 use crate::told::Numbers;
 use crate::{kinds, told};
-use files::judge::Judged;
-use files::read::Found;
+use files::judge::Fault;
+use files::read::NoRecord;
 use files::{judge, read};
 
-fn tell(j: Judged) -> Numbers
+fn tell(j: Result<usize, Fault>) -> Numbers
     ensures { result ≡ in_numbers 0 (judged_told j) }
 {
     match j {
-        Judged::Records(n) => told::with(0, n),
-        Judged::Fault(at, cause) => told::fault(at, cause),
+        Ok(n) => told::with(0, n),
+        Err(fault) => told::fault(fault.at, fault.cause),
     }
 }
 
-fn tell_found(f: Found) -> Numbers
+fn tell_found(f: Result<(), NoRecord>) -> Numbers
     ensures { result ≡ in_numbers 0 (found_told f) }
 {
     match f {
-        Found::Record => told::alone(0),
-        Found::Fault(at, cause) => told::fault(at, cause),
-        Found::Beyond => told::alone(7),
+        Ok(()) => told::alone(0),
+        Err(NoRecord::Fault(fault)) => told::fault(fault.at, fault.cause),
+        Err(NoRecord::Beyond) => told::alone(7),
     }
 }
 

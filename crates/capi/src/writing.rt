@@ -9,15 +9,15 @@ ghost use Rattle.capi.specs.Writing.{Writes};
 use crate::told::Numbers;
 use crate::{kinds, told};
 use composing::write;
-use records::names::written::Written;
+use records::names::written::NotWritten;
 
-fn tell(w: Written) -> Numbers
+fn tell(w: Result<usize, NotWritten>) -> Numbers
     ensures { result ≡ in_numbers 0 (written_told w) }
 {
     match w {
-        Written::Length(n) => told::with(0, n),
-        Written::Fault(i) => told::with(4, i),
-        Written::Long => told::alone(41),
+        Ok(n) => told::with(0, n),
+        Err(NotWritten::Fault(i)) => told::with(4, i),
+        Err(NotWritten::Long) => told::alone(41),
     }
 }
 

@@ -1,8 +1,7 @@
 -- The status of a command: 0 all was done, 1 something was refused, 2 the command line, a file or the system is at fault.
 -- Assumes nothing: these are definitions.
-use Rattle.std.specs.Prelude.{Err, Ok, Result}
-use Rattle.std.specs.Prelude.{◌≡◌, true, ◌⊎◌, List, ℕ}
-use Rattle.files.specs.declared.judge.Judged.{Judged}
+use Rattle.std.specs.Prelude.{Err, Ok, Result, ◌≡◌, true, ◌⊎◌, List, ℕ}
+use Rattle.files.specs.declared.judge.Fault.{Fault}
 use Rattle.store.specs.Reads.{Buffers, is_readable}
 use Rattle.starting.specs.declared.start.NotStarted.{NotStarted}
 use Rattle.starting.specs.declared.start.NotStarted.TheVariants.{Short, BadTable}
@@ -17,9 +16,9 @@ abbrev pub Opens : ℕ → Buffers → Type 0
 Opens r b = r ≡ 0 → is_readable b ≡ true
 
 -- of a file that is read, by what it was judged to be
-abbrev pub read_status : Judged → ℕ
-read_status (Judged.Records n) = 0
-read_status (Judged.Fault place cause) = 1
+abbrev pub read_status : Result ℕ Fault → ℕ
+read_status (Ok n) = 0
+read_status (Err fault) = 1
 
 -- of starting, by what it answers
 abbrev pub start_status : Result ℕ NotStarted → ℕ

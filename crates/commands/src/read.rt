@@ -6,7 +6,6 @@ use crate::{LONGEST, end, fault, given};
 use desk::place::PATH_MAX;
 use desk::{Host, args, page, within};
 use faults::cause::{Cause, FaultPlace};
-use files::judge::Judged;
 use page::{Page, ROOM};
 use records::names::kind::FileKind;
 
@@ -63,11 +62,11 @@ fn read_bytes(rt: &impl Host, path: &[u8], kind: FileKind, file: &[u8]) -> u8
     ensures { Ends (read_status (judged_file kind file.now)) result }
 {
     match files::judge::judge(kind, file) {
-        Judged::Fault(at, cause) => {
-            words::fault::refused(rt, path, kind, file, at, cause);
-            refused(rt, at, cause)
+        Err(fault) => {
+            words::fault::refused(rt, path, kind, file, fault.at, fault.cause);
+            refused(rt, fault.at, fault.cause)
         }
-        Judged::Records(n) => records(rt, file, n),
+        Ok(n) => records(rt, file, n),
     }
 }
 

@@ -1,19 +1,20 @@
 -- Words in groups, measured one after the other. Assumes nothing.
-use Prim.Native.Nat.{ℕ, zero, suc, ◌+◌, ◌*◌, ◌≤◌, ◌<◌}
-use native.Mathlib.Nat.{min-le_right}
+use Prim.Native.Nat.{min, ℕ, zero, suc, ◌+◌, ◌*◌, ◌≤◌, ◌<◌}
 use native.Mathlib.Omega.{arith}
 use mathlib.Core.Path.{◌≡◌, refl, ap, ◌∙◌}
 use mathlib.Core.Bool.{true, false}
-use mathlib.Core.List.{List, [], ◌∷◌}
-use lib.ListN.{length, take, drop, length-drop, length-take}
-use lib.Seq.{drop-drop}
+use mathlib.Core.List.{List, [], ◌∷◌, ◌++◌, append-nil}
+use lib.ListN.{length, take, drop, length-drop, length-append, drop_of_length-le}
+use lib.Seq.{take_all}
+use Rattle.std.proofs.lemmas.List.{take_at, drop_at}
 use Rattle.records.specs.declared.names.kind.FileKind.{FileKind}
 use Rattle.records.specs.declared.names.kind.FileKind.TheVariants.{Default, Correction, Request, Response}
 use Rattle.records.specs.Record.{width_of, fits, text_of}
-use Rattle.records.proofs.RecordLaws.{fits_width, fits-short}
-use Rattle.composing.specs.declared.measure.Measured.TheVariants.{Length, Fault}
+use Rattle.records.proofs.RecordLaws.{fits-short}
 use Rattle.files.specs.Writing.{groups_to, groups, values_in}
-use Rattle.composing.specs.Measuring.{measured_from}
+use Rattle.std.specs.Prelude.{Err}
+use Rattle.records.specs.declared.names.written.NotWritten.{NotWritten}
+use Rattle.composing.specs.Measuring.{measured, measured_from}
 
 pub width_some : (k : FileKind) → 1 ≤ width_of k
 width_some Default = omega arith
@@ -45,42 +46,49 @@ groups-some w [] o h = absurd (omega arith)
 groups-some w (x ∷ ws) o h =
     ap (λ (gs : List (List ℕ)). take w (x ∷ ws) ∷ gs) (groups-room (length ws) (length (drop w (x ∷ ws))) w (drop w (x ∷ ws)) o (omega (arith, length-drop w (x ∷ ws))) (omega arith))
 
--- the groups of what is left
-pub groups-more : (w : ℕ) (ws : List ℕ) (at : ℕ) → 1 ≤ w → at < length ws → groups w (drop at ws) ≡ take w (drop at ws) ∷ groups w (drop (at + w) ws)
-groups-more w ws at o h = groups-some w (drop at ws) o (omega (arith, length-drop at ws)) ∙ ap (λ (l : List ℕ). take w (drop at ws) ∷ groups w l) (drop-drop w at ws)
+-- ---- a piece of at most w words that comes off the front is the first group
+chunk-front : (w : ℕ) (g r : List ℕ) → length g ≡ min w (length (g ++ r)) → (take w (g ++ r) ≡ g) × (drop w (g ++ r) ≡ r)
+chunk-front w g [] e =
+    let l : length (g ++ []) ≤ w = omega (arith, e, length-append g []) in
+    (take_all w (g ++ []) l ∙ append-nil g, drop_of_length-le (g ++ []) l)
+chunk-front w g (x ∷ r) e =
+    let l : length g ≡ w = omega (arith, e, length-append g (x ∷ r)) in
+    (take_at g (x ∷ r) w l, drop_at g (x ∷ r) w l)
 
-pub groups-end : (w : ℕ) (ws : List ℕ) (at : ℕ) → length ws ≤ at → groups w (drop at ws) ≡ []
-groups-end w ws at h = groups_none w (drop at ws) (omega (arith, length-drop at ws))
+pub record Cut (kind : FileKind) (left g right : List ℕ) : Type 0 where
+  pub cut : left ≡ g ++ right
+  pub size : length g ≡ min (width_of kind) (length left)
+  pub some : 0 < length left
 
-pub record Whole (room at w n : ℕ) : Type 0 where
-  pub some : 1 ≤ w
-  pub inside : at + w ≤ room
-  pub short : n + 1 ≤ 8 * w
+pub cut_of : {kind : FileKind} {w : ℕ} {left g right : List ℕ} → w ≡ width_of kind → left ≡ g ++ right → length g ≡ min w (length left) → 0 < length left → Cut kind left g right
+cut_of {left = left} e cut size some = record { cut = cut; size = size ∙ ap (λ (n : ℕ). min n (length left)) e; some = some }
 
--- ---- a turn of a loop through the groups: w words from `at` on are g
-module _ (kind : FileKind) (ws : List ℕ) (at w : ℕ) (g : List ℕ) (ew : w ≡ width_of kind) (eg : g ≡ take w (drop at ws)) where
-  -- a group that makes a record is whole, and its line is no longer than its words
-  pub group-whole : (n : ℕ) → at ≤ length ws → fits kind g ≡ true → n ≡ length (text_of kind g) → Whole (length ws) at w n
-  group-whole n h e en =
-      record {
-        some = rw ew (width_some kind);
-        inside = omega (arith, fits_width kind g e, ap length eg, length-take w (drop at ws), length-drop at ws, min-le_right w (length (drop at ws)));
-        short = omega (arith, fits-short kind g e, fits_width kind g e);
-      }
+module _ {kind : FileKind} {left g right : List ℕ} (c : Cut kind left g right) where
+  pub chunk-more : values_in kind left ≡ g ∷ values_in kind right
+  chunk-more =
+      let p = chunk-front (width_of kind) g right (c.size ∙ ap (λ (l : List ℕ). min (width_of kind) (length l)) c.cut) in
+      groups-some (width_of kind) left (width_some kind) c.some
+      ∙ rw (c.cut, p.0, p.1)
 
-  pub group-more : at < length ws → values_in kind (drop at ws) ≡ g ∷ values_in kind (drop (at + w) ws)
-  group-more h = rw (eg, ew) (groups-more (width_of kind) ws at (width_some kind) h)
+  pub chunk-some : 1 ≤ length g
+  chunk-some = omega (arith, c.size, c.some, width_some kind)
+
+  pub chunk-length : length left ≡ length g + length right
+  chunk-length = ap length c.cut ∙ length-append g right
+
+  -- a group that makes a record has a line that is no longer than its words
+  pub chunk-short : (n : ℕ) → fits kind g ≡ true → n ≡ length (text_of kind g) → n + 1 ≤ 8 * length g
+  chunk-short n e en = omega (arith, fits-short kind g e)
 
   module _ (k total : ℕ) where
-    pub measure-on : (n : ℕ) → at < length ws → fits kind g ≡ true → n ≡ length (text_of kind g)
-        → measured_from kind k total (values_in kind (drop at ws)) ≡ measured_from kind (k + 1) (total + (n + 1)) (values_in kind (drop (at + w) ws))
+    pub measure-on : (n : ℕ) → fits kind g ≡ true → n ≡ length (text_of kind g) → measured_from kind k total (values_in kind left) ≡ measured_from kind (k + 1) (total + (n + 1)) (values_in kind right)
     unfolding measured_from
-    measure-on n h e en = rw (group-more h, e, en)
+    measure-on n e en = rw (chunk-more, e, en)
 
-    pub measure-stop : at < length ws → fits kind g ≡ false → measured_from kind k total (values_in kind (drop at ws)) ≡ Fault k
+    pub measure-stop : fits kind g ≡ false → measured_from kind k total (values_in kind left) ≡ Err (NotWritten.Fault k)
     unfolding measured_from
-    measure-stop h e = rw (group-more h, e)
+    measure-stop e = rw (chunk-more, e)
 
-pub measure-done : (kind : FileKind) (ws : List ℕ) (at k total : ℕ) → length ws ≤ at → measured_from kind k total (values_in kind (drop at ws)) ≡ Length k total
+pub measure-done : (kind : FileKind) (left : List ℕ) (k total : ℕ) → length left ≡ 0 → measured_from kind k total (values_in kind left) ≡ measured k total
 unfolding measured_from
-measure-done kind ws at k total h = rw (groups-end (width_of kind) ws at h)
+measure-done kind left k total h = rw (groups_none (width_of kind) left (omega arith))

@@ -5,12 +5,16 @@ use Rattle.records.specs.closing.Closing.{closing_text}
 use Rattle.records.specs.declared.names.kind.FileKind.{FileKind}
 use Rattle.records.specs.Record.{fits, text_of}
 use Rattle.composing.specs.declared.measure.Measured.{Measured}
-use Rattle.composing.specs.declared.measure.Measured.TheVariants.{Length, Fault}
+use Rattle.std.specs.Prelude.{Result, Ok, Err}
+use Rattle.records.specs.declared.names.written.NotWritten.{NotWritten}
+
+abbrev pub measured : ℕ → ℕ → Result Measured NotWritten
+measured n bytes = Ok (record { count = n; bytes = bytes })
 
 -- behind k records whose lines have `total` bytes
-unfoldable pub measured_from : FileKind → ℕ → ℕ → List (List ℕ) → Measured
-measured_from kind k total [] = Length k total
-measured_from kind k total (v ∷ vs) = cond (fits kind v) (measured_from kind (k + 1) (total + (length (text_of kind v) + 1)) vs) (Fault k)
+unfoldable pub measured_from : FileKind → ℕ → ℕ → List (List ℕ) → Result Measured NotWritten
+measured_from kind k total [] = measured k total
+measured_from kind k total (v ∷ vs) = cond (fits kind v) (measured_from kind (k + 1) (total + (length (text_of kind v) + 1)) vs) (Err (NotWritten.Fault k))
 
 -- each record with its CR, and behind them the closing record with its
 unfoldable pub record_lines : FileKind → List (List ℕ) → List ℕ

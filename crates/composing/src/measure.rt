@@ -1,44 +1,31 @@
 // Records given as plain words: one group of words after the other, judged and measured before anything is written.
-ghost use Rattle.std.specs.Prelude.{◌≡◌, ◌≤◌, length, take, drop};
+ghost use Rattle.std.specs.Prelude.{◌≡◌};
 ghost use Rattle.files.specs.Writing.{values_in};
 ghost use Rattle.composing.specs.Measuring.{measured_from};
 
 use records::names::kind::FileKind;
+use records::names::written::NotWritten;
 
-// How many records there are and how many bytes their lines have, or the place of the first that its layout can't hold.
-#[derive(Drop)]
-pub enum Measured {
-    Length(usize, usize),
-    Fault(usize),
+// How many records there are, and how many bytes their lines have.
+#[derive(Clone, Copy)]
+pub struct Measured {
+    pub count: usize,
+    pub bytes: usize,
 }
 
-// The `w` words from `at` on, or what is left.
-pub(crate) fn group<'a>(words: &'a [u64], at: usize, w: usize) -> &'a [u64]
-    requires { at ≤ length words.now }
-    ensures { result.now ≡ take w (drop at words.now) }
-{
-    if words.len() - at < w {
-        return &words[at..];
-    }
-    let end = at + w;
-    &words[at..end]
-}
-
-pub(crate) fn measure(kind: FileKind, words: &[u64]) -> Measured
+// The records measured, or the place of the first that its layout can't hold.
+pub(crate) fn measure(kind: FileKind, words: &[u64]) -> Result<Measured, NotWritten>
     ensures { result ≡ measured_from kind 0 0 (values_in kind words.now) }
 {
     let w = records::words::width(kind);
-    let mut at: usize = 0;
-    let mut k: usize = 0;
-    let mut total: usize = 0;
-    while at < words.len() {
-        let values = group(words, at, w);
+    let mut count: usize = 0;
+    let mut bytes: usize = 0;
+    for values in words.chunks(w) {
         if !records::words::fits(kind, values) {
-            return Measured::Fault(k);
+            return Err(NotWritten::Fault(count));
         }
-        total = total + (records::words::len(kind, values) + 1);
-        at = at + w;
-        k = k + 1;
+        bytes += records::words::len(kind, values) + 1;
+        count += 1;
     }
-    Measured::Length(k, total)
+    Ok(Measured { count, bytes })
 }

@@ -1,5 +1,7 @@
 -- A line is a correction exactly if no fault is found in it as one (`correction-exact`): a line that is read as one, and one without a fault, are
 -- both spelt as corrections are (`read-line`, `faultless-line`), and for lines so spelt the two tests agree (`line-agree`). Assumes nothing.
+use Rattle.std.specs.Prelude.{⊤}
+use Rattle.std.specs.Prelude.{Ok, Err, is_ok}
 use Rattle.std.specs.Prelude.{is_some}
 use Rattle.layout.specs.declared.correction.Correction.{Correction}
 use Rattle.std.specs.Prelude.{Option, Some, None}
@@ -31,11 +33,9 @@ use Rattle.layout.specs.Part.{part_text}
 use Rattle.layout.specs.Correction.{on_head, on_part, is_sound, sound_of, correction_of, correction_text}
 use Rattle.layout.proofs.CorrectionTrip.{correction-back}
 use Rattle.faults.specs.declared.cause.Cause.TheVariants.{Value}
-use Rattle.faults.specs.declared.cause.FieldCheck.{FieldCheck}
 use Rattle.faults.specs.Cut.{field_at, rest_at, code_width, code_in, mark_in, number_in}
-use Rattle.faults.specs.Field.{is_character, is_correction_code, correction_code_alone, objects, objects_by}
-use Rattle.faults.specs.Six.{is_right}
-use Rattle.faults.specs.Record.{is_faultless, commas, whole_for, number_for, u_fault, k_fault, correction_from, correction_fault}
+use Rattle.faults.specs.Field.{is_character, correction_code_alone, objects, objects_by}
+use Rattle.faults.specs.Record.{commas, whole_for, number_for, u_fault, k_fault, correction_from, correction_fault}
 use Rattle.faults.proofs.CutLaws.{fields-counted}
 use Rattle.faults.proofs.FieldExact.{needed, correction-code-right, correction-code-made, mark-right}
 use Rattle.faults.proofs.SixExact.{field-then, record-then, commas-then, is_filled, filled_or, six-exact, six-bytes, first-empty, whole-exact}
@@ -78,15 +78,15 @@ read-line s h = go (correction_of s) refl h
     go None q e = never e
 
 -- ---- what no fault asks
-correction-tests : (code mark first s : List ℕ) → is_faultless (correction_from code mark first s)
-    ≡ (is_right (correction_code_alone code) && (same_lists eqb mark (85 ∷ 58 ∷ []) && (is_faultless (u_fault code first s) && (same_lists eqb (take 2 (field_at s 6)) (75 ∷ 58 ∷ []) && (is_faultless (k_fault code first s) && leb 11 (commas s))))))
+correction-tests : (code mark first s : List ℕ) → is_ok (correction_from code mark first s)
+    ≡ (is_ok (correction_code_alone code) && (same_lists eqb mark (85 ∷ 58 ∷ []) && (is_ok (u_fault code first s) && (same_lists eqb (take 2 (field_at s 6)) (75 ∷ 58 ∷ []) && (is_ok (k_fault code first s) && leb 11 (commas s))))))
 unfolding correction_from is_character
 correction-tests code mark first s =
     simp (field-then, record-then, commas-then, mark-right mark 85 refl, mark-right (take 2 (field_at s 6)) 75 refl)
 
-code-needed : (f : List ℕ) → is_right (correction_code_alone f) ≡ is_correction_code (correction_code_of f)
+code-needed : (f : List ℕ) → is_ok (correction_code_alone f) ≡ is_some (correction_code_of f)
 unfolding correction_code_of
-code-needed f = correction-code-right f ∙ needed (λ g. is_correction_code (correction_code_of g)) refl f
+code-needed f = correction-code-right f ∙ needed (λ g. is_some (correction_code_of g)) refl f
 
 -- ---- a line without a fault
 -- a list as what stands before two bytes, these, and what stands behind them
@@ -94,19 +94,19 @@ two-between : (w : ℕ) (f two : List ℕ) → take 2 (drop w f) ≡ two → tak
 two-between w f two e =
     ap (λ (t : List ℕ). take w f ++ (t ++ drop 2 (drop w f))) (sym e) ∙ ap (λ (t : List ℕ). take w f ++ t) (take-append-drop 2 (drop w f)) ∙ take-append-drop w f
 
-faultless-line : (s : List ℕ) → is_faultless (correction_fault s) ≡ true → Line s
+faultless-line : (s : List ℕ) → is_ok (correction_fault s) ≡ true → Line s
 unfolding correction_fault u_fault k_fault rest_at table
 faultless-line s h =
     let h₁ = sym (correction-tests code mark first s) ∙ h in
-    let h₂ = and_right (is_right (correction_code_alone code)) _ h₁ in
+    let h₂ = and_right (is_ok (correction_code_alone code)) _ h₁ in
     let h₃ = and_right (same_lists eqb mark (85 ∷ 58 ∷ [])) _ h₂ in
-    let h₄ = and_right (is_faultless (u_fault code first s)) _ h₃ in
+    let h₄ = and_right (is_ok (u_fault code first s)) _ h₃ in
     let h₅ = and_right (same_lists eqb (take 2 (field_at s 6)) (75 ∷ 58 ∷ [])) _ h₄ in
-    let made = correction-code-made code (sym (code-needed code) ∙ and_left (is_right (correction_code_alone code)) _ h₁) in
-    let u-made = six-bytes 3 (whole_for code) (whole_for code) first (field_at s 1) (field_at s 2) (field_at s 3) (field_at s 4) (field_at s 5) (and_left (is_faultless (u_fault code first s)) _ h₃) in
-    let k_made = six-bytes 16 (number_for code first) FieldCheck.Right (drop 2 (field_at s 6)) (field_at s 7) (field_at s 8) (field_at s 9) (field_at s 10) (rest_at s 11) (and_left (is_faultless (k_fault code first s)) _ h₅) in
+    let made = correction-code-made code (sym (code-needed code) ∙ and_left (is_ok (correction_code_alone code)) _ h₁) in
+    let u-made = six-bytes 3 (whole_for code) (whole_for code) first (field_at s 1) (field_at s 2) (field_at s 3) (field_at s 4) (field_at s 5) (and_left (is_ok (u_fault code first s)) _ h₃) in
+    let k_made = six-bytes 16 (number_for code first) (Ok tt) (drop 2 (field_at s 6)) (field_at s 7) (field_at s 8) (field_at s 9) (field_at s 10) (rest_at s 11) (and_left (is_ok (k_fault code first s)) _ h₅) in
     let most = fields-counted s 11 (all-at (all field_byte) _ 5 [] k_made (omega arith)) in
-    let least = leb-true 11 (commas s) (and_right (is_faultless (k_fault code first s)) _ h₅) in
+    let least = leb-true 11 (commas s) (and_right (is_ok (k_fault code first s)) _ h₅) in
     record {
       code = code;
       u = u;
@@ -150,17 +150,17 @@ numbered x = not (eqb (length x.first) 0)
 part-empty : (x : Six) (p : Part) → part_in x ≡ Some p → is_empty p.number.first ≡ eqb (length x.first) 0
 part-empty x p e = first-empty x.first x.last x.date x.gaining x.losing x.status p e
 
-whole-right : (code : List ℕ) → is_right (whole_for code) ≡ not (objects code)
+whole-right : (code : List ℕ) → is_ok (whole_for code) ≡ not (objects code)
 unfolding whole_for
 whole-right code = go (objects code)
   where
-    go : (t : Bool) → is_right (cond t (FieldCheck.Wrong Value) FieldCheck.Right) ≡ not t
+    go : (t : Bool) → is_ok {T = ⊤} (cond t (Err Value) (Ok tt)) ≡ not t
     go true = refl
     go false = refl
 
-number-right : (code first : List ℕ) → is_right (number_for code first) ≡ (objects code || not (eqb (length first) 0))
+number-right : (code first : List ℕ) → is_ok (number_for code first) ≡ (objects code || not (eqb (length first) 0))
 unfolding number_for
-number-right code first = chosen is_right FieldCheck.Right (FieldCheck.Wrong Value) refl refl (objects code || not (eqb (length first) 0))
+number-right code first = chosen is_ok (Ok tt) (Err Value) refl refl (objects code || not (eqb (length first) 0))
 
 -- the rule of the code
 sound-exact : (c : CorrectionCode) (u k : Six) → is_some (on_part (part_in u) (λ p. on_part (part_in k) (λ q. sound_of c p q)))
@@ -181,30 +181,30 @@ sound-exact c u k = go (part_in u) (part_in k) refl refl
         ∙ rw (whole-exact p, part-empty u p e₁, part-empty k q e₂) (rule (is_objection c) (numbered u) (numbered k) (is_filled p))
 
 module _ {s : List ℕ} (l : Line s) where
-  fault-tests : is_faultless (correction_fault s)
-      ≡ (is_correction_code (correction_code_of l.code) && (((not (objects l.code) || numbered l.u) && filled_or (not (objects l.code)) (part_in l.u)) && (((objects l.code || numbered l.u) || numbered l.k) && filled_or true (part_in l.k))))
+  fault-tests : is_ok (correction_fault s)
+      ≡ (is_some (correction_code_of l.code) && (((not (objects l.code) || numbered l.u) && filled_or (not (objects l.code)) (part_in l.u)) && (((objects l.code || numbered l.u) || numbered l.k) && filled_or true (part_in l.k))))
   unfolding u_fault k_fault rest_at same_lists
   fault-tests =
-      ap is_faultless (line-fault l)
+      ap is_ok (line-fault l)
       ∙ correction-tests l.code (85 ∷ 58 ∷ []) l.u.first s
       ∙ rw (
         comma-pieces l,
         code-needed l.code,
         six-exact 3 (whole_for l.code) (whole_for l.code) l.u.first l.u.last l.u.date l.u.gaining l.u.losing l.u.status,
-        six-exact 16 (number_for l.code l.u.first) FieldCheck.Right l.k.first l.k.last l.k.date l.k.gaining l.k.losing l.k.status,
+        six-exact 16 (number_for l.code l.u.first) (Ok tt) l.k.first l.k.last l.k.date l.k.gaining l.k.losing l.k.status,
         whole-right l.code,
         number-right l.code l.u.first,
         and-true (((objects l.code || numbered l.u) || numbered l.k) && filled_or true (part_in l.k)),
       )
 
-  line-agree : is_some (correction_of s) ≡ is_faultless (correction_fault s)
+  line-agree : is_some (correction_of s) ≡ is_ok (correction_fault s)
   unfolding objects
   line-agree = ap is_some (line_read l) ∙ go (correction_code_of l.code) ∙ sym fault-tests
     where
       go : (r : Option CorrectionCode) → is_some (on_head r (λ c. on_part (part_in l.u) (λ p. on_part (part_in l.k) (λ q. sound_of c p q))))
-          ≡ (is_correction_code r && (((not (objects_by r) || numbered l.u) && filled_or (not (objects_by r)) (part_in l.u)) && (((objects_by r || numbered l.u) || numbered l.k) && filled_or true (part_in l.k))))
+          ≡ (is_some r && (((not (objects_by r) || numbered l.u) && filled_or (not (objects_by r)) (part_in l.u)) && (((objects_by r || numbered l.u) || numbered l.k) && filled_or true (part_in l.k))))
       go (Some c) = sound-exact c l.u l.k
       go None = refl
 
-pub correction-exact : (s : List ℕ) → is_some (correction_of s) ≡ is_faultless (correction_fault s)
-correction-exact s = agree-where (is_some (correction_of s)) (is_faultless (correction_fault s)) (read-line s) (faultless-line s) line-agree
+pub correction-exact : (s : List ℕ) → is_some (correction_of s) ≡ is_ok (correction_fault s)
+correction-exact s = agree-where (is_some (correction_of s)) (is_ok (correction_fault s)) (read-line s) (faultless-line s) line-agree

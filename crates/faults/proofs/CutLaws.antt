@@ -1,7 +1,7 @@
 -- A line cut at its commas, and the head of a correction. Assumes nothing.
 --     fields-counted     behind k commas nothing but the bytes of fields: at most k + 1 fields
 --     rest-here          behind no comma stands all
---     colon-first        a head that begins with its colon has no "U:"
+--     colon_first        a head that begins with its colon has no "U:"
 use Prim.Native.Nat.{ℕ, suc, ◌+◌, ◌≤◌}
 use native.Mathlib.Omega.{arith}
 use mathlib.Core.Path.{◌≡◌, refl, ap, ◌∙◌}
@@ -25,10 +25,10 @@ pub rest-here : (s : List ℕ) (k : ℕ) → k ≡ 0 → rest_at s k ≡ s
 unfolding rest_at
 rest-here s k e = ap (λ (n : ℕ). joined 44 (drop n (split 44 s))) e ∙ joined-split 44 s
 
-pub colon-first : (h : List ℕ) → end_of 58 h 0 ≡ 0 → eqb (get_or h 0 0) 85 ≡ false
+pub colon_first : (h : List ℕ) → end_of 58 h 0 ≡ 0 → eqb (get_or h 0 0) 85 ≡ false
 unfolding end_of is_sep
-colon-first [] e = refl
-colon-first (b ∷ h) e = go (eqb b 58) refl e
+colon_first [] e = refl
+colon_first (b ∷ h) e = go (eqb b 58) refl e
   where
     go : (t : Bool) → eqb b 58 ≡ t → 0 + cond t 0 (suc (first_at (is_sep 58) h)) ≡ 0 → eqb b 85 ≡ false
     go true q e = rw (eqb-true b 58 q)

@@ -1,4 +1,6 @@
 -- A line is a report exactly if no fault is found in it as one (`report-exact`). Assumes nothing.
+use Rattle.std.specs.Prelude.{Result, Err, is_ok, ⊤}
+use Rattle.faults.specs.declared.cause.Cause.{Cause}
 use Rattle.std.specs.Prelude.{is_some}
 use Rattle.std.specs.Prelude.{None}
 use Prim.Native.Nat.{ℕ, ◌<◌, ◌≤◌}
@@ -19,18 +21,17 @@ use Rattle.fields.specs.Bytes.{field_byte}
 use Rattle.layout.specs.Part.{six_of, part_of}
 use Rattle.layout.specs.Report.{report_from, report_of}
 use Rattle.faults.specs.declared.cause.Cause.TheVariants.{Length}
-use Rattle.faults.specs.declared.cause.FieldCheck.{FieldCheck}
 use Rattle.faults.specs.Cut.{field_at, rest_at}
-use Rattle.faults.specs.Record.{is_faultless, report_fault}
+use Rattle.faults.specs.Record.{report_fault}
 use Rattle.faults.proofs.CutLaws.{fields-counted}
 use Rattle.faults.proofs.SixExact.{six-exact, six-bytes, six-status, report-six}
 
-abbrev wrong : FieldCheck
-wrong = FieldCheck.Wrong Length
+abbrev wrong : Result ⊤ Cause
+wrong = Err Length
 
 module _ (s : List ℕ) where
   -- a line without a fault has six fields
-  six-without-fault : is_faultless (report_fault s) ≡ true → length (split 44 s) ≡ 6
+  six-without-fault : is_ok (report_fault s) ≡ true → length (split 44 s) ≡ 6
   unfolding report_fault rest_at
   six-without-fault h =
       let bytes = six-bytes 1 wrong wrong (field_at s 0) (field_at s 1) (field_at s 2) (field_at s 3) (field_at s 4) (rest_at s 5) h in
@@ -51,12 +52,12 @@ module _ (s : List ℕ) where
       go false q e = never e
 
   -- six fields
-  six-agree : length (split 44 s) ≡ 6 → is_some (report_of s) ≡ is_faultless (report_fault s)
+  six-agree : length (split 44 s) ≡ 6 → is_some (report_of s) ≡ is_ok (report_fault s)
   unfolding report_of part_of report_fault rest_at
   six-agree l =
       rw (eq-eqb (length (split 44 s)) 6 l, rest-piece 44 (split 44 s) 5 l)
       (report-six (field_at s 0) (field_at s 1) (field_at s 2) (field_at s 3) (field_at s 4) (field_at s 5)
       ∙ sym (six-exact 1 wrong wrong (field_at s 0) (field_at s 1) (field_at s 2) (field_at s 3) (field_at s 4) (field_at s 5)))
 
-  pub report-exact : is_some (report_of s) ≡ is_faultless (report_fault s)
-  report-exact = agree-where (is_some (report_of s)) (is_faultless (report_fault s)) six-read six-without-fault six-agree
+  pub report-exact : is_some (report_of s) ≡ is_ok (report_fault s)
+  report-exact = agree-where (is_some (report_of s)) (is_ok (report_fault s)) six-read six-without-fault six-agree

@@ -1,4 +1,5 @@
 -- A line is a request exactly if no fault is found in it as one (`request-exact`). Assumes nothing.
+use Rattle.std.specs.Prelude.{Err, is_ok}
 use Rattle.std.specs.Prelude.{is_some}
 use Rattle.calendar.specs.declared.dates.CalendarDays.{CalendarDays}
 use Rattle.fields.specs.declared.code.Code.{Code}
@@ -21,44 +22,42 @@ use Rattle.fields.specs.Date.{maybe_date_of}
 use Rattle.layout.specs.Part.{on_date}
 use Rattle.layout.specs.Request.{on_sender, three_of, request_of}
 use Rattle.faults.specs.declared.cause.Cause.TheVariants.{Length}
-use Rattle.faults.specs.declared.cause.FieldCheck.{FieldCheck}
 use Rattle.faults.specs.Cut.{field_at, rest_at}
-use Rattle.faults.specs.Field.{is_code, code_alone}
-use Rattle.faults.specs.Six.{is_right}
-use Rattle.faults.specs.Record.{is_faultless, commas, request_fault}
+use Rattle.faults.specs.Field.{code_alone}
+use Rattle.faults.specs.Record.{commas, request_fault}
 use Rattle.faults.proofs.CutLaws.{fields-counted}
 use Rattle.faults.proofs.FieldExact.{needed, code-right, date-right, nothing_right}
-use Rattle.faults.proofs.SixExact.{field-then, commas-then, date_right, date-reads}
+use Rattle.faults.proofs.SixExact.{field-then, commas-then, right_or, date-reads}
 
-three-exact : (a b c : List ℕ) → is_some (three_of a b c) ≡ (is_code (code_of a) && (date_right true (maybe_date_of b) && eqb (length c) 0))
+three-exact : (a b c : List ℕ) → is_some (three_of a b c) ≡ (is_some (code_of a) && (right_or true (maybe_date_of b) && eqb (length c) 0))
 unfolding three_of
 three-exact a b c = go (code_of a) (maybe_date_of b) (eqb (length c) 0)
   where
     go : (x : Option Code) (y : Option (Option CalendarDays)) (t : Bool)
-        → is_some (on_sender x λ code. on_date y None λ from. cond t (Some (record { code = code; from = from })) None) ≡ (is_code x && (date_right true y && t))
+        → is_some (on_sender x λ code. on_date y None λ from. cond t (Some (record { code = code; from = from })) None) ≡ (is_some x && (right_or true y && t))
     go (Some code) (Some from) t = chosen is_some (Some (record { code = code; from = from })) None refl refl t
     go (Some code) None t = refl
     go None y t = refl
 
 -- a code must stand there
-code-needed : (f : List ℕ) → is_right (code_alone (FieldCheck.Wrong Length) f) ≡ is_code (code_of f)
+code-needed : (f : List ℕ) → is_ok (code_alone (Err Length) f) ≡ is_some (code_of f)
 unfolding code_of
-code-needed f = code-right f (FieldCheck.Wrong Length) ∙ needed (λ g. is_code (code_of g)) refl f
+code-needed f = code-right f (Err Length) ∙ needed (λ g. is_some (code_of g)) refl f
 
 empty-bytes : (f : List ℕ) → eqb (length f) 0 ≡ true → all field_byte f ≡ true
 empty-bytes [] e = unfold all in refl
 empty-bytes (b ∷ f) e = absurd (omega (arith, eqb-true (length (b ∷ f)) 0 e))
 
 module _ (s : List ℕ) where
-  request-tests : is_faultless (request_fault s) ≡ (is_code (code_of (field_at s 0)) && (date_right true (maybe_date_of (field_at s 1)) && (eqb (length (rest_at s 2)) 0 && leb 2 (commas s))))
+  request-tests : is_ok (request_fault s) ≡ (is_some (code_of (field_at s 0)) && (right_or true (maybe_date_of (field_at s 1)) && (eqb (length (rest_at s 2)) 0 && leb 2 (commas s))))
   unfolding request_fault
   request-tests = simp (field-then, code-needed, date-right, date-reads, nothing_right, commas-then)
 
   -- a line without a fault has three fields
-  three-without-fault : is_faultless (request_fault s) ≡ true → length (split 44 s) ≡ 3
+  three-without-fault : is_ok (request_fault s) ≡ true → length (split 44 s) ≡ 3
   three-without-fault h =
-      let h₁ = and_right (is_code (code_of (field_at s 0))) _ (sym request-tests ∙ h) in
-      let h₂ = and_right (date_right true (maybe_date_of (field_at s 1))) _ h₁ in
+      let h₁ = and_right (is_some (code_of (field_at s 0))) _ (sym request-tests ∙ h) in
+      let h₂ = and_right (right_or true (maybe_date_of (field_at s 1))) _ h₁ in
       let most = fields-counted s 2 (empty-bytes (rest_at s 2) (and_left (eqb (length (rest_at s 2)) 0) _ h₂)) in
       let least = leb-true 2 (commas s) (and_right (eqb (length (rest_at s 2)) 0) _ h₂) in
       omega arith
@@ -73,11 +72,11 @@ module _ (s : List ℕ) where
       go false q e = never e
 
   -- three fields
-  three-agree : length (split 44 s) ≡ 3 → is_some (request_of s) ≡ is_faultless (request_fault s)
+  three-agree : length (split 44 s) ≡ 3 → is_some (request_of s) ≡ is_ok (request_fault s)
   unfolding request_of rest_at
   three-agree l =
       rw (eq-eqb (length (split 44 s)) 3 l, request-tests, rest-piece 44 (split 44 s) 2 l, l, and-true (eqb (length (field_at s 2)) 0))
       (three-exact (field_at s 0) (field_at s 1) (field_at s 2))
 
-  pub request-exact : is_some (request_of s) ≡ is_faultless (request_fault s)
-  request-exact = agree-where (is_some (request_of s)) (is_faultless (request_fault s)) three-read three-without-fault three-agree
+  pub request-exact : is_some (request_of s) ≡ is_ok (request_fault s)
+  request-exact = agree-where (is_some (request_of s)) (is_ok (request_fault s)) three-read three-without-fault three-agree

@@ -5,6 +5,11 @@
 --     six-bytes, six-status       six fields without a fault are made of the bytes of fields; where none may be missing, the last is not empty
 --     first-empty                 the first number of a part is empty exactly if its field is
 --     whole-exact, report-six     a part is a report exactly if it has a number and is filled
+use Rattle.std.specs.Prelude.{Result, Ok, Err, is_ok, ⊤}
+use Rattle.std.specs.Result.{result_and}
+use Rattle.faults.specs.declared.cause.FieldFault.{FieldFault}
+use Rattle.faults.specs.Cause.{fault_in}
+use Rattle.faults.specs.declared.cause.Cause.{Cause}
 use Rattle.std.specs.Prelude.{is_some}
 use Rattle.fields.specs.declared.number.Number.{Number}
 use Rattle.calendar.specs.declared.dates.CalendarDays.{CalendarDays}
@@ -36,65 +41,43 @@ use Rattle.layout.specs.declared.part.Part.{Part}
 use Rattle.layout.specs.Part.{on_digits, on_number, on_date, on_code, on_kind, six_of}
 use Rattle.layout.specs.Report.{on_some_date, on_some_code, on_some_kind, whole_of, report_from, is_named as part_named}
 use Rattle.faults.specs.declared.cause.Cause.TheVariants.{Length}
-use Rattle.faults.specs.declared.cause.FieldCheck.{FieldCheck}
-use Rattle.faults.specs.declared.cause.RecordCheck.{RecordCheck}
-use Rattle.faults.specs.Field.{is_digits, is_date, is_code, is_kind, is_number, digits_alone, date_alone, code_alone, kind_alone, allowed, is_range, range_from, is_named, is_return, return_read}
-use Rattle.faults.specs.Six.{on_field, on_record, is_right, is_named_or, six_fault}
-use Rattle.faults.specs.Record.{is_faultless, commas, on_commas}
+use Rattle.faults.specs.Field.{digits_alone, date_alone, code_alone, kind_alone, allowed, is_range, range_from, is_named, is_return, return_read}
+use Rattle.faults.specs.Six.{on_field, is_named_or, six_fault}
+use Rattle.faults.specs.Record.{commas, on_commas}
 use Rattle.faults.proofs.FieldExact.{digits-right, digits-bytes, date-right, date-bytes, code-right, code-bytes, kind-right, kind-bytes}
 
 -- ---- one after the other
-pub field-then : (pos : ℕ) (c : FieldCheck) (r : RecordCheck) → is_faultless (on_field pos c r) ≡ (is_right c && is_faultless r)
-field-then pos FieldCheck.Right r = refl
-field-then pos (FieldCheck.Wrong cause) r = refl
+pub field-then : (pos : ℕ) (c : Result ⊤ Cause) (r : Result ⊤ FieldFault) → is_ok (on_field pos c r) ≡ (is_ok c && is_ok r)
+field-then pos (Ok tt) r = refl
+field-then pos (Err cause) r = refl
 
-pub record-then : (a b : RecordCheck) → is_faultless (on_record a b) ≡ (is_faultless a && is_faultless b)
-record-then RecordCheck.Right b = refl
-record-then (RecordCheck.Wrong pos cause) b = refl
+pub record-then : (a b : Result ⊤ FieldFault) → is_ok (result_and a b) ≡ (is_ok a && is_ok b)
+record-then (Ok tt) b = refl
+record-then (Err fault) b = refl
 
-pub allowed_then : (c : FieldCheck) (rule : Bool) → is_right (allowed c rule) ≡ (is_right c && rule)
-allowed_then FieldCheck.Right true = refl
-allowed_then FieldCheck.Right false = refl
-allowed_then (FieldCheck.Wrong cause) rule = refl
+pub allowed_then : (c : Result ⊤ Cause) (rule : Bool) → is_ok (allowed c rule) ≡ (is_ok c && rule)
+allowed_then (Ok tt) true = refl
+allowed_then (Ok tt) false = refl
+allowed_then (Err cause) rule = refl
 
-pub commas-then : (most pos : ℕ) (s : List ℕ) → is_faultless (on_commas most pos s) ≡ leb most (commas s)
+pub commas-then : (most pos : ℕ) (s : List ℕ) → is_ok (on_commas most pos s) ≡ leb most (commas s)
 unfolding on_commas
-commas-then most pos s = chosen is_faultless RecordCheck.Right (RecordCheck.Wrong (pos + 2 * commas s) Length) refl refl (leb most (commas s))
+commas-then most pos s = chosen is_ok (Ok tt) (fault_in (pos + 2 * commas s) Length) refl refl (leb most (commas s))
 
-allowed-right : (c : FieldCheck) (rule : Bool) → is_right (allowed c rule) ≡ true → is_right c ≡ true
-allowed-right c rule h = and_left (is_right c) rule (sym (allowed_then c rule) ∙ h)
+allowed-right : (c : Result ⊤ Cause) (rule : Bool) → is_ok (allowed c rule) ≡ true → is_ok c ≡ true
+allowed-right c rule h = and_left (is_ok c) rule (sym (allowed_then c rule) ∙ h)
 
 -- ---- what each field asks, by what it is read as. Where one may be missing, `may` is true
-abbrev has_date : Option CalendarDays → Bool
-has_date (Some d) = true
-has_date None = false
-
-abbrev has_code : Option Code → Bool
-has_code (Some c) = true
-has_code None = false
-
-abbrev has_kind : Option Kind → Bool
-has_kind (Some k) = true
-has_kind None = false
-
 abbrev returns : Option Kind → Bool
 returns (Some k) = is_return k
 returns None = false
 
-abbrev pub date_right : Bool → Option (Option CalendarDays) → Bool
-date_right may (Some d) = may || has_date d
-date_right may None = false
-
-abbrev code_right : Bool → Option (Option Code) → Bool
-code_right may (Some c) = may || has_code c
-code_right may None = false
-
-abbrev kind_right : Bool → Option (Option Kind) → Bool
-kind_right may (Some k) = may || has_kind k
-kind_right may None = false
+abbrev pub right_or : {A : Type 0} → Bool → Option (Option A) → Bool
+right_or may (Some x) = may || is_some x
+right_or may None = false
 
 abbrev code_there : Option (Option Code) → Bool
-code_there (Some c) = has_code c
+code_there (Some c) = is_some c
 code_there None = true
 
 abbrev return_there : Option (Option Kind) → Bool
@@ -102,30 +85,30 @@ return_there (Some k) = returns k
 return_there None = false
 
 module _ (may : Bool) where
-  pub date-reads : (f : List ℕ) → cond (eqb (length f) 0) may (is_date (date_field_of f)) ≡ date_right may (maybe_date_of f)
+  pub date-reads : (f : List ℕ) → cond (eqb (length f) 0) may (is_some (date_field_of f)) ≡ right_or may (maybe_date_of f)
   unfolding maybe_date_of maybe_date_from
   date-reads [] = sym (or-false may)
   date-reads (b ∷ f) = rw (ne_eqb (length (b ∷ f)) 0 (λ z. omega arith)) (go (date_field_of (b ∷ f)))
     where
-      go : (r : Option CalendarDays) → is_date r ≡ date_right may (maybe_date_from r)
+      go : (r : Option CalendarDays) → is_some r ≡ right_or may (maybe_date_from r)
       go (Some d) = sym (or-true may)
       go None = refl
 
-  code_reads : (f : List ℕ) → cond (eqb (length f) 0) may (is_code (code_of f)) ≡ code_right may (maybe_code_of f)
+  code_reads : (f : List ℕ) → cond (eqb (length f) 0) may (is_some (code_of f)) ≡ right_or may (maybe_code_of f)
   unfolding maybe_code_of maybe_code_from
   code_reads [] = sym (or-false may)
   code_reads (b ∷ f) = rw (ne_eqb (length (b ∷ f)) 0 (λ z. omega arith)) (go (code_of (b ∷ f)))
     where
-      go : (r : Option Code) → is_code r ≡ code_right may (maybe_code_from r)
+      go : (r : Option Code) → is_some r ≡ right_or may (maybe_code_from r)
       go (Some c) = sym (or-true may)
       go None = refl
 
-  kind-reads : (f : List ℕ) → cond (eqb (length f) 0) may (is_kind (kind_of f)) ≡ kind_right may (maybe_kind_of f)
+  kind-reads : (f : List ℕ) → cond (eqb (length f) 0) may (is_some (kind_of f)) ≡ right_or may (maybe_kind_of f)
   unfolding maybe_kind_of maybe_kind_from
   kind-reads [] = sym (or-false may)
   kind-reads (b ∷ f) = rw (ne_eqb (length (b ∷ f)) 0 (λ z. omega arith)) (go (kind_of (b ∷ f)))
     where
-      go : (r : Option Kind) → is_kind r ≡ kind_right may (maybe_kind_from r)
+      go : (r : Option Kind) → is_some r ≡ right_or may (maybe_kind_from r)
       go (Some k) = sym (or-true may)
       go None = refl
 
@@ -148,25 +131,25 @@ kind-returns (b ∷ f) = rw (ne_eqb (length (b ∷ f)) 0 (λ z. omega arith)) (g
     go None = refl
 
 -- ---- the two numbers
-digits-reads : (may : Bool) (f : List ℕ) → cond (eqb (length f) 0) may (is_digits (digits_field_of f)) ≡ ((may || not (eqb (length f) 0)) && is_digits (digits_field_of f))
+digits-reads : (may : Bool) (f : List ℕ) → cond (eqb (length f) 0) may (is_some (digits_field_of f)) ≡ ((may || not (eqb (length f) 0)) && is_some (digits_field_of f))
 digits-reads true [] = unfold digits_field_of digits_from digits_of spells all in refl
 digits-reads false [] = refl
 digits-reads may (b ∷ f) = rw (ne_eqb (length (b ∷ f)) 0 (λ z. omega arith), or-true may)
 
 -- where the second goes with the first, it is right by itself
-range-reads : (r : Option Digits) (f : List ℕ) → (cond (eqb (length f) 0) true (is_digits (digits_field_of f)) && range_from r f) ≡ range_from r f
+range-reads : (r : Option Digits) (f : List ℕ) → (cond (eqb (length f) 0) true (is_some (digits_field_of f)) && range_from r f) ≡ range_from r f
 unfolding number_of number_from
 range-reads r [] = refl
 range-reads (Some first) (b ∷ f) = rw (ne_eqb (length (b ∷ f)) 0 (λ z. omega arith)) (go (digits_field_of (b ∷ f)))
   where
-    go : (r : Option Digits) → (is_digits r && is_number (number_from first r)) ≡ is_number (number_from first r)
+    go : (r : Option Digits) → (is_some r && is_some (number_from first r)) ≡ is_some (number_from first r)
     go (Some last) = refl
     go None = refl
 range-reads None (b ∷ f) = simp and-false
 
 -- ---- six fields
 abbrev pub is_filled : Part → Bool
-is_filled p = has_date p.date && (has_code p.losing && (has_kind p.kind && (has_code p.gaining || returns p.kind)))
+is_filled p = is_some p.date && (is_some p.losing && (is_some p.kind && (is_some p.gaining || returns p.kind)))
 
 -- a part, and a filled one where nothing may be missing
 abbrev pub filled_or : Bool → Option Part → Bool
@@ -185,7 +168,7 @@ rest_of number date gaining losing kind =
 
 -- by what the fields are read as
 read-rest : (may : Bool) (number : Option Number) (date : Option (Option CalendarDays)) (gaining losing : Option (Option Code)) (kind : Option (Option Kind))
-    → (is_number number && (date_right may date && (code_right true gaining && (code_right may losing && (kind_right may kind && (may || (code_there gaining || return_there kind)))))))
+    → (is_some number && (right_or may date && (right_or true gaining && (right_or may losing && (right_or may kind && (may || (code_there gaining || return_there kind)))))))
     ≡ filled_or may (rest_of number date gaining losing kind)
 read-rest may None date gaining losing kind = refl
 read-rest may (Some n) None gaining losing kind = refl
@@ -196,70 +179,70 @@ read-rest true (Some n) (Some x) (Some g) (Some l) (Some k) = refl
 read-rest false (Some n) (Some x) (Some g) (Some l) (Some k) = refl
 
 read-six : (some may : Bool) (first : Option Digits) (b : List ℕ) (date : Option (Option CalendarDays)) (gaining losing : Option (Option Code)) (kind : Option (Option Kind))
-    → ((some && is_digits first) && (range_from first b && (date_right may date && (code_right true gaining && (code_right may losing && (kind_right may kind && (may || (code_there gaining || return_there kind))))))))
+    → ((some && is_some first) && (range_from first b && (right_or may date && (right_or true gaining && (right_or may losing && (right_or may kind && (may || (code_there gaining || return_there kind))))))))
     ≡ (some && filled_or may (on_digits first None (λ d. rest_of (number_of d b) date gaining losing kind)))
 read-six some may (Some d) b date gaining losing kind = ap₂ ◌&&◌ (and-true some) (read-rest may (number_of d b) date gaining losing kind)
 read-six some may None b date gaining losing kind = simp and-false
 
-module _ (pos : ℕ) (none missing : FieldCheck) (a b c d e f : List ℕ) where
-  six-tests : is_faultless (six_fault pos none missing a b c d e f)
-      ≡ (is_right (digits_alone none a) && (is_right (allowed (digits_alone FieldCheck.Right b) (is_range a b)) && (is_right (date_alone missing c) && (is_right (code_alone FieldCheck.Right d) && (is_right (code_alone missing e) && is_right (allowed (kind_alone missing f) (is_named_or missing d f)))))))
+module _ (pos : ℕ) (none missing : Result ⊤ Cause) (a b c d e f : List ℕ) where
+  six-tests : is_ok (six_fault pos none missing a b c d e f)
+      ≡ (is_ok (digits_alone none a) && (is_ok (allowed (digits_alone (Ok tt) b) (is_range a b)) && (is_ok (date_alone missing c) && (is_ok (code_alone (Ok tt) d) && (is_ok (code_alone missing e) && is_ok (allowed (kind_alone missing f) (is_named_or missing d f)))))))
   unfolding six_fault
   six-tests = simp (field-then, and-true)
 
-  pub six-exact : is_faultless (six_fault pos none missing a b c d e f) ≡ ((is_right none || not (eqb (length a) 0)) && filled_or (is_right missing) (six_of a b c d e f))
+  pub six-exact : is_ok (six_fault pos none missing a b c d e f) ≡ ((is_ok none || not (eqb (length a) 0)) && filled_or (is_ok missing) (six_of a b c d e f))
   unfolding six_of is_range is_named_or is_named
   six-exact =
       six-tests
       ∙ rw (
         digits-right a none,
-        digits-reads (is_right none) a,
-        allowed_then (digits_alone FieldCheck.Right b) (is_range a b),
-        digits-right b FieldCheck.Right,
+        digits-reads (is_ok none) a,
+        allowed_then (digits_alone (Ok tt) b) (is_range a b),
+        digits-right b (Ok tt),
         range-reads (digits_field_of a) b,
         date-right c missing,
-        date-reads (is_right missing) c,
-        code-right d FieldCheck.Right,
+        date-reads (is_ok missing) c,
+        code-right d (Ok tt),
         code_reads true d,
         code-right e missing,
-        code_reads (is_right missing) e,
+        code_reads (is_ok missing) e,
         allowed_then (kind_alone missing f) (is_named_or missing d f),
         kind-right f missing,
-        kind-reads (is_right missing) f,
+        kind-reads (is_ok missing) f,
         code-stands d,
         kind-returns f,
       )
-      (read-six (is_right none || not (eqb (length a) 0)) (is_right missing) (digits_field_of a) b (maybe_date_of c) (maybe_code_of d) (maybe_code_of e) (maybe_kind_of f))
+      (read-six (is_ok none || not (eqb (length a) 0)) (is_ok missing) (digits_field_of a) b (maybe_date_of c) (maybe_code_of d) (maybe_code_of e) (maybe_kind_of f))
 
   -- where nothing may be missing, a status stands there
-  status-right : is_faultless (six_fault pos none missing a b c d e f) ≡ true → is_right (kind_alone missing f) ≡ true
+  status-right : is_ok (six_fault pos none missing a b c d e f) ≡ true → is_ok (kind_alone missing f) ≡ true
   status-right h =
-      let h₁ = and_right (is_right (digits_alone none a)) _ (sym six-tests ∙ h) in
-      let h₂ = and_right (is_right (allowed (digits_alone FieldCheck.Right b) (is_range a b))) _ h₁ in
-      let h₃ = and_right (is_right (date_alone missing c)) _ h₂ in
-      let h₄ = and_right (is_right (code_alone FieldCheck.Right d)) _ h₃ in
-      allowed-right (kind_alone missing f) (is_named_or missing d f) (and_right (is_right (code_alone missing e)) _ h₄)
+      let h₁ = and_right (is_ok (digits_alone none a)) _ (sym six-tests ∙ h) in
+      let h₂ = and_right (is_ok (allowed (digits_alone (Ok tt) b) (is_range a b))) _ h₁ in
+      let h₃ = and_right (is_ok (date_alone missing c)) _ h₂ in
+      let h₄ = and_right (is_ok (code_alone (Ok tt) d)) _ h₃ in
+      allowed-right (kind_alone missing f) (is_named_or missing d f) (and_right (is_ok (code_alone missing e)) _ h₄)
 
-  pub six-status : is_right missing ≡ false → is_faultless (six_fault pos none missing a b c d e f) ≡ true → length f ≡ 0 → ⊥
+  pub six-status : is_ok missing ≡ false → is_ok (six_fault pos none missing a b c d e f) ≡ true → length f ≡ 0 → ⊥
   six-status m h z =
-      let e : cond (eqb (length f) 0) (is_right missing) (is_kind (kind_of f)) ≡ true = sym (kind-right f missing) ∙ status-right h in
+      let e : cond (eqb (length f) 0) (is_ok missing) (is_some (kind_of f)) ≡ true = sym (kind-right f missing) ∙ status-right h in
       never (sym (rw (eq-eqb (length f) 0 z) m) ∙ e)
 
   -- no byte of them is a separator
-  pub six-bytes : is_faultless (six_fault pos none missing a b c d e f) ≡ true → all (all field_byte) (a ∷ b ∷ c ∷ d ∷ e ∷ f ∷ []) ≡ true
+  pub six-bytes : is_ok (six_fault pos none missing a b c d e f) ≡ true → all (all field_byte) (a ∷ b ∷ c ∷ d ∷ e ∷ f ∷ []) ≡ true
   unfolding all
   six-bytes h =
       let h₁ = sym six-tests ∙ h in
-      let h₂ = and_right (is_right (digits_alone none a)) _ h₁ in
-      let h₃ = and_right (is_right (allowed (digits_alone FieldCheck.Right b) (is_range a b))) _ h₂ in
-      let h₄ = and_right (is_right (date_alone missing c)) _ h₃ in
-      let h₅ = and_right (is_right (code_alone FieldCheck.Right d)) _ h₄ in
+      let h₂ = and_right (is_ok (digits_alone none a)) _ h₁ in
+      let h₃ = and_right (is_ok (allowed (digits_alone (Ok tt) b) (is_range a b))) _ h₂ in
+      let h₄ = and_right (is_ok (date_alone missing c)) _ h₃ in
+      let h₅ = and_right (is_ok (code_alone (Ok tt) d)) _ h₄ in
       rw (
-        digits-bytes a none (and_left (is_right (digits_alone none a)) _ h₁),
-        digits-bytes b FieldCheck.Right (allowed-right (digits_alone FieldCheck.Right b) (is_range a b) (and_left (is_right (allowed (digits_alone FieldCheck.Right b) (is_range a b))) _ h₂)),
-        date-bytes c missing (and_left (is_right (date_alone missing c)) _ h₃),
-        code-bytes d FieldCheck.Right (and_left (is_right (code_alone FieldCheck.Right d)) _ h₄),
-        code-bytes e missing (and_left (is_right (code_alone missing e)) _ h₅),
+        digits-bytes a none (and_left (is_ok (digits_alone none a)) _ h₁),
+        digits-bytes b (Ok tt) (allowed-right (digits_alone (Ok tt) b) (is_range a b) (and_left (is_ok (allowed (digits_alone (Ok tt) b) (is_range a b))) _ h₂)),
+        date-bytes c missing (and_left (is_ok (date_alone missing c)) _ h₃),
+        code-bytes d (Ok tt) (and_left (is_ok (code_alone (Ok tt) d)) _ h₄),
+        code-bytes e missing (and_left (is_ok (code_alone missing e)) _ h₅),
         kind-bytes f missing (status-right h),
       )
 
@@ -298,7 +281,7 @@ first-empty a b c d e f p h = go (digits_field_of a) refl h
     go None q k = absurd (no_part p k)
 
 -- ---- a report
-named-exact : (g : Option Code) (k : Kind) → part_named g k ≡ (has_code g || is_return k)
+named-exact : (g : Option Code) (k : Kind) → part_named g k ≡ (is_some g || is_return k)
 named-exact (Some c) k = refl
 named-exact None P = refl
 named-exact None L = refl
@@ -310,7 +293,7 @@ whole-exact p = go (is_empty p.number.first) p.date p.losing p.kind
   where
     go : (t : Bool) (date : Option CalendarDays) (losing : Option Code) (kind : Option Kind)
         → is_some (cond t None (on_some_date date λ d. on_some_code losing λ l. on_some_kind kind λ k. cond (part_named p.gaining k) (Some (record { number = p.number; date = d; gaining = gaining_of p.gaining; losing = l; kind = k })) None))
-        ≡ (not t && (has_date date && (has_code losing && (has_kind kind && (has_code p.gaining || returns kind)))))
+        ≡ (not t && (is_some date && (is_some losing && (is_some kind && (is_some p.gaining || returns kind)))))
     go true date losing kind = refl
     go false None losing kind = refl
     go false (Some d) None kind = refl

@@ -4,16 +4,16 @@ ghost use Rattle.faults.specs.Cause.{cause_number};
 
 // The causes in the order in which they are tried for one field: a character outside 4.4.1, a field of the wrong length, a date that doesn't
 // exist, a network code that isn't one, a value the table doesn't allow; and of a whole file: a closing record that is missing or whose count
-// disagrees, bytes after the end.
+// disagrees, bytes after the end. Other languages know each by its number.
 #[derive(Clone, Copy)]
 pub enum Cause {
-    Character,
-    Length,
-    Date,
-    Code,
-    Value,
-    Closing,
-    After,
+    Character = 1,
+    Length = 2,
+    Date = 3,
+    Code = 4,
+    Value = 5,
+    Closing = 6,
+    After = 7,
 }
 
 impl Cause {
@@ -21,15 +21,7 @@ impl Cause {
     pub fn number(self) -> u8
         ensures { result ≡ cause_number self }
     {
-        match self {
-            Cause::Character => 1,
-            Cause::Length => 2,
-            Cause::Date => 3,
-            Cause::Code => 4,
-            Cause::Value => 5,
-            Cause::Closing => 6,
-            Cause::After => 7,
-        }
+        self as u8
     }
 }
 
@@ -40,16 +32,9 @@ pub struct FaultPlace {
     pub field: usize,
 }
 
-// A field that is right, or why it is wrong.
+// The field of a record that is wrong, and why.
 #[derive(Clone, Copy)]
-pub enum FieldCheck {
-    Right,
-    Wrong(Cause),
-}
-
-// A record that is right, or its first field that is wrong, and why.
-#[derive(Drop)]
-pub enum RecordCheck {
-    Right,
-    Wrong(usize, Cause),
+pub struct FieldFault {
+    pub field: usize,
+    pub cause: Cause,
 }

@@ -3,18 +3,17 @@ ghost use Rattle.std.specs.Prelude.{◌≡◌, take, drop};
 ghost use Rattle.faults.specs.Cut.{rest_at, code_width};
 
 // All that stands behind `k` commas; nothing where there are fewer.
+#[tactic(auto, unfolding(crate::specs::Cut::rest_at))]
 pub(crate) fn rest(s: &[u8], k: usize) -> &[u8]
     ensures { result.now ≡ rest_at s.now k }
 {
     let mut at: usize = 0;
-    let mut left = k;
-    while 0 < left {
-        let e = text::field_end(s, at, 44);
+    for i in 0..k {
+        let e = text::field_end(s, at, b',');
         if s.len() <= e {
             return &s[0..0];
         }
         at = e + 1;
-        left -= 1;
     }
     &s[at..]
 }
@@ -23,35 +22,25 @@ pub(crate) fn rest(s: &[u8], k: usize) -> &[u8]
 pub(crate) fn first(s: &[u8], n: usize) -> &[u8]
     ensures { result.now ≡ take n s.now }
 {
-    if s.len() <= n {
-        return &s[0..];
-    }
-    &s[0..n]
+    &s[..n.min(s.len())]
 }
 
 // What stands behind the first `n` bytes.
 pub(crate) fn behind(s: &[u8], n: usize) -> &[u8]
     ensures { result.now ≡ drop n s.now }
 {
-    if s.len() <= n {
-        return &s[0..0];
-    }
-    &s[n..]
+    &s[n.min(s.len())..]
 }
 
 // How many bytes the code of a correction has: up to `U:`, or four where that is missing.
+#[tactic(auto, using(std::proofs::lemmas::Bool::Decides::nat_tests, crate::proofs::CutLaws::colon_first), unfolding(crate::specs::Cut::code_width))]
 pub fn code_width(head: &[u8]) -> usize
     ensures { result ≡ code_width head.now }
 {
-    let colon = text::field_end(head, 0, 58);
-    if head.len() <= colon {
-        return 4;
+    let colon = text::field_end(head, 0, b':');
+    if colon < head.len() && 0 < colon && head[colon - 1] == b'U' {
+        colon - 1
+    } else {
+        4
     }
-    if colon == 0 {
-        return 4;
-    }
-    if head[colon - 1] != 85 {
-        return 4;
-    }
-    colon - 1
 }

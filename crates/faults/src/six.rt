@@ -1,102 +1,70 @@
 // The six fields of a report, or of a part of a correction.
-ghost use Rattle.std.specs.Prelude.{◌≡◌, ◌≤◌};
-ghost use Rattle.faults.specs.Six.{on_field, on_record, is_right, is_named_or, on_numbers, on_networks, six_fault};
+ghost use Rattle.std.specs.Prelude.{◌≡◌, ◌≤◌, Result, Ok, ⊤};
+ghost use Rattle.faults.specs.Six.{at_field, is_named_or, on_numbers, on_networks, six_fault};
 
-use crate::cause::{FieldCheck, RecordCheck};
+use crate::cause::{Cause, FieldFault};
 use crate::field;
 
-// A field that is right leaves the answer to those behind it.
-pub(crate) fn on_field(pos: usize, check: FieldCheck, others: RecordCheck) -> RecordCheck
-    ensures { result ≡ on_field pos check others }
+// A fault of a field, with where the field stands.
+pub(crate) fn at(pos: usize, check: Result<(), Cause>) -> Result<(), FieldFault>
+    ensures { result ≡ at_field pos check }
 {
-    match check {
-        FieldCheck::Right => others,
-        FieldCheck::Wrong(cause) => RecordCheck::Wrong(pos, cause),
-    }
+    check.map_err(|cause| FieldFault { field: pos, cause })
 }
 
-pub(crate) fn on_record(check: RecordCheck, others: RecordCheck) -> RecordCheck
-    ensures { result ≡ on_record check others }
-{
-    match check {
-        RecordCheck::Right => others,
-        RecordCheck::Wrong(pos, cause) => RecordCheck::Wrong(pos, cause),
-    }
-}
-
-fn is_right(check: FieldCheck) -> bool
-    ensures { result ≡ is_right check }
-{
-    match check {
-        FieldCheck::Right => true,
-        FieldCheck::Wrong(_) => false,
-    }
-}
-
-fn is_named_or(missing: FieldCheck, gaining: &[u8], status: &[u8]) -> bool
+#[tactic(auto, unfolding(crate::specs::Six::is_named_or))]
+fn is_named_or(missing: Result<(), Cause>, gaining: &[u8], status: &[u8]) -> bool
     ensures { result ≡ is_named_or missing gaining.now status.now }
 {
-    let free = is_right(missing);
-    let named = field::is_named(gaining, status);
-    free | named
+    missing.is_ok() || field::is_named(gaining, status)
 }
 
-// The two number fields, and then the others.
-fn on_numbers(
-    pos: usize,
-    none: FieldCheck,
-    first: &[u8],
-    last: &[u8],
-    others: RecordCheck,
-) -> RecordCheck
+// The fields as they stand, each maybe damaged.
+#[derive(Clone, Copy)]
+pub(crate) struct Fields<'a> {
+    pub first: &'a [u8],
+    pub last: &'a [u8],
+    pub date: &'a [u8],
+    pub gaining: &'a [u8],
+    pub losing: &'a [u8],
+    pub status: &'a [u8],
+}
+
+// The two number fields; what an empty first one is.
+fn numbers(pos: usize, none: Result<(), Cause>, f: Fields) -> Result<(), FieldFault>
     requires { pos ≤ 16 }
-    ensures { result ≡ on_numbers pos none first.now last.now others }
+    ensures { result ≡ on_numbers pos none f.entry.first.now f.entry.last.now (Ok tt) }
 {
-    let a = field::digits_alone(first, none);
-    let alone = field::digits_alone(last, FieldCheck::Right);
-    let b = field::allowed(alone, field::is_range(first, last));
-    let second = pos + 2;
-    let from_last = on_field(second, b, others);
-    on_field(pos, a, from_last)
+    let range = field::is_range(f.first, f.last);
+    let last = field::allowed(field::digits_alone(f.last, Ok(())), range);
+    at(pos, field::digits_alone(f.first, none))?;
+    at(pos + 2, last)
 }
 
-// The networks and the status, the gaining network at `pos`.
-fn on_networks(
-    pos: usize,
-    missing: FieldCheck,
-    gaining: &[u8],
-    losing: &[u8],
-    status: &[u8],
-) -> RecordCheck
+// The networks and the status, the gaining network at `pos`; what a missing losing network or status is.
+fn networks(pos: usize, missing: Result<(), Cause>, f: Fields) -> Result<(), FieldFault>
     requires { pos ≤ 22 }
-    ensures { result ≡ on_networks pos missing gaining.now losing.now status.now }
+    ensures { result ≡ on_networks pos missing f.entry.gaining.now f.entry.losing.now f.entry.status.now }
 {
-    let a = field::code_alone(gaining, FieldCheck::Right);
-    let b = field::code_alone(losing, missing);
-    let alone = field::kind_alone(status, missing);
-    let c = field::allowed(alone, is_named_or(missing, gaining, status));
-    let from_status = on_field(pos + 4, c, RecordCheck::Right);
-    let second = pos + 2;
-    let from_losing = on_field(second, b, from_status);
-    on_field(pos, a, from_losing)
+    let named = is_named_or(missing, f.gaining, f.status);
+    let status = field::allowed(field::kind_alone(f.status, missing), named);
+    at(pos, field::code_alone(f.gaining, Ok(())))?;
+    at(pos + 2, field::code_alone(f.losing, missing))?;
+    at(pos + 4, status)
 }
 
 // The six fields, at every second "Pos." from `pos` on; what an empty first number field is, and what a missing date, losing network or status.
+#[tactic(auto, unfolding(crate::specs::Six::six_fault))]
 pub(crate) fn six(
     pos: usize,
-    none: FieldCheck,
-    missing: FieldCheck,
-    first: &[u8],
-    last: &[u8],
-    date: &[u8],
-    gaining: &[u8],
-    losing: &[u8],
-    status: &[u8],
-) -> RecordCheck
+    none: Result<(), Cause>,
+    missing: Result<(), Cause>,
+    f: Fields,
+) -> Result<(), FieldFault>
     requires { pos ≤ 16 }
-    ensures { result ≡ six_fault pos none missing first.now last.now date.now gaining.now losing.now status.now }
+    ensures { result ≡ six_fault pos none missing f.entry.first.now f.entry.last.now f.entry.date.now f.entry.gaining.now f.entry.losing.now f.entry.status.now }
 {
-    let networks = on_networks(pos + 6, missing, gaining, losing, status);
-    let dated = field::date_alone(date, missing);
-    on_numbers(pos, none, first, last, on_field(pos + 4, dated, networks))
+    numbers(pos, none, f)?;
+    at(pos + 4, field::date_alone(f.date, missing))?;
+    networks(pos + 6, missing, f)
 }

@@ -2,6 +2,7 @@
 --     line-at       where the line k starts, and what the lines from there on are
 --     lines-enough  a file that was judged has no fewer lines than records
 --     walked        k steps from the start of a file with more than k records lead to the record k
+use Rattle.std.specs.Prelude.{Ok}
 use Prim.Native.Nat.{ℕ, zero, suc, ◌+◌, ◌≤◌, ◌<◌}
 use native.Mathlib.Nat.{add-zero, min-le_right}
 use native.Mathlib.Numerals.{add-one}
@@ -15,7 +16,6 @@ use Rattle.laws.specs.Split.{split, between, end_of, EndsAt}
 use Rattle.laws.proofs.Tests.{le-or-lt}
 use Rattle.laws.proofs.Split.{ends_at, ends_more, ends_last}
 use Rattle.records.specs.declared.names.kind.FileKind.{FileKind}
-use Rattle.files.specs.declared.judge.Judged.TheVariants.{Records}
 use Rattle.files.specs.Judged.{judged_file, records_of}
 use Rattle.files.specs.Reading.{record_at}
 use Rattle.files.specs.Cursor.{line_start}
@@ -58,12 +58,12 @@ line-is s k h =
     ap (λ (ls : List (List ℕ)). get_or ls 0 []) (sym q.splits ∙ p.lines) ∙ get_or-drop k (split 13 s) 0 [] ∙ ap (λ (n : ℕ). get_or (split 13 s) n []) (add-zero k)
 
 -- a file that was judged has no fewer lines than records
-pub lines-enough : (kind : FileKind) (file : List ℕ) (n : ℕ) → judged_file kind file ≡ Records n → n ≤ length (split 13 file)
+pub lines-enough : (kind : FileKind) (file : List ℕ) (n : ℕ) → judged_file kind file ≡ Ok n → n ≤ length (split 13 file)
 unfolding records_of
 lines-enough kind file n e =
     let l = (file-written kind file n e).1 in
     let t : records_of kind file ≡ take n (split 13 file) = rw e in
     omega (arith, l, ap length t, length-take n (split 13 file), min-le_right n (length (split 13 file)))
 
-pub walked : (kind : FileKind) (file : List ℕ) (n k : ℕ) → judged_file kind file ≡ Records n → k < n → between file (line_start file k) (end_of 13 file (line_start file k)) ≡ record_at kind file k
+pub walked : (kind : FileKind) (file : List ℕ) (n k : ℕ) → judged_file kind file ≡ Ok n → k < n → between file (line_start file k) (end_of 13 file (line_start file k)) ≡ record_at kind file k
 walked kind file n k e h = line-is file k (omega (arith, lines-enough kind file n e)) ∙ sym (record-line kind file k n e h)

@@ -4,6 +4,7 @@
 --     file-one         so two different files never have the same records
 --     words-read       a file written from words has the records of these words
 --     closing-held     a closing record can always be held
+use Rattle.std.specs.Prelude.{Ok}
 use Prim.Native.Nat.{ℕ, suc, ◌+◌, ◌<◌}
 use native.Mathlib.Nat.{zero-add}
 use native.Mathlib.Omega.{arith}
@@ -24,7 +25,6 @@ use Rattle.records.specs.declared.names.kind.FileKind.{FileKind}
 use Rattle.records.specs.names.Kind.{has_closing}
 use Rattle.records.specs.Record.{is_record, fits, text_of}
 use Rattle.records.proofs.RecordTrip.{fits-record, record-lacks, record-begins}
-use Rattle.files.specs.declared.judge.Judged.TheVariants.{Records}
 use Rattle.files.specs.Judged.{judged, judged_one, judged_file, records_of}
 use Rattle.files.specs.Writing.{Holding, values_in, unfit, held_all, held_one, held, lines_of, file_text, file_of}
 use Rattle.files.proofs.LineTrip.{end_of_file, lines-read, lines-written, one-read, one_written}
@@ -62,14 +62,14 @@ open-lines kind ts c = rw c
 -- ---- reading what was written
 -- what a file has, said by its kind
 pub record Has (kind : FileKind) (file : List ℕ) (ts : List (List ℕ)) : Type 0 where
-  pub count : judged_file kind file ≡ Records (length ts)
+  pub count : judged_file kind file ≡ Ok (length ts)
   pub texts : records_of kind file ≡ ts
 
-has : (kind : FileKind) (file : List ℕ) (ts rest : List (List ℕ)) → judged_file kind file ≡ Records (length ts) → split 13 file ≡ ts ++ rest → Has kind file ts
+has : (kind : FileKind) (file : List ℕ) (ts rest : List (List ℕ)) → judged_file kind file ≡ Ok (length ts) → split 13 file ≡ ts ++ rest → Has kind file ts
 unfolding records_of
 has kind file ts rest c l = record { count = c; texts = rw (c, l) (take_at ts rest (length ts) refl) }
 
-one-text : (kind : FileKind) (ts : List (List ℕ)) → length ts ≡ 1 → all (is_record kind) ts ≡ true → judged_one kind (ts ++ ([] ∷ [])) ≡ Records (length ts)
+one-text : (kind : FileKind) (ts : List (List ℕ)) → length ts ≡ 1 → all (is_record kind) ts ≡ true → judged_one kind (ts ++ ([] ∷ [])) ≡ Ok (length ts)
 unfolding all
 one-text kind [] h e = absurd (omega arith)
 one-text kind (t ∷ []) h e = one-read kind t (and_left (is_record kind t) true e)
@@ -83,7 +83,7 @@ open-judged : (kind : FileKind) (file : List ℕ) → has_closing kind ≡ false
 unfolding judged_file
 open-judged kind file c = rw c
 
-start : (kind : FileKind) (ts : List (List ℕ)) → all (is_record kind) ts ≡ true → judged kind 0 (ts ++ end_of_file (length ts + 1)) ≡ Records (length ts)
+start : (kind : FileKind) (ts : List (List ℕ)) → all (is_record kind) ts ≡ true → judged kind 0 (ts ++ end_of_file (length ts + 1)) ≡ Ok (length ts)
 start kind ts e = rw (zero-add (length ts)) at (lines-read kind (record-begins kind) ts 0 e)
 
 pub file-read : (kind : FileKind) (ts : List (List ℕ)) → all (is_record kind) ts ≡ true → (has_closing kind ≡ false → length ts ≡ 1) → Has kind (file_text kind ts) ts
@@ -112,11 +112,11 @@ unfolding file_text lines_of
 open-file kind file ts c l = rw c (ended-split 13 file ts l)
 
 -- the texts that a count takes from the lines
-counted : (kind : FileKind) (file : List ℕ) (n : ℕ) (ts rest : List (List ℕ)) → judged_file kind file ≡ Records n → n ≡ length ts → split 13 file ≡ ts ++ rest → records_of kind file ≡ ts
+counted : (kind : FileKind) (file : List ℕ) (n : ℕ) (ts rest : List (List ℕ)) → judged_file kind file ≡ Ok n → n ≡ length ts → split 13 file ≡ ts ++ rest → records_of kind file ≡ ts
 unfolding records_of
 counted kind file n ts rest e q l = rw (e, l) (take_at ts rest n (sym q))
 
-pub file-written : (kind : FileKind) (file : List ℕ) (n : ℕ) → judged_file kind file ≡ Records n → (Is kind file (records_of kind file)) × (length (records_of kind file) ≡ n)
+pub file-written : (kind : FileKind) (file : List ℕ) (n : ℕ) → judged_file kind file ≡ Ok n → (Is kind file (records_of kind file)) × (length (records_of kind file) ≡ n)
 file-written kind file n e = go (has_closing kind) refl
   where
     go : (t : Bool) → has_closing kind ≡ t → (Is kind file (records_of kind file)) × (length (records_of kind file) ≡ n)
@@ -130,7 +130,7 @@ file-written kind file n e = go (has_closing kind) refl
         let t = counted kind file n (w.text ∷ []) ([] ∷ []) e w.count w.lines in
         rw t (record { whole = open-file kind file (w.text ∷ []) c w.lines; records = one-all (is_record kind) w.text w.good }, sym w.count)
 
-pub file-one : (kind : FileKind) (a b : List ℕ) (m n : ℕ) → judged_file kind a ≡ Records m → judged_file kind b ≡ Records n → records_of kind a ≡ records_of kind b → a ≡ b
+pub file-one : (kind : FileKind) (a b : List ℕ) (m n : ℕ) → judged_file kind a ≡ Ok m → judged_file kind b ≡ Ok n → records_of kind a ≡ records_of kind b → a ≡ b
 file-one kind a b m n p q e = (file-written kind a m p).0.whole ∙ ap (file_text kind) e ∙ sym (file-written kind b n q).0.whole
 
 -- ---- files written from words

@@ -3,23 +3,25 @@
 --     turn-closing, turn-record, turn-fault, turn_end     the line that starts at a place, and what is left to judge
 --     one-short, one-fault, one_more, one-record          the same for a file of one record
 --     end-here, end_more          nothing follows; something does
+use Rattle.std.specs.Prelude.{Err}
+use Rattle.files.specs.declared.judge.Fault.{Fault}
+use Rattle.std.specs.Prelude.{Ok}
+use Rattle.files.specs.Judged.{fault_at}
 use Prim.Native.Nat.{ℕ, ◌+◌, ◌≤◌, ◌<◌}
 use native.Mathlib.Omega.{arith}
 use mathlib.Core.Path.{◌≡◌, refl, sym, ap, ◌∙◌}
 use mathlib.Core.Bool.{Bool, true, false, cond}
 use mathlib.Core.List.{List, [], ◌∷◌}
 use lib.Dec.{eqb}
-use lib.ListN.{length, drop, length-drop, drop_of_length-le}
+use lib.Seq.{take_all}
+use lib.ListN.{take, length, drop, length-drop, drop_of_length-le}
 use Rattle.laws.specs.Split.{before, split, between, end_of, EndsAt}
 use Rattle.laws.proofs.Split.{split-some, ends_at, ends_more, ends_last}
 use Rattle.records.specs.closing.Closing.{begins}
 use Rattle.records.specs.declared.names.kind.FileKind.{FileKind}
-use Rattle.faults.specs.declared.cause.Cause.{Cause}
 use Rattle.faults.specs.declared.cause.Cause.TheVariants.{After}
-use Rattle.faults.specs.declared.cause.RecordCheck.TheVariants.{Right, Wrong}
 use Rattle.faults.specs.Record.{record_fault}
-use Rattle.files.specs.declared.judge.Judged.TheVariants.{Records, Fault}
-use Rattle.files.specs.Judged.{place_at, is_end, closed, on_line, unended, last_line, judged, judged_one}
+use Rattle.files.specs.Judged.{at_line, place_at, is_end, closed, on_line, unended, last_line, judged, judged_one}
 
 pub ended_at : (s : List ℕ) (at e : ℕ) → at ≤ length s → e ≡ end_of 13 s at → EndsAt 13 s at e
 ended_at s at e h q = rw q (ends_at 13 s at h)
@@ -56,7 +58,7 @@ module _ (kind : FileKind) (i : ℕ) (l : List ℕ) where
   unfolding judged
   judged-last = refl
 
-  pub one_line : (ls : List (List ℕ)) → 1 ≤ length ls → judged_one kind (l ∷ ls) ≡ on_line 0 (record_fault kind l) (cond (is_end ls) (Records 1) (Fault (place_at 1 0) After))
+  pub one_line : (ls : List (List ℕ)) → 1 ≤ length ls → judged_one kind (l ∷ ls) ≡ on_line 0 (record_fault kind l) (cond (is_end ls) (Ok 1) (fault_at (place_at 1 0) After))
   unfolding judged_one
   one_line [] h = absurd (omega arith)
   one_line (m ∷ ls) h = refl
@@ -69,29 +71,35 @@ module _ (kind : FileKind) {s : List ℕ} {at e : ℕ} (i : ℕ) (q : EndsAt 13 
   pub turn-closing : e < length s → begins (between s at e) ≡ true → judged kind i (split 13 (drop at s)) ≡ closed i (between s at e) (split 13 (drop (e + 1) s))
   turn-closing h b = turn h ∙ rw b
 
-  pub turn-record : e < length s → begins (between s at e) ≡ false → record_fault kind (between s at e) ≡ Right → judged kind i (split 13 (drop at s)) ≡ judged kind (i + 1) (split 13 (drop (e + 1) s))
+  pub turn-record : e < length s → begins (between s at e) ≡ false → at_line i (record_fault kind (between s at e)) ≡ Ok tt → judged kind i (split 13 (drop at s)) ≡ judged kind (i + 1) (split 13 (drop (e + 1) s))
   turn-record h b r = turn h ∙ rw (b, r)
 
-  pub turn-fault : (field : ℕ) (cause : Cause) → e < length s → begins (between s at e) ≡ false → record_fault kind (between s at e) ≡ Wrong field cause → judged kind i (split 13 (drop at s)) ≡ Fault (place_at i field) cause
-  turn-fault field cause h b r = turn h ∙ rw (b, r)
+  pub turn-fault : (fault : Fault) → e < length s → begins (between s at e) ≡ false → at_line i (record_fault kind (between s at e)) ≡ Err fault → judged kind i (split 13 (drop at s)) ≡ Err fault
+  turn-fault fault h b r = turn h ∙ rw (b, r)
 
   pub turn_end : length s ≤ e → judged kind i (split 13 (drop at s)) ≡ last_line kind i (between s at e)
   turn_end h = ap (judged kind i) (ends_last q h) ∙ judged-last kind i (between s at e)
 
 -- ---- a file of one record
 module _ (kind : FileKind) {s : List ℕ} {e : ℕ} (q : EndsAt 13 s 0 e) where
-  one : e < length s → judged_one kind (split 13 s) ≡ on_line 0 (record_fault kind (between s 0 e)) (cond (is_end (split 13 (drop (e + 1) s))) (Records 1) (Fault (place_at 1 0) After))
-  one h = ap (judged_one kind) (ends_more q h) ∙ one_line kind 0 (between s 0 e) (split 13 (drop (e + 1) s)) (split-some 13 (drop (e + 1) s))
+  front : between s 0 e ≡ take e s
+  front = ap (λ (n : ℕ). take n s) (omega arith)
 
-  pub one-short : length s ≤ e → judged_one kind (split 13 s) ≡ unended kind 0 (between s 0 e)
+  one : e < length s → judged_one kind (split 13 s) ≡ on_line 0 (record_fault kind (take e s)) (cond (is_end (split 13 (drop (e + 1) s))) (Ok 1) (fault_at (place_at 1 0) After))
+  one h =
+      ap (judged_one kind) (ends_more q h)
+      ∙ one_line kind 0 (between s 0 e) (split 13 (drop (e + 1) s)) (split-some 13 (drop (e + 1) s))
+      ∙ ap (λ (l : List ℕ). on_line 0 (record_fault kind l) (cond (is_end (split 13 (drop (e + 1) s))) (Ok 1) (fault_at (place_at 1 0) After))) front
+
+  pub one-short : length s ≤ e → judged_one kind (split 13 s) ≡ unended kind 0 s
   unfolding judged_one
-  one-short h = ap (judged_one kind) (ends_last q h)
+  one-short h = ap (judged_one kind) (ends_last q h) ∙ ap (unended kind 0) (front ∙ take_all e s h)
 
-  pub one-fault : (field : ℕ) (cause : Cause) → e < length s → record_fault kind (between s 0 e) ≡ Wrong field cause → Fault (place_at 0 field) cause ≡ judged_one kind (split 13 s)
-  one-fault field cause h r = sym (one h ∙ rw r)
+  pub one-fault : (fault : Fault) → e < length s → at_line 0 (record_fault kind (take e s)) ≡ Err fault → judged_one kind (split 13 s) ≡ Err fault
+  one-fault fault h r = one h ∙ rw r
 
-  pub one_more : e < length s → record_fault kind (between s 0 e) ≡ Right → e + 1 < length s → Fault (place_at 1 0) After ≡ judged_one kind (split 13 s)
+  pub one_more : e < length s → at_line 0 (record_fault kind (take e s)) ≡ Ok tt → e + 1 < length s → fault_at (place_at 1 0) After ≡ judged_one kind (split 13 s)
   one_more h r m = sym (one h ∙ rw (r, end_more s (e + 1) m))
 
-  pub one-record : e < length s → record_fault kind (between s 0 e) ≡ Right → length s ≤ e + 1 → Records 1 ≡ judged_one kind (split 13 s)
+  pub one-record : e < length s → at_line 0 (record_fault kind (take e s)) ≡ Ok tt → length s ≤ e + 1 → Ok 1 ≡ judged_one kind (split 13 s)
   one-record h r m = sym (one h ∙ rw (r, end-here s (e + 1) m))

@@ -2,6 +2,10 @@
 --     lines-read        records and then the right closing record are judged as so many records
 --     lines-written     lines that are judged as n records are n records, the closing record, and nothing behind it
 --     one-read, one_written     the same for a file of one record
+use Rattle.std.specs.Prelude.{Result, Err, ⊤}
+use Rattle.faults.specs.declared.cause.FieldFault.{FieldFault}
+use Rattle.std.specs.Prelude.{Ok}
+use Rattle.files.specs.Judged.{fault_at}
 use lib.Dec.{eqb}
 use Prim.Native.Nat.{ℕ, suc, ◌+◌, ◌≤◌}
 use native.Mathlib.Nat.{add-zero}
@@ -20,11 +24,8 @@ use Rattle.records.specs.Record.{is_record}
 use Rattle.faults.specs.declared.cause.Cause.{Cause}
 use Rattle.faults.specs.declared.cause.Cause.TheVariants.{Length, Closing, After}
 use Rattle.faults.specs.declared.cause.FaultPlace.{FaultPlace}
-use Rattle.faults.specs.declared.cause.RecordCheck.{RecordCheck}
-use Rattle.faults.specs.declared.cause.RecordCheck.TheVariants.{Right, Wrong}
 use Rattle.faults.specs.Record.{record_fault, end_pos}
-use Rattle.faults.proofs.RecordExact.{record-right, right-record}
-use Rattle.files.specs.declared.judge.Judged.TheVariants.{Records, Fault}
+use Rattle.faults.proofs.RecordExact.{record_has_no_fault, right-record}
 use Rattle.files.specs.Judged.{place_at, is_end, closed, on_line, unended, last_line, judged, judged_one}
 use Rattle.files.proofs.JudgeLaws.{judged-line}
 
@@ -38,7 +39,7 @@ more-lines [] n = omega arith
 more-lines (t ∷ ts) n = omega arith
 
 module _ (kind : FileKind) where
-  pub lines-read : ((l : List ℕ) → is_record kind l ≡ true → begins l ≡ false) → (ts : List (List ℕ)) (i : ℕ) → all (is_record kind) ts ≡ true → judged kind i (ts ++ end_of_file (i + length ts + 1)) ≡ Records (i + length ts)
+  pub lines-read : ((l : List ℕ) → is_record kind l ≡ true → begins l ≡ false) → (ts : List (List ℕ)) (i : ℕ) → all (is_record kind) ts ≡ true → judged kind i (ts ++ end_of_file (i + length ts + 1)) ≡ Ok (i + length ts)
   unfolding all
   lines-read plain [] i e =
       judged-line kind i (closing_text (i + 0 + 1)) ([] ∷ []) (omega arith)
@@ -47,7 +48,7 @@ module _ (kind : FileKind) where
       let good = and_left (is_record kind t) (all (is_record kind) ts) e in
       let a : i + suc (length ts) ≡ i + 1 + length ts = omega arith in
       judged-line kind i t (ts ++ end_of_file (i + suc (length ts) + 1)) (more-lines ts (i + suc (length ts) + 1))
-      ∙ rw (plain t good, record-right kind t good, a) (lines-read plain ts (i + 1) (and_right (is_record kind t) (all (is_record kind) ts) e))
+      ∙ rw (plain t good, record_has_no_fault kind t good, a) (lines-read plain ts (i + 1) (and_right (is_record kind t) (all (is_record kind) ts) e))
 
   -- what lines that were judged are made of
   pub record Whole (i n : ℕ) (ls : List (List ℕ)) : Type 0 where
@@ -56,7 +57,7 @@ module _ (kind : FileKind) where
     pub count : n ≡ i + length texts
     pub records : all (is_record kind) texts ≡ true
 
-  never : {n : ℕ} {A : Type 0} (place : FaultPlace) (cause : Cause) → Fault place cause ≡ Records n → A
+  never : {n : ℕ} {A : Type 0} (place : FaultPlace) (cause : Cause) → fault_at place cause ≡ Ok n → A
   never place cause e = absurd (let z : ◌≡◌ {A = ℕ} 0 1 = cc in omega arith)
 
   end-only : (ls : List (List ℕ)) → is_end ls ≡ true → ls ≡ [] ∷ []
@@ -65,10 +66,10 @@ module _ (kind : FileKind) where
   end-only ([] ∷ m ∷ ls) e = absurd (let z : ◌≡◌ {A = ℕ} 0 1 = cc in omega arith)
   end-only ((b ∷ l) ∷ ls) e = absurd (let z : ◌≡◌ {A = ℕ} 0 1 = cc in omega arith)
 
-  closed-written : (i n : ℕ) (l : List ℕ) (ls : List (List ℕ)) → closed i l ls ≡ Records n → Whole i n (l ∷ ls)
+  closed-written : (i n : ℕ) (l : List ℕ) (ls : List (List ℕ)) → closed i l ls ≡ Ok n → Whole i n (l ∷ ls)
   closed-written i n l ls e = go (same_lists eqb l (closing_text (i + 1))) refl (is_end ls) refl e
     where
-      go : (s : Bool) → same_lists eqb l (closing_text (i + 1)) ≡ s → (t : Bool) → is_end ls ≡ t → cond s (cond t (Records i) (Fault (place_at (i + 1) 0) After)) (Fault (place_at i 0) Closing) ≡ Records n → Whole i n (l ∷ ls)
+      go : (s : Bool) → same_lists eqb l (closing_text (i + 1)) ≡ s → (t : Bool) → is_end ls ≡ t → cond s (cond t (Ok i) (fault_at (place_at (i + 1) 0) After)) (fault_at (place_at i 0) Closing) ≡ Ok n → Whole i n (l ∷ ls)
       go true a true b e =
           let q : i ≡ n = cc in
           record {
@@ -90,37 +91,37 @@ module _ (kind : FileKind) where
       }
 
   -- what no CR ends is a fault
-  unended-never : {n : ℕ} {A : Type 0} (i : ℕ) (l : List ℕ) → unended kind i l ≡ Records n → A
+  unended-never : {n : ℕ} {A : Type 0} (i : ℕ) (l : List ℕ) → unended kind i l ≡ Ok n → A
   unfolding unended
   unended-never {n} {A} i l e = go (record_fault kind l) e
     where
-      go : (r : RecordCheck) → on_line i r (Fault (place_at i (end_pos kind)) Length) ≡ Records n → A
-      go Right e = never (place_at i (end_pos kind)) Length e
-      go (Wrong field cause) e = never (place_at i field) cause e
+      go : (r : Result ⊤ FieldFault) → on_line i r (fault_at (place_at i (end_pos kind)) Length) ≡ Ok n → A
+      go (Ok tt) e = never (place_at i (end_pos kind)) Length e
+      go (Err fault) e = never (place_at i fault.field) fault.cause e
 
-  last-never : {n : ℕ} {A : Type 0} (i : ℕ) (l : List ℕ) → last_line kind i l ≡ Records n → A
+  last-never : {n : ℕ} {A : Type 0} (i : ℕ) (l : List ℕ) → last_line kind i l ≡ Ok n → A
   unfolding last_line
   last-never {n} {A} i l e = go (eqb (length l) 0 || begins l) e
     where
-      go : (t : Bool) → cond t (Fault (place_at i 0) Closing) (unended kind i l) ≡ Records n → A
+      go : (t : Bool) → cond t (fault_at (place_at i 0) Closing) (unended kind i l) ≡ Ok n → A
       go true e = never (place_at i 0) Closing e
       go false e = unended-never i l e
 
-  pub lines-written : (ls : List (List ℕ)) (i n : ℕ) → judged kind i ls ≡ Records n → Whole i n ls
+  pub lines-written : (ls : List (List ℕ)) (i n : ℕ) → judged kind i ls ≡ Ok n → Whole i n ls
   unfolding judged
   lines-written [] i n e = last-never i [] e
   lines-written (l ∷ []) i n e = last-never i l e
   lines-written (l ∷ m ∷ ls) i n e = go (begins l) (record_fault kind l) refl e (lines-written (m ∷ ls) (i + 1) n)
     where
-      go : (s : Bool) (r : RecordCheck) → record_fault kind l ≡ r → cond s (closed i l (m ∷ ls)) (on_line i r (judged kind (i + 1) (m ∷ ls))) ≡ Records n → (judged kind (i + 1) (m ∷ ls) ≡ Records n → Whole (i + 1) n (m ∷ ls)) → Whole i n (l ∷ m ∷ ls)
+      go : (s : Bool) (r : Result ⊤ FieldFault) → record_fault kind l ≡ r → cond s (closed i l (m ∷ ls)) (on_line i r (judged kind (i + 1) (m ∷ ls))) ≡ Ok n → (judged kind (i + 1) (m ∷ ls) ≡ Ok n → Whole (i + 1) n (m ∷ ls)) → Whole i n (l ∷ m ∷ ls)
       go true r q e ih = closed-written i n l (m ∷ ls) e
-      go false Right q e ih = whole-more i n l (m ∷ ls) (right-record kind l q) (ih e)
-      go false (Wrong field cause) q e ih = never (place_at i field) cause e
+      go false (Ok tt) q e ih = whole-more i n l (m ∷ ls) (right-record kind l q) (ih e)
+      go false (Err fault) q e ih = never (place_at i fault.field) fault.cause e
 
   -- ---- one record
-  pub one-read : (t : List ℕ) → is_record kind t ≡ true → judged_one kind (t ∷ [] ∷ []) ≡ Records 1
+  pub one-read : (t : List ℕ) → is_record kind t ≡ true → judged_one kind (t ∷ [] ∷ []) ≡ Ok 1
   unfolding judged_one
-  one-read t e = rw (record-right kind t e)
+  one-read t e = rw (record_has_no_fault kind t e)
 
   pub record WholeOne (n : ℕ) (ls : List (List ℕ)) : Type 0 where
     pub text : List ℕ
@@ -128,15 +129,15 @@ module _ (kind : FileKind) where
     pub count : n ≡ 1
     pub good : is_record kind text ≡ true
 
-  pub one_written : (ls : List (List ℕ)) (n : ℕ) → judged_one kind ls ≡ Records n → WholeOne n ls
+  pub one_written : (ls : List (List ℕ)) (n : ℕ) → judged_one kind ls ≡ Ok n → WholeOne n ls
   unfolding judged_one
   one_written [] n e = unended-never 0 [] e
   one_written (l ∷ []) n e = unended-never 0 l e
   one_written (l ∷ m ∷ ls) n e = go (record_fault kind l) refl (is_end (m ∷ ls)) refl e
     where
-      go : (r : RecordCheck) → record_fault kind l ≡ r → (t : Bool) → is_end (m ∷ ls) ≡ t → on_line 0 r (cond t (Records 1) (Fault (place_at 1 0) After)) ≡ Records n → WholeOne n (l ∷ m ∷ ls)
-      go Right a true b e =
+      go : (r : Result ⊤ FieldFault) → record_fault kind l ≡ r → (t : Bool) → is_end (m ∷ ls) ≡ t → on_line 0 r (cond t (Ok 1) (fault_at (place_at 1 0) After)) ≡ Ok n → WholeOne n (l ∷ m ∷ ls)
+      go (Ok tt) a true b e =
           let q : 1 ≡ n = cc in
           record { text = l; lines = ap (λ (r : List (List ℕ)). l ∷ r) (end-only (m ∷ ls) b); count = omega arith; good = right-record kind l a }
-      go Right a false b e = never (place_at 1 0) After e
-      go (Wrong field cause) a t b e = never (place_at 0 field) cause e
+      go (Ok tt) a false b e = never (place_at 1 0) After e
+      go (Err fault) a t b e = never (place_at 0 fault.field) fault.cause e

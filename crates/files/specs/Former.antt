@@ -1,5 +1,7 @@
 -- How files were judged before a fault had a field and a cause: how many records a file has, or the place of its first fault. `proofs/AsBefore` shows
 -- that which files are refused, and at which record, has stayed. Assumes nothing: these are definitions.
+use Rattle.std.specs.Prelude.{Result, Ok, Err}
+use Rattle.files.specs.declared.judge.Fault.{Fault as FileFault}
 use Rattle.std.specs.Prelude.{eqb, ℕ, ◌+◌, Bool, cond, List, [], ◌∷◌}
 use Rattle.laws.specs.Lists.{same_lists}
 use Rattle.laws.specs.Split.{split}
@@ -7,7 +9,6 @@ use Rattle.records.specs.closing.Closing.{begins, closing_text}
 use Rattle.records.specs.declared.names.kind.FileKind.{FileKind}
 use Rattle.records.specs.names.Kind.{has_closing}
 use Rattle.records.specs.Record.{is_record}
-use Rattle.files.specs.declared.judge.Judged.{Judged}
 use Rattle.files.specs.Judged.{is_end}
 
 pub data Former : Type 0 where
@@ -32,6 +33,6 @@ unfoldable pub former_file : FileKind → List ℕ → Former
 former_file kind file = cond (has_closing kind) (former_judged (is_record kind) 0 (split 13 file)) (former_one (is_record kind) (split 13 file))
 
 -- what was told of a file before: the record, without field and cause
-abbrev pub formerly : Judged → Former
-formerly (Judged.Records n) = Former.Records n
-formerly (Judged.Fault place cause) = Former.Fault place.place
+abbrev pub formerly : Result ℕ FileFault → Former
+formerly (Ok n) = Former.Records n
+formerly (Err fault) = Former.Fault fault.at.place

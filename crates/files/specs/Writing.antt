@@ -1,11 +1,11 @@
 -- Files written from plain words. Assumes nothing: these are definitions.
+use Rattle.std.specs.Prelude.{Result, Ok, Err}
+use Rattle.records.specs.declared.names.written.NotWritten.{NotWritten}
 use Rattle.std.specs.Prelude.{ℕ, zero, suc, ◌+◌, Bool, cond, not, List, [], ◌∷◌, ◌++◌, map, leb, length, take, drop}
 use Rattle.laws.specs.Lists.{all, first_at}
 use Rattle.laws.specs.Ended.{ended}
 use Rattle.records.specs.closing.Closing.{closing_text}
 use Rattle.records.specs.declared.names.kind.FileKind.{FileKind}
-use Rattle.records.specs.declared.names.written.Written.{Written}
-use Rattle.records.specs.declared.names.written.Written.TheVariants.{Length, Long}
 use Rattle.records.specs.names.Kind.{has_closing}
 use Rattle.records.specs.Record.{width_of, fits, text_of}
 
@@ -54,9 +54,9 @@ unfoldable pub file_of : FileKind → List ℕ → List ℕ
 file_of kind words = file_text kind (map (text_of kind) (values_in kind words))
 
 -- what the writer answers, to a buffer of `room` bytes: 4 first, then 41
-abbrev pub answer_to : Holding → List ℕ → ℕ → Written
-answer_to (Fault i) text room = Written.Fault i
-answer_to (Records n) text room = cond (leb (length text) room) (Length (length text)) Long
+abbrev pub answer_to : Holding → List ℕ → ℕ → Result ℕ NotWritten
+answer_to (Fault i) text room = Err (NotWritten.Fault i)
+answer_to (Records n) text room = cond (leb (length text) room) (Ok (length text)) (Err NotWritten.Long)
 
-unfoldable pub file_answer : FileKind → List ℕ → ℕ → Written
+unfoldable pub file_answer : FileKind → List ℕ → ℕ → Result ℕ NotWritten
 file_answer kind words room = answer_to (held kind (values_in kind words)) (file_of kind words) room

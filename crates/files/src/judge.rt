@@ -1,111 +1,118 @@
 // How many records a file has, or its first fault, found in one pass.
 ghost use Rattle.std.specs.Prelude.{◌≡◌, ◌+◌, ◌≤◌, ◌<◌, length, drop};
 ghost use Rattle.laws.specs.Split.{split, between};
-ghost use Rattle.files.specs.declared.judge.Judged.{Judged};
-ghost use Rattle.files.specs.Judged.{place_at, closed, unended, last_line, judged, judged_one, judged_file};
+ghost use Rattle.faults.specs.Record.{record_fault};
+ghost use Rattle.files.specs.Judged.{place_at, fault_of, at_line, closed, unended, last_line, judged, judged_one, judged_file};
 
-use faults::cause::{Cause, FaultPlace, RecordCheck};
+use faults::cause::{Cause, FaultPlace};
 use records::names::kind::FileKind;
 
-// A file has so many records, or a fault: at a place, with a cause.
+// The first fault of a file: where it is, and why.
 #[derive(Clone, Copy)]
-pub enum Judged {
-    Records(usize),
-    Fault(FaultPlace, Cause),
+pub struct Fault {
+    pub at: FaultPlace,
+    pub cause: Cause,
 }
 
 // A fault of the whole file stands at the place `i`, in no field.
-fn at_line(i: usize, cause: Cause) -> Judged
-    ensures { result ≡ Judged.Fault (place_at i 0) cause }
+fn at_line(i: usize, cause: Cause) -> Fault
+    ensures { result ≡ fault_of (place_at i 0) cause }
 {
-    Judged::Fault(FaultPlace { place: i, field: 0 }, cause)
+    Fault {
+        at: FaultPlace { place: i, field: 0 },
+        cause,
+    }
 }
 
 // A fault in a field of the record at the place `i`.
-fn at_field(i: usize, field: usize, cause: Cause) -> Judged
-    ensures { result ≡ Judged.Fault (place_at i field) cause }
+fn at_field(i: usize, field: usize, cause: Cause) -> Fault
+    ensures { result ≡ fault_of (place_at i field) cause }
 {
-    Judged::Fault(FaultPlace { place: i, field }, cause)
+    Fault {
+        at: FaultPlace { place: i, field },
+        cause,
+    }
+}
+
+// Whether the line at the place `i` is a record.
+fn check(kind: FileKind, line: &[u8], i: usize) -> Result<(), Fault>
+    ensures { result ≡ at_line i (record_fault kind line.now) }
+{
+    faults::record::check(kind, line).map_err(|fault| at_field(i, fault.field, fault.cause))
 }
 
 // The line from `at` to `end`, at the place `i`, begins as a closing record does.
-fn judge_closing(file: &[u8], at: usize, end: usize, i: usize) -> Judged
+fn judge_closing(file: &[u8], at: usize, end: usize, i: usize) -> Result<usize, Fault>
     requires { (at ≤ end) × ((end < length file.now) × (i ≤ at)) }
     ensures { result ≡ closed i (between file.now at end) (split 13 (drop (end + 1) file.now)) }
 {
     let count = (i + 1) as u64;
     if !records::closing::is_closing(&file[at..end], count) {
-        return at_line(i, Cause::Closing);
+        return Err(at_line(i, Cause::Closing));
     }
     if end + 1 < file.len() {
-        return at_line(i + 1, Cause::After);
+        return Err(at_line(i + 1, Cause::After));
     }
-    Judged::Records(i)
+    Ok(i)
 }
 
 // A line that no CR ends.
-fn judge_unended(kind: FileKind, line: &[u8], i: usize) -> Judged
+#[tactic(auto, unfolding(crate::specs::Judged::unended))]
+fn judge_unended(kind: FileKind, line: &[u8], i: usize) -> Result<usize, Fault>
     ensures { result ≡ unended kind i line.now }
 {
-    match faults::record::check(kind, line) {
-        RecordCheck::Wrong(field, cause) => at_field(i, field, cause),
-        RecordCheck::Right => at_field(i, faults::record::end_pos(kind), Cause::Length),
-    }
+    check(kind, line, i)?;
+    Err(at_field(i, faults::record::end_pos(kind), Cause::Length))
 }
 
 // What stands behind the last CR.
-fn judge_last(kind: FileKind, line: &[u8], i: usize) -> Judged
+#[tactic(auto, using(std::proofs::lemmas::Bool::Decides::nat_tests), unfolding(crate::specs::Judged::last_line))]
+fn judge_last(kind: FileKind, line: &[u8], i: usize) -> Result<usize, Fault>
     ensures { result ≡ last_line kind i line.now }
 {
-    if line.len() == 0 {
-        return at_line(i, Cause::Closing);
-    }
-    if records::closing::begins(line) {
-        return at_line(i, Cause::Closing);
+    if line.is_empty() || records::closing::begins(line) {
+        return Err(at_line(i, Cause::Closing));
     }
     judge_unended(kind, line, i)
 }
 
-// A file with a closing record.
-fn judge_closed(kind: FileKind, file: &[u8]) -> Judged
+// A file with a closing record. Its lines are searched one by one: where one ends the next begins, so a chain over all lines would look for
+// ends that a fault makes needless.
+fn judge_closed(kind: FileKind, file: &[u8]) -> Result<usize, Fault>
     ensures { result ≡ judged kind 0 (split 13 file.now) }
 {
     let mut at: usize = 0;
     let mut i: usize = 0;
-    let mut end = text::field_end(file, 0, 13);
+    let mut end = text::field_end(file, 0, b'\r');
     while end < file.len() {
         if records::closing::begins(&file[at..end]) {
             return judge_closing(file, at, end, i);
         }
-        if let RecordCheck::Wrong(field, cause) = faults::record::check(kind, &file[at..end]) {
-            return at_field(i, field, cause);
-        }
+        check(kind, &file[at..end], i)?;
         at = end + 1;
         i += 1;
-        end = text::field_end(file, at, 13);
+        end = text::field_end(file, at, b'\r');
     }
     judge_last(kind, &file[at..], i)
 }
 
 // A file of one record, without a closing record.
-fn judge_one(kind: FileKind, file: &[u8]) -> Judged
+fn judge_one(kind: FileKind, file: &[u8]) -> Result<usize, Fault>
     ensures { result ≡ judged_one kind (split 13 file.now) }
 {
-    let end = text::field_end(file, 0, 13);
+    let end = text::field_end(file, 0, b'\r');
     if file.len() <= end {
         return judge_unended(kind, file, 0);
     }
-    if let RecordCheck::Wrong(field, cause) = faults::record::check(kind, &file[0..end]) {
-        return at_field(0, field, cause);
+    check(kind, &file[..end], 0)?;
+    if end + 1 != file.len() {
+        return Err(at_line(1, Cause::After));
     }
-    let behind = end + 1;
-    if behind < file.len() {
-        return at_line(1, Cause::After);
-    }
-    Judged::Records(1)
+    Ok(1)
 }
 
-pub fn judge(kind: FileKind, file: &[u8]) -> Judged
+#[tactic(auto, unfolding(crate::specs::Judged::judged_file))]
+pub fn judge(kind: FileKind, file: &[u8]) -> Result<usize, Fault>
     ensures { result ≡ judged_file kind file.now }
 {
     if kind.has_closing() {

@@ -1,46 +1,50 @@
 // The record at a place of a file: its bytes, as a part of the lent file.
 ghost use Rattle.std.specs.Prelude.{◌≡◌};
 ghost use Rattle.laws.specs.Split.{end_of};
+ghost use Rattle.files.specs.declared.read.NoRecord.{NoRecord};
 ghost use Rattle.files.specs.Reading.{found_at, record_at};
 
-use crate::judge::Judged;
-use faults::cause::{Cause, FaultPlace};
+use crate::judge::Fault;
 use records::names::kind::FileKind;
 
-// What stands at a place of a file: a record; or 4, where the file's first fault is, and why; or 7, the place is beyond the records.
-#[derive(Drop)]
-pub enum Found {
-    Record,
-    Fault(FaultPlace, Cause),
+// Why no record stands at a place of a file: 4, the file has a fault; or 7, the place is beyond the records.
+#[derive(Clone, Copy)]
+pub enum NoRecord {
+    Fault(Fault),
     Beyond,
 }
 
-pub fn find(kind: FileKind, file: &[u8], place: usize) -> Found
-    ensures { result ≡ found_at kind file.now place }
-{
-    match crate::judge::judge(kind, file) {
-        Judged::Fault(at, cause) => Found::Fault(at, cause),
-        Judged::Records(n) => {
-            if place < n {
-                Found::Record
-            } else {
-                Found::Beyond
-            }
-        }
+impl From<Fault> for NoRecord {
+    ghost from_gives = { λ fault none. none ≡ NoRecord.Fault fault };
+
+    fn from(fault: Fault) -> NoRecord {
+        NoRecord::Fault(fault)
     }
 }
 
-// The bytes of the record at a place; nothing where there is none.
+// Whether a record stands at a place of a file.
+#[tactic(auto, unfolding(crate::specs::Reading::found_at))]
+pub fn find(kind: FileKind, file: &[u8], place: usize) -> Result<(), NoRecord>
+    ensures { result ≡ found_at kind file.now place }
+{
+    let n = crate::judge::judge(kind, file)?;
+    if place < n {
+        Ok(())
+    } else {
+        Err(NoRecord::Beyond)
+    }
+}
+
+// The bytes of the record at a place; nothing where there is none. A file with a fault has none.
+#[tactic(auto, using(crate::proofs::ReadLaws::record_line, crate::proofs::ReadLaws::record_beyond))]
 pub fn record_bytes<'a>(kind: FileKind, file: &'a [u8], place: usize) -> &'a [u8]
     ensures { result.now ≡ record_at kind file.now place }
 {
-    let Judged::Records(n) = crate::judge::judge(kind, file) else {
-        return &file[0..0];
-    };
+    let n = crate::judge::judge(kind, file).unwrap_or(0);
     if n <= place {
-        return &file[0..0];
+        return &file[..0];
     }
-    text::piece(file, 13, place)
+    text::piece(file, b'\r', place)
 }
 
 // Where the line that starts at `at` ends. Whoever has judged a file goes through its records by this: the first starts at 0, each other
@@ -48,5 +52,5 @@ pub fn record_bytes<'a>(kind: FileKind, file: &'a [u8], place: usize) -> &'a [u8
 pub fn line_end(file: &[u8], at: usize) -> usize
     ensures { result ≡ end_of 13 file.now at }
 {
-    text::field_end(file, at, 13)
+    text::field_end(file, at, b'\r')
 }

@@ -1,6 +1,5 @@
 // Files and names: each read, files record by record, and written back.
 use crate::{lines, show, writing};
-use files::judge::Judged;
 use records::names::kind::FileKind;
 use records::names::name::Name;
 
@@ -58,7 +57,7 @@ pub fn walk(rt: &impl Print, kind: FileKind, file: &[u8], n: usize, said: bool) 
 pub fn file(rt: &impl Print, kind: FileKind, file: &[u8], numbers: &[u8]) {
     let j = files::judge::judge(kind, file);
     show::judged(rt, j);
-    let Judged::Records(n) = j else {
+    let Ok(n) = j else {
         return;
     };
     if walk(rt, kind, file, n, true) != n {

@@ -5,7 +5,6 @@ ghost use Rattle.layout.specs.Correction.{correction_fits};
 ghost use Rattle.layout.specs.Request.{request_fits};
 
 use crate::show;
-use files::values::{CorrectionAt, ReportAt, RequestAt};
 use layout::correction::Correction;
 use layout::report::Report;
 use layout::request::Request;
@@ -49,7 +48,7 @@ fn report(s: &[u8], place: usize, out: &mut [u8]) -> usize {
         };
         return put_report(r, out);
     }
-    let ReportAt::Report(r) = files::values::read_report(s, place) else {
+    let Ok(r) = files::values::read_report(s, place) else {
         return 1000;
     };
     put_report(r, out)
@@ -62,7 +61,7 @@ fn correction(s: &[u8], place: usize, out: &mut [u8]) -> usize {
         };
         return put_correction(c, out);
     }
-    let CorrectionAt::Correction(c) = files::values::read_correction(s, place) else {
+    let Ok(c) = files::values::read_correction(s, place) else {
         return 1000;
     };
     put_correction(c, out)
@@ -75,7 +74,7 @@ fn request(s: &[u8], place: usize, out: &mut [u8]) -> usize {
         };
         return put_request(r, out);
     }
-    let RequestAt::Request(r) = files::values::read_request(s, place) else {
+    let Ok(r) = files::values::read_request(s, place) else {
         return 1000;
     };
     put_request(r, out)

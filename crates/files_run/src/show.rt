@@ -1,7 +1,7 @@
 // Words for what was found.
-use files::judge::Judged;
+use files::judge::Fault;
 use records::names::kind::FileKind;
-use records::names::written::Written;
+use records::names::written::NotWritten;
 
 // What can't be written is left out.
 pub fn say(rt: &impl Print, text: &[u8]) {
@@ -85,72 +85,68 @@ fn fault(rt: &impl Print, place: usize) {
 }
 
 // `N records`, or `4 at I`
-pub fn judged(rt: &impl Print, j: Judged) {
+pub fn judged(rt: &impl Print, j: Result<usize, Fault>) {
     match j {
-        Judged::Records(n) => records(rt, n),
-        Judged::Fault(at, _) => fault(rt, at.place),
+        Ok(n) => records(rt, n),
+        Err(first) => fault(rt, first.at.place),
     }
 }
 
 // `N bytes`, or `4 at I`, or `41`
-pub fn written(rt: &impl Print, w: Written) {
+pub fn written(rt: &impl Print, w: Result<usize, NotWritten>) {
     match w {
-        Written::Length(n) => {
+        Ok(n) => {
             number(rt, n);
             word(rt, 9);
         }
-        Written::Fault(i) => fault(rt, i),
-        Written::Long => word(rt, 32),
+        Err(NotWritten::Fault(i)) => fault(rt, i),
+        Err(NotWritten::Long) => word(rt, 32),
     }
 }
 
 // How many bytes were written, and 0 where it was refused.
-pub fn length(w: Written) -> usize {
-    match w {
-        Written::Length(n) => n,
-        Written::Fault(_) => 0,
-        Written::Long => 0,
-    }
+pub fn length(w: Result<usize, NotWritten>) -> usize {
+    w.unwrap_or(0)
 }
 
 // `N records`, or place, field and cause
-pub fn found(rt: &impl Print, j: Judged) {
+pub fn found(rt: &impl Print, j: Result<usize, Fault>) {
     match j {
-        Judged::Records(n) => records(rt, n),
-        Judged::Fault(at, why) => {
-            number(rt, at.place);
+        Ok(n) => records(rt, n),
+        Err(fault) => {
+            number(rt, fault.at.place);
             word(rt, BLANK);
-            number(rt, at.field);
+            number(rt, fault.at.field);
             word(rt, BLANK);
-            word(rt, CAUSES + why.number() as usize);
+            word(rt, CAUSES + fault.cause.number() as usize);
         }
     }
 }
 
 // A letter for a count of records, from `a` for none; a digit for the place of a fault.
-pub fn sign(rt: &impl Print, j: Judged) {
+pub fn sign(rt: &impl Print, j: Result<usize, Fault>) {
     let b = match j {
-        Judged::Records(n) => (97 + n % 26) as u8,
-        Judged::Fault(at, _) => (48 + at.place % 10) as u8,
+        Ok(n) => (97 + n % 26) as u8,
+        Err(fault) => (48 + fault.at.place % 10) as u8,
     };
     let one = [b; 1];
     say(rt, &one);
 }
 
 // A number for what was found, from 1. No case has a thousand records.
-fn sum(j: Judged) -> u64 {
+fn sum(j: Result<usize, Fault>) -> u64 {
     match j {
-        Judged::Records(n) => 1 + n as u64 % 1000,
-        Judged::Fault(at, why) => {
-            let place = at.place as u64 % 1000;
-            let field = at.field as u64 % 1000;
-            1000 + place + field * 1000 + why.number() as u64 * 1000000
+        Ok(n) => 1 + n as u64 % 1000,
+        Err(fault) => {
+            let place = fault.at.place as u64 % 1000;
+            let field = fault.at.field as u64 % 1000;
+            1000 + place + field * 1000 + fault.cause.number() as u64 * 1000000
         }
     }
 }
 
 // What was found at `at`, said where it is not what was found before.
-pub fn changed(rt: &impl Print, at: usize, j: Judged, last: u64) -> u64 {
+pub fn changed(rt: &impl Print, at: usize, j: Result<usize, Fault>, last: u64) -> u64 {
     let mark = sum(j);
     if mark != last {
         word(rt, FROM);

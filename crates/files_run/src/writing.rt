@@ -1,7 +1,6 @@
 // Files written from words. The numbers of a case, with blanks between them: the length of the buffer, how many words there are, and the words;
 // where these are fewer they are taken again, the first of them one higher each time.
 use crate::{examples, show};
-use files::judge::Judged;
 use records::names::kind::FileKind;
 
 fn number(s: &[u8], k: usize) -> u64 {
@@ -73,7 +72,7 @@ fn changed(rt: &impl Print, s: &[u8], at: usize) {
 fn found(rt: &impl Print, kind: FileKind, file: &[u8]) {
     let j = files::judge::judge(kind, file);
     show::judged(rt, j);
-    let Judged::Records(n) = j else {
+    let Ok(n) = j else {
         return;
     };
     show::word(rt, show::COMMA);

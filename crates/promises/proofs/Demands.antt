@@ -30,9 +30,7 @@
 --     reworked-as-worked-out             what answer 0 of reworking leaves: the same lines and files, and the entries that the first n files lead to
 --     rework-lists-once                  reworking lists each line whose entry reads otherwise than before, once
 -- Assumes nothing.
-use Rattle.std.specs.Prelude.{Ok, Result}
-use Rattle.std.specs.Prelude.{None}
-use Rattle.std.specs.Prelude.{Option, Some}
+use Rattle.std.specs.Prelude.{Ok, Result, None, Option, Some}
 use mathlib.Core.Path.{◌≡◌, ◌∙◌}
 use mathlib.Core.Logic.{◌⊎◌, ⊎_elim}
 use mathlib.Core.Bool.{true, false}
@@ -47,14 +45,10 @@ use Rattle.layout.specs.declared.correction.Correction.{Correction}
 use Rattle.layout.specs.Report.{report_of_words}
 use Rattle.layout.specs.Correction.{correction_of_words}
 use Rattle.records.specs.declared.names.kind.FileKind.{FileKind}
-use Rattle.records.specs.declared.names.written.Written.{Written}
 use Rattle.records.specs.names.Written.{Wrote}
 use Rattle.records.specs.Record.{text_of}
-use Rattle.files.specs.declared.judge.Judged.TheVariants.{Records}
 use Rattle.files.specs.Judged.{judged_file, records_of}
 use Rattle.files.specs.Writing.{values_in, file_text, file_of, file_answer}
-use Rattle.files.specs.declared.values.ReportAt.{ReportAt}
-use Rattle.files.specs.declared.values.CorrectionAt.{CorrectionAt}
 use Rattle.files.specs.Values.{report_at, correction_at}
 use Rattle.files.proofs.FileTrip.{file-written}
 use Rattle.model.specs.Rules.{TableLine, Event}
@@ -147,25 +141,25 @@ filed-joins-and-renews-c s = joined-and-renewed-c s
 
 -- ---- demand 2
 -- what is written reads back: a file of as many records, each with the bytes of the values that were given
-pub written-reads-back : (kind : FileKind) (words : List ℕ) {before after : List ℕ} {n : ℕ} → Wrote (file_answer kind words (length before)) (file_of kind words) before after (Written.Length n)
-    → (judged_file kind (take n after) ≡ Records (length (values_in kind words))) × (records_of kind (take n after) ≡ map (text_of kind) (values_in kind words))
+pub written-reads-back : (kind : FileKind) (words : List ℕ) {before after : List ℕ} {n : ℕ} → Wrote (file_answer kind words (length before)) (file_of kind words) before after (Ok n)
+    → (judged_file kind (take n after) ≡ Ok (length (values_in kind words))) × (records_of kind (take n after) ≡ map (text_of kind) (values_in kind words))
 written-reads-back kind words s = reads-back kind words s
 
 pub written-reads-back-c : (kind : ℕ) (words : List ℕ) {before after : List ℕ} {more : ℕ} → Writes (file_answer (kind_by kind) words (length before)) (file_of (kind_by kind) words) before after 0 more
-    → (judged_file (kind_by kind) (take more after) ≡ Records (length (values_in (kind_by kind) words))) × (records_of (kind_by kind) (take more after) ≡ map (text_of (kind_by kind)) (values_in (kind_by kind) words))
+    → (judged_file (kind_by kind) (take more after) ≡ Ok (length (values_in (kind_by kind) words))) × (records_of (kind_by kind) (take more after) ≡ map (text_of (kind_by kind)) (values_in (kind_by kind) words))
 written-reads-back-c kind words s = reads-back (kind_by kind) words (wrote-c s)
 
 -- record by record: the report that was given at a place is the one that is read there, and a correction likewise
-pub written-report-reads-back : (words : List ℕ) {before after : List ℕ} {n : ℕ} (k : ℕ) → Wrote (file_answer FileKind.Default words (length before)) (file_of FileKind.Default words) before after (Written.Length n)
-    → k < length (values_in FileKind.Default words) → (x : Report) → report_of_words (get_or (values_in FileKind.Default words) k []) ≡ Some x → report_at (take n after) k ≡ ReportAt.Report x
+pub written-report-reads-back : (words : List ℕ) {before after : List ℕ} {n : ℕ} (k : ℕ) → Wrote (file_answer FileKind.Default words (length before)) (file_of FileKind.Default words) before after (Ok n)
+    → k < length (values_in FileKind.Default words) → (x : Report) → report_of_words (get_or (values_in FileKind.Default words) k []) ≡ Some x → report_at (take n after) k ≡ Ok x
 written-report-reads-back words k s = report-back words k s
 
-pub written-correction-reads-back : (words : List ℕ) {before after : List ℕ} {n : ℕ} (k : ℕ) → Wrote (file_answer FileKind.Correction words (length before)) (file_of FileKind.Correction words) before after (Written.Length n)
-    → k < length (values_in FileKind.Correction words) → (x : Correction) → correction_of_words (get_or (values_in FileKind.Correction words) k []) ≡ Some x → correction_at (take n after) k ≡ CorrectionAt.Correction x
+pub written-correction-reads-back : (words : List ℕ) {before after : List ℕ} {n : ℕ} (k : ℕ) → Wrote (file_answer FileKind.Correction words (length before)) (file_of FileKind.Correction words) before after (Ok n)
+    → k < length (values_in FileKind.Correction words) → (x : Correction) → correction_of_words (get_or (values_in FileKind.Correction words) k []) ≡ Some x → correction_at (take n after) k ≡ Ok x
 written-correction-reads-back words k s = correction-back words k s
 
 -- and a file that reads is exactly its records, each with its CR, and the closing record where its kind has one
-pub read-is-written-again : (kind : FileKind) (file : List ℕ) (n : ℕ) → judged_file kind file ≡ Records n → (file ≡ file_text kind (records_of kind file)) × (length (records_of kind file) ≡ n)
+pub read-is-written-again : (kind : FileKind) (file : List ℕ) (n : ℕ) → judged_file kind file ≡ Ok n → (file ≡ file_text kind (records_of kind file)) × (length (records_of kind file) ≡ n)
 read-is-written-again kind file n e = let w = file-written kind file n e in (w.0.whole, w.1)
 
 -- "cases marked (p) are shown about the definitions as a single table under a single claim"

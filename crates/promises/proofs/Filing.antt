@@ -1,4 +1,6 @@
 -- What answer 0 of filing leaves, from its contract alone. Assumes nothing.
+use Rattle.std.specs.Prelude.{Result, Ok, Err}
+use Rattle.files.specs.declared.judge.Fault.{Fault}
 use Rattle.std.specs.Prelude.{Option, Some, None}
 use mathlib.Core.Path.{◌≡◌, refl, sym, ap, subst, ◌∙◌}
 use mathlib.Core.Bool.{Bool, true, false, cond, not, ◌||◌, false≢true}
@@ -18,7 +20,6 @@ use Rattle.fields.specs.Number.{same_number}
 use Rattle.fields.specs.declared.code.Code.{Code}
 use Rattle.fields.specs.declared.number.Number.{Number}
 use Rattle.files.specs.Judged.{judged_file, records_of as texts_of}
-use Rattle.files.specs.declared.judge.Judged.{Judged}
 use Rattle.entries.specs.declared.entry.Entry.{Entry}
 use Rattle.model.specs.Rules.{TableLine}
 use Rattle.model.specs.Model.{Filed, Store, alike, event_at, events, journal_of, about, named, entry_over, count_of, renewed, filed}
@@ -54,15 +55,15 @@ module _ (files : List Filed) (kind : Filable) (day : ℕ) (text : List ℕ) (f 
   room-accepts g true q = cc
   room-accepts g false q = never Answer.Full f q
 
-  text-accepts : (g : Filed) (j : Judged) → judged_to files g j ≡ Accept f → g ≡ f
-  text-accepts g (Judged.Fault place cause) q = never (Answer.Fault place cause) f q
-  text-accepts g (Judged.Records m) q = room-accepts g (within_limits (files ++ (g ∷ []))) q
+  text-accepts : (g : Filed) (j : Result ℕ Fault) → judged_to files g j ≡ Accept f → g ≡ f
+  text-accepts g (Err fault) q = never (Answer.Fault fault.at fault.cause) f q
+  text-accepts g (Ok m) q = room-accepts g (within_limits (files ++ (g ∷ []))) q
 
-  new-accepts : (g : Filed) (j : Judged) (t : Bool) → cond t (Refuse Answer.FiledAlready) (judged_to files g j) ≡ Accept f → g ≡ f
+  new-accepts : (g : Filed) (j : Result ℕ Fault) (t : Bool) → cond t (Refuse Answer.FiledAlready) (judged_to files g j) ≡ Accept f → g ≡ f
   new-accepts g j true q = never Answer.FiledAlready f q
   new-accepts g j false q = text-accepts g j q
 
-  day-accepts : (g : Filed) (j : Judged) (t : Bool) → cond t (new_to files g j) (Refuse Answer.NoDay) ≡ Accept f → g ≡ f
+  day-accepts : (g : Filed) (j : Result ℕ Fault) (t : Bool) → cond t (new_to files g j) (Refuse Answer.NoDay) ≡ Accept f → g ≡ f
   unfolding new_to
   day-accepts g j true q = new-accepts g j (any (alike g) files) q
   day-accepts g j false q = never Answer.NoDay f q
@@ -87,16 +88,16 @@ module _ (files : List Filed) (kind : Filable) (day : ℕ) (text : List ℕ) whe
   room-line f true = refl
   room-line f false = refl
 
-  text-line : (f : Filed) (j : Judged) → number_to (judged_to files f j) ≡ first_line ((is_fault j, 4) ∷ (not (within_limits (files ++ (f ∷ []))), 5) ∷ []) 0
-  text-line f (Judged.Fault place cause) = refl
-  text-line f (Judged.Records m) = room-line f (within_limits (files ++ (f ∷ [])))
+  text-line : (f : Filed) (j : Result ℕ Fault) → number_to (judged_to files f j) ≡ first_line ((is_fault j, 4) ∷ (not (within_limits (files ++ (f ∷ []))), 5) ∷ []) 0
+  text-line f (Err fault) = refl
+  text-line f (Ok m) = room-line f (within_limits (files ++ (f ∷ [])))
 
-  new_line : (f : Filed) (j : Judged) (t : Bool)
+  new_line : (f : Filed) (j : Result ℕ Fault) (t : Bool)
       → number_to (cond t (Refuse Answer.FiledAlready) (judged_to files f j)) ≡ first_line ((t, 3) ∷ (is_fault j, 4) ∷ (not (within_limits (files ++ (f ∷ []))), 5) ∷ []) 0
   new_line f j true = refl
   new_line f j false = text-line f j
 
-  day-line : (f : Filed) (j : Judged) (t : Bool)
+  day-line : (f : Filed) (j : Result ℕ Fault) (t : Bool)
       → number_to (cond t (new_to files f j) (Refuse Answer.NoDay)) ≡ first_line ((not t, 2) ∷ (any (alike f) files, 3) ∷ (is_fault j, 4) ∷ (not (within_limits (files ++ (f ∷ []))), 5) ∷ []) 0
   unfolding new_to
   day-line f j true = new_line f j (any (alike f) files)
@@ -145,7 +146,7 @@ module _ {b after : Buffers} {kind : Filable} {publisher : List ℕ} {day : ℕ}
   found : (c : Code) × (m : ℕ) × Enterable b kind c.0 day text m × (decide b kind publisher day text ≡ Accept (filed_as kind c.0 day text))
   found = go (is_readable b) refl
     where
-      judged : Judged
+      judged : Result ℕ Fault
       judged = judged_file (file_kind kind) text
 
       passing : (h : is_readable b ≡ true) (k : Checked) → checked b.files kind (code_of publisher) day judged ≡ k

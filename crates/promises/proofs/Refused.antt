@@ -1,6 +1,6 @@
 -- What a refusal leaves, function by function. Assumes nothing.
-use Rattle.std.specs.Prelude.{Err, Result}
-use Rattle.std.specs.Prelude.{Option, Some, None}
+use Rattle.std.specs.Prelude.{Err, Result, Option, Some, None, Ok}
+use Rattle.records.specs.declared.names.written.NotWritten.{NotWritten}
 use mathlib.Core.Path.{◌≡◌, refl, ap, ◌∙◌}
 use mathlib.Core.Bool.{Bool, true, false, cond, not}
 use mathlib.Core.List.{List, [], ◌∷◌}
@@ -9,7 +9,6 @@ use borrow.Author.Tests.{ne_eqb}
 use lib.ListN.{length}
 use Rattle.laws.specs.Lists.{first_line}
 use Rattle.laws.specs.Overlay.{overlay}
-use Rattle.records.specs.declared.names.written.Written.{Written}
 use Rattle.records.specs.names.Written.{after_writing}
 use Rattle.store.specs.Reads.{Buffers, Held, held, long_enough}
 use Rattle.store.specs.declared.numbers.lines.Line.{Line}
@@ -78,10 +77,10 @@ rework-stays {b} {n} {list} {answer} {entries} {listed} s not-0 = go (with_room 
     go (Some h) q e l = absurd (not-0 (ap reworked_number q))
 
 -- ---- writing
-written-stays : (right : Written) (text before after : List ℕ) → after ≡ after_writing right text before → (wrote_number right ≡ 0 → ⊥) → after ≡ before
-written-stays (Written.Length n) text before after e not-0 = absurd (not-0 refl)
-written-stays (Written.Fault place) text before after e not-0 = e
-written-stays Written.Long text before after e not-0 = e
+written-stays : (right : Result ℕ NotWritten) (text before after : List ℕ) → after ≡ after_writing right text before → (wrote_number right ≡ 0 → ⊥) → after ≡ before
+written-stays (Ok n) text before after e not-0 = absurd (not-0 refl)
+written-stays (Err (NotWritten.Fault place)) text before after e not-0 = e
+written-stays (Err NotWritten.Long) text before after e not-0 = e
 
 -- ---- showing
 shown-stays : {a : EntryAnswer} {before after : List ℕ} {answer : ℕ} → ShowsEntry a before answer after → (answer ≡ 0 → ⊥) → after ≡ before

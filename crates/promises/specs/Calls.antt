@@ -1,8 +1,7 @@
 -- Each public function that is lent memory to change: the paper's number that it answered, and what it was lent, before and after. Assumes nothing:
 -- these are definitions.
-use Rattle.std.specs.Prelude.{Result}
-use Rattle.std.specs.Prelude.{List, [], ◌∷◌, ℕ}
-use Rattle.records.specs.declared.names.written.Written.{Written}
+use Rattle.std.specs.Prelude.{Result, List, [], ◌∷◌, ℕ}
+use Rattle.records.specs.declared.names.written.NotWritten.{NotWritten}
 use Rattle.records.specs.names.Written.{Wrote}
 use Rattle.store.specs.Reads.{Buffers}
 use Rattle.starting.specs.declared.start.NotStarted.{NotStarted}
@@ -38,6 +37,6 @@ pub data Call : ℕ → List (List ℕ) → List (List ℕ) → Type 0 where
   rework-c : {b : Buffers} {list : List ℕ} {answer more : ℕ} {entries listed : List ℕ}
       → ReworksAs b list answer more entries listed → Call answer (b.entries ∷ list ∷ []) (entries ∷ listed ∷ [])
   -- a file or the name of one is written, and an entry shown, into a lent buffer
-  write : {right answer : Written} {text before after : List ℕ} → Wrote right text before after answer → Call (wrote_number answer) (before ∷ []) (after ∷ [])
-  write-c : {right : Written} {text before after : List ℕ} {answer more : ℕ} → Writes right text before after answer more → Call answer (before ∷ []) (after ∷ [])
+  write : {right answer : Result ℕ NotWritten} {text before after : List ℕ} → Wrote right text before after answer → Call (wrote_number answer) (before ∷ []) (after ∷ [])
+  write-c : {right : Result ℕ NotWritten} {text before after : List ℕ} {answer more : ℕ} → Writes right text before after answer more → Call answer (before ∷ []) (after ∷ [])
   show-c : {a : EntryAnswer} {before after : List ℕ} {answer : ℕ} → ShowsEntry a before answer after → Call answer (before ∷ []) (after ∷ [])

@@ -1,4 +1,6 @@
 -- What starting and filing answer, and what answer 0 of filing leaves in the buffers: paper 01, "What filing answers". Assumes nothing: these are definitions.
+use Rattle.std.specs.Prelude.{Result, Ok, Err}
+use Rattle.files.specs.declared.judge.Fault.{Fault}
 use Rattle.std.specs.Prelude.{Option, Some, None}
 use Rattle.std.specs.Prelude.{◌≡◌, Bool, true, false, not, List, [], ◌∷◌, ◌++◌, ℕ, ◌<◌}
 use Rattle.laws.specs.Lists.{any}
@@ -8,7 +10,6 @@ use Rattle.fields.specs.Code.{code_of}
 use Rattle.fields.specs.Number.{same_number}
 use Rattle.fields.specs.declared.code.Code.{Code}
 use Rattle.fields.specs.declared.number.Number.{Number}
-use Rattle.files.specs.declared.judge.Judged.{Judged}
 use Rattle.files.specs.Judged.{judged_file, records_of as texts_of}
 use Rattle.model.specs.Model.{Filed, alike, events, journal_of, entry_over, count_of}
 use Rattle.rules.specs.Records.{number_in}
@@ -34,9 +35,9 @@ abbrev pub is_no_table : Option (List Line) → Bool
 is_no_table (Some lines) = false
 is_no_table None = true
 
-abbrev pub is_fault : Judged → Bool
-is_fault (Judged.Records n) = false
-is_fault (Judged.Fault place cause) = true
+abbrev pub is_fault : Result ℕ Fault → Bool
+is_fault (Ok n) = false
+is_fault (Err fault) = true
 
 -- the file as it is offered; its publisher counts only once it is a network code
 abbrev pub offered_as : Filable → Option Code → ℕ → List ℕ → Filed

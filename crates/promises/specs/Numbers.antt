@@ -1,8 +1,7 @@
 -- The paper's number of each answer, and the values that are told with it, by the definitions beside the answers. Assumes nothing: these are definitions.
-use Rattle.std.specs.Prelude.{Result}
-use Rattle.std.specs.Prelude.{ℕ}
+use Rattle.std.specs.Prelude.{Result, ℕ}
+use Rattle.records.specs.declared.names.written.NotWritten.{NotWritten}
 use Rattle.laws.specs.Told.{value_at}
-use Rattle.records.specs.declared.names.written.Written.{Written}
 use Rattle.records.specs.names.Written.{written_told}
 use Rattle.starting.specs.declared.start.NotStarted.{NotStarted}
 use Rattle.starting.specs.Start.{started_told}
@@ -36,10 +35,10 @@ abbrev pub reworked_count : Reworked → ℕ
 reworked_count a = value_at 0 (reworked_told a)
 
 -- writing: 0 with the length of what was written
-abbrev pub wrote_number : Written → ℕ
+abbrev pub wrote_number : Result ℕ NotWritten → ℕ
 wrote_number a = (written_told a).number
 
-abbrev pub wrote_count : Written → ℕ
+abbrev pub wrote_count : Result ℕ NotWritten → ℕ
 wrote_count a = value_at 0 (written_told a)
 
 -- why

@@ -4,6 +4,7 @@
 --     run-ended            a byte that is no digit ends it
 --     run-last, run_none   behind 11 digits only a comma ends it; no byte left
 use Rattle.std.specs.Prelude.{Some, None}
+use Rattle.std.specs.Char.{is_ascii_digit}
 use mathlib.Core.Path.{◌≡◌, refl, sym, ◌∙◌}
 use mathlib.Core.Logic.{⊎_elim}
 use mathlib.Core.Bool.{Bool, true, false, cond, ◌&&◌}
@@ -39,6 +40,11 @@ piece-on b s e = rw e (go (split 44 s))
     go : (fs : List (List ℕ)) → get_or (before false b fs) 0 [] ≡ b ∷ get_or fs 0 []
     go [] = unfold before in refl
     go (f ∷ fs) = unfold before in refl
+
+-- std's word for a digit
+pub ascii_digit : (b : ℕ) → is_ascii_digit b ≡ is_digit b
+unfolding is_digit
+ascii_digit b = refl
 
 -- a comma is no digit
 no-comma : (b : ℕ) → is_digit b ≡ true → eqb b 44 ≡ false

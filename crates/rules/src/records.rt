@@ -1,6 +1,6 @@
-// What the bytes of a record say, by the kind of its file: 0 default, 1 correction.
-ghost use Rattle.std.specs.Prelude.{◌≡◌, cond, ◌-◌, eqb};
-ghost use Rattle.laws.specs.Digits.{is_digit};
+// What the bytes of a record say, by the kind of its file: 0 default, 1 correction. The kind is a byte of the store, which may be any: `number_in`,
+// `first_in`, `class_in` and `says_in` answer for each.
+ghost use Rattle.std.specs.Prelude.{◌≡◌, cond, eqb};
 ghost use Rattle.laws.specs.Split.{piece_of};
 ghost use Rattle.fields.specs.Number.{digits_field_of};
 ghost use Rattle.layout.specs.Report.{report_of};
@@ -10,6 +10,7 @@ ghost use Rattle.rules.specs.Records.{no_number, number_in_report, number_in_cor
 use entries::report::Published;
 use fields::kind::Kind;
 use fields::number::{Digits, Number};
+use layout::correction::Correction;
 use layout::report::Report;
 use verdict::correction_rules::Objection;
 use verdict::step::Says;
@@ -28,103 +29,65 @@ fn no_number() -> Number
 fn number_in_report(bytes: &[u8]) -> Number
     ensures { result ≡ number_in_report (report_of bytes.now) }
 {
-    let read = Report::read(bytes);
-    match read {
-        Some(r) => r.number,
-        None => no_number(),
-    }
+    Report::read(bytes).map_or(no_number(), |r| r.number)
 }
 
 fn number_in_correction(bytes: &[u8]) -> Number
     ensures { result ≡ number_in_correction (correction_of bytes.now) }
 {
-    let read = layout::correction::Correction::read(bytes);
-    match read {
-        Some(c) => c.named_number(),
-        None => no_number(),
-    }
+    Correction::read(bytes).map_or(no_number(), Correction::named_number)
 }
 
 // The number that a record names.
+#[tactic(auto, unfolding(crate::specs::Records::number_in))]
 pub fn number_in(kind: u8, bytes: &[u8]) -> Number
     ensures { result ≡ number_in kind bytes.now }
 {
-    if kind == 0 {
-        return number_in_report(bytes);
+    match kind {
+        0 => number_in_report(bytes),
+        1 => number_in_correction(bytes),
+        _ => no_number(),
     }
-    if kind == 1 {
-        return number_in_correction(bytes);
-    }
-    no_number()
-}
-
-fn is_digit(b: u8) -> bool
-    ensures { result ≡ is_digit b }
-{
-    (48 <= b) & (b <= 57)
-}
-
-fn wide(b: u8) -> u64
-    ensures { result ≡ b }
-{
-    b as u64
-}
-
-// A number field has no more digits.
-fn at_most_11(n: usize) -> usize
-    ensures { result ≡ n - (n - 11) }
-{
-    if 11 < n {
-        return 11;
-    }
-    n
 }
 
 // What the digits n before a byte that ends them are worth: 1 where it is no comma.
+#[tactic(auto, using(std::proofs::lemmas::Bool::Decides::nat_tests))]
 fn ended(b: u8, n: u64) -> u64
     ensures { result ≡ cond (eqb b 44) n 1 }
 {
-    if b == 44 {
-        return n;
-    }
-    1
+    if b == b',' { n } else { 1 }
 }
 
-// The number field before the first comma, behind a leading 1; 1 where it is empty, or is no number field. At most 11 digits are read.
+// The number field before the first comma, behind a leading 1; 1 where it is empty, or is no number field. A number field has at most 11 digits,
+// so no more are read.
 fn first_field(s: &[u8]) -> u64
     ensures { result ≡ field_digits (digits_field_of (piece_of 44 s.now 0)) }
 {
-    let most = at_most_11(s.len());
+    let most = s.len().min(11);
     let mut n: u64 = 1;
-    let mut i: usize = 0;
-    while i < most {
+    for i in 0..most {
         let b = s[i];
-        if !is_digit(b) {
+        if !b.is_ascii_digit() {
             return ended(b, n);
         }
-        n = n * 10 + wide(b - 48);
-        i += 1;
+        n = n * 10 + u64::from(b - b'0');
     }
-    if i < s.len() {
-        return ended(s[i], n);
+    if most < s.len() {
+        return ended(s[most], n);
     }
     n
 }
 
-// The first number field of a record as far as its first comma.
+// The first number field of a record as far as its first comma: behind the code and "U:" of a correction.
+#[tactic(auto, unfolding(crate::specs::Records::first_in))]
 pub fn first_in(kind: u8, bytes: &[u8]) -> u64
     ensures { result ≡ first_in kind bytes.now }
 {
-    if kind == 0 {
-        return first_field(bytes);
+    match kind {
+        0 => first_field(bytes),
+        1 if 6 <= bytes.len() => first_field(&bytes[6..]),
+        _ => 1,
     }
-    if kind != 1 {
-        return 1;
-    }
-    if bytes.len() < 6 {
-        return 1;
-    }
-    first_field(&bytes[6..])
 }
 
 // The class of a report: P, then L, then Z.
@@ -141,97 +104,71 @@ fn class_of(k: Kind) -> u64
 fn class_of_report(bytes: &[u8]) -> u64
     ensures { result ≡ class_of_report (report_of bytes.now) }
 {
-    let read = Report::read(bytes);
-    match read {
-        Some(r) => {
-            let kind = r.kind;
-            class_of(kind)
-        }
-        None => 11,
-    }
+    Report::read(bytes).map_or(11, |r| class_of(r.kind))
 }
 
 // The class of a record within its day.
+#[tactic(auto, unfolding(crate::specs::Records::class_in))]
 pub fn class_in(kind: u8, bytes: &[u8]) -> u64
     ensures { result ≡ class_in kind bytes.now }
 {
-    if kind == 0 {
-        return class_of_report(bytes);
+    match kind {
+        0 => class_of_report(bytes),
+        1 => 2,
+        _ => 98 + u64::from(kind),
     }
-    if kind == 1 {
-        return 2;
-    }
-    98 + kind as u64
 }
 
 // A report without its number.
 fn published(r: Report) -> Published
     ensures { result ≡ published_by r }
 {
-    let kind = r.kind;
-    let date = r.date;
-    let losing = r.losing;
-    let gaining = r.gaining;
     Published {
-        kind: kind,
-        date: date,
-        losing: losing,
-        gaining: gaining,
+        kind: r.kind,
+        date: r.date,
+        losing: r.losing,
+        gaining: r.gaining,
     }
 }
 
 fn says_report(bytes: &[u8]) -> Says
     ensures { result ≡ reported (report_of bytes.now) }
 {
-    let read = Report::read(bytes);
-    match read {
-        Some(r) => Says::Reported(published(r)),
-        None => Says::Other,
-    }
+    Report::read(bytes).map_or(Says::Other, |r| Says::Reported(published(r)))
 }
 
 // What an objection with this code says against the report of its U part.
 fn says_objection(code: u16, read: Option<Report>) -> Says
     ensures { result ≡ objected code read }
 {
-    match read {
-        Some(r) => {
-            let named = published(r);
-            let o = Objection {
-                code: code,
-                named: named,
-            };
-            Says::Objected(o)
-        }
-        None => Says::Other,
-    }
+    read.map_or(Says::Other, |r| {
+        Says::Objected(Objection {
+            code,
+            named: published(r),
+        })
+    })
 }
 
 fn says_correction(bytes: &[u8]) -> Says
     ensures { result ≡ corrected (correction_of bytes.now) }
 {
-    let read = layout::correction::Correction::read(bytes);
-    match read {
-        Some(c) => {
-            let code = c.code;
-            if code.is_objection() {
-                return says_objection(code.0, c.named_report());
-            }
-            Says::Other
-        }
-        None => Says::Other,
+    let Some(c) = Correction::read(bytes) else {
+        return Says::Other;
+    };
+    if c.code.is_objection() {
+        return says_objection(c.code.0, c.named_report());
     }
+    Says::Other
 }
 
 // What a record says.
+#[tactic(auto, unfolding(crate::specs::Records::says_in))]
 pub fn says_in(kind: u8, bytes: &[u8]) -> Says
     ensures { result ≡ says_in kind bytes.now }
 {
-    if kind == 0 {
-        return says_report(bytes);
+    match kind {
+        0 => says_report(bytes),
+        1 => says_correction(bytes),
+        _ => Says::Other,
     }
-    if kind == 1 {
-        return says_correction(bytes);
-    }
-    Says::Other
 }

@@ -1,6 +1,8 @@
 -- What the checks come to, as the code finds out. Assumes nothing.
 --     used-fits, room-left, room-none     whether there is room
 --     day-outside, day-alike, day-new     the day, then the files alike
+use Rattle.std.specs.Prelude.{Result}
+use Rattle.files.specs.declared.judge.Fault.{Fault}
 use mathlib.Core.Path.{◌≡◌, sym, ap, ◌∙◌}
 use mathlib.Core.Logic.{⊎_elim}
 use mathlib.Core.Bool.{Bool, true, false}
@@ -13,7 +15,6 @@ use Rattle.laws.specs.Lists.{table, any}
 use Rattle.laws.proofs.Tests.{le-or-lt}
 use Rattle.calendar.specs.Dates.{in_calendar}
 use Rattle.fields.specs.declared.code.Code.{Code}
-use Rattle.files.specs.declared.judge.Judged.{Judged}
 use Rattle.store.specs.journals.Files.{file_at, file_count, files_of, same_file, records_of}
 use Rattle.store.specs.Reads.{good_files}
 use Rattle.store.proofs.Checks.{few-reports, few-corrections, counted}
@@ -57,7 +58,7 @@ unfolding has_room
 room-none f kind n m p h = rw (← p, le-ltb n 1024 h)
 
 -- ---- the day, then the files alike
-module _ (files : List ℕ) (kind : Filable) (c : Code) (day : ℕ) (text : Judged) where
+module _ (files : List ℕ) (kind : Filable) (c : Code) (day : ℕ) (text : Result ℕ Fault) where
   pub day-outside : in_calendar day ≡ false → Refused NoDay ≡ day_checked files kind c day text
   unfolding day_checked
   day-outside e = rw e

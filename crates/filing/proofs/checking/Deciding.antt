@@ -3,6 +3,8 @@
 --     decided-unreadable  where the buffers don't read as a store, that is 44
 --     passed-enterable    a file that passes may be entered
 --     refused-number      a refusal behind 44 is one of 1 to 5; so it is never the answer of a file that was filed (refused-not-filed)
+use Rattle.std.specs.Prelude.{Result, Ok, Err}
+use Rattle.files.specs.declared.judge.Fault.{Fault}
 use Rattle.std.specs.Prelude.{Option, Some, None}
 use mathlib.Core.Path.{◌≡◌, refl, sym, ap, ◌∙◌}
 use mathlib.Core.Bool.{Bool, true, false, cond, ◌&&◌, ◌||◌}
@@ -18,7 +20,6 @@ use Rattle.fields.specs.Code.{code_of}
 use Rattle.fields.specs.declared.code.Code.{Code}
 use Rattle.fields.proofs.CodeLaws.{code-back}
 use Rattle.files.specs.Judged.{judged_file}
-use Rattle.files.specs.declared.judge.Judged.{Judged}
 use Rattle.model.specs.Model.{Filed, alike}
 use Rattle.store.specs.journals.Files.{file_count, files_of, same_file, records_of}
 use Rattle.store.specs.declared.journals.files.File.{File}
@@ -52,9 +53,9 @@ module _ (b : Buffers) (e : is_readable b ≡ true) (kind : Filable) (day : ℕ)
     room-decided true t m q = rw (← q)
     room-decided false t m q = rw (← q)
 
-    text-decided : (j : Judged) → judged_file (file_kind kind) text ≡ j → judged_to (held b).files file j ≡ decision_of kind day text (text_checked (has_room b.files kind) c j)
-    text-decided (Judged.Fault place cause) q = refl
-    text-decided (Judged.Records m) q = room-decided (within_limits ((held b).files ++ (file ∷ []))) (has_room b.files kind m) m (room-limits b e c.0 day text m kind q)
+    text-decided : (j : Result ℕ Fault) → judged_file (file_kind kind) text ≡ j → judged_to (held b).files file j ≡ decision_of kind day text (text_checked (has_room b.files kind) c j)
+    text-decided (Err fault) q = refl
+    text-decided (Ok m) q = room-decided (within_limits ((held b).files ++ (file ∷ []))) (has_room b.files kind m) m (room-limits b e c.0 day text m kind q)
 
     alike-decided : any (alike file) (held b).files ≡ any (same_file (sought kind c.0 day)) (files_of b.files)
     unfolding held
@@ -74,7 +75,7 @@ module _ (b : Buffers) (e : is_readable b ≡ true) (kind : Filable) (day : ℕ)
   unfolding day_checked new_to
   published-decided None = refl
   published-decided (Some c) =
-      let j : Judged = judged_file (file_kind kind) text in
+      let j : Result ℕ Fault = judged_file (file_kind kind) text in
       let rest : Checked = text_checked (has_room b.files kind) c j in
       let there : Bool = any (same_file (sought kind c.0 day)) (files_of b.files) in
       day-decided c (in_calendar day) (cond there (Refused Answer.FiledAlready) rest) (new_to (held b).files (file c) j)
@@ -92,20 +93,20 @@ module _ (b : Buffers) (e : is_readable b ≡ true) (kind : Filable) (day : ℕ)
     never a q = absurd (let z : ◌≡◌ {A = ℕ} 0 1 = cc in omega arith)
 
     -- what the checks have found out on the way
-    record Found (r : Option Code) (j : Judged) : Type 0 where
+    record Found (r : Option Code) (j : Result ℕ Fault) : Type 0 where
       pub code : r ≡ Some c
       pub date : in_calendar day ≡ true
       pub new : any (same_file (sought kind c.0 day)) (files_of b.files) ≡ false
-      pub records : j ≡ Judged.Records m
+      pub records : j ≡ Ok m
       pub room : has_room b.files kind m ≡ true
 
     room-found : (d : Code) (n : ℕ) (t : Bool) → room_checked t d n ≡ Passed c m → (t ≡ true) × (d ≡ c) × (n ≡ m)
     room-found d n true q = (refl, cc, cc)
     room-found d n false q = never Answer.Full q
 
-    text-found : (d : Code) (j : Judged) → text_checked (has_room b.files kind) d j ≡ Passed c m → (d ≡ c) × (j ≡ Judged.Records m) × (has_room b.files kind m ≡ true)
-    text-found d (Judged.Fault place cause) q = never (Answer.Fault place cause) q
-    text-found d (Judged.Records n) q = let w = room-found d n (has_room b.files kind n) q in (w.1, ap Judged.Records w.2, rw w.2 at w.0)
+    text-found : (d : Code) (j : Result ℕ Fault) → text_checked (has_room b.files kind) d j ≡ Passed c m → (d ≡ c) × (j ≡ Ok m) × (has_room b.files kind m ≡ true)
+    text-found d (Err fault) q = never (Answer.Fault fault.at fault.cause) q
+    text-found d (Ok n) q = let w = room-found d n (has_room b.files kind n) q in (w.1, ap Ok w.2, rw w.2 at w.0)
 
     new-found : (t : Bool) (u : Checked) → cond t (Refused Answer.FiledAlready) u ≡ Passed c m → (t ≡ false) × (u ≡ Passed c m)
     new-found true u q = never Answer.FiledAlready q
@@ -115,7 +116,7 @@ module _ (b : Buffers) (e : is_readable b ≡ true) (kind : Filable) (day : ℕ)
     day-found true u q = (refl, q)
     day-found false u q = never Answer.NoDay q
 
-    found : (r : Option Code) (j : Judged) → checked b.files kind r day j ≡ Passed c m → Found r j
+    found : (r : Option Code) (j : Result ℕ Fault) → checked b.files kind r day j ≡ Passed c m → Found r j
     unfolding day_checked
     found None j q = never Answer.NoCode q
     found (Some d) j q =
@@ -163,11 +164,11 @@ module _ (files : List ℕ) (kind : Filable) (day : ℕ) where
   refuses-cond true u v p q = p
   refuses-cond false u v p q = q
 
-  refuses-text : (c : Code) (j : Judged) → refuses (text_checked (has_room files kind) c j) ≡ true
-  refuses-text c (Judged.Fault place cause) = refl
-  refuses-text c (Judged.Records m) = refuses-cond (has_room files kind m) (Passed c m) (Refused Answer.Full) refl refl
+  refuses-text : (c : Code) (j : Result ℕ Fault) → refuses (text_checked (has_room files kind) c j) ≡ true
+  refuses-text c (Err fault) = refl
+  refuses-text c (Ok m) = refuses-cond (has_room files kind m) (Passed c m) (Refused Answer.Full) refl refl
 
-  refuses-all : (r : Option Code) (j : Judged) → refuses (checked files kind r day j) ≡ true
+  refuses-all : (r : Option Code) (j : Result ℕ Fault) → refuses (checked files kind r day j) ≡ true
   unfolding day_checked
   refuses-all None j = refl
   refuses-all (Some c) j =
@@ -176,10 +177,10 @@ module _ (files : List ℕ) (kind : Filable) (day : ℕ) where
       refuses-cond (in_calendar day) (cond there (Refused Answer.FiledAlready) rest) (Refused Answer.NoDay)
       (refuses-cond there (Refused Answer.FiledAlready) rest refl (refuses-text c j)) refl
 
-  pub refused-number : (r : Option Code) (j : Judged) (a : Answer) → checked files kind r day j ≡ Refused a → (0 < answer_number a) × (answer_number a ≤ 5)
+  pub refused-number : (r : Option Code) (j : Result ℕ Fault) (a : Answer) → checked files kind r day j ≡ Refused a → (0 < answer_number a) × (answer_number a ≤ 5)
   refused-number r j a q =
       let w : (ltb 0 (answer_number a) && leb (answer_number a) 5) ≡ true = ap refuses (sym q) ∙ refuses-all r j in
       (ltb-true 0 (answer_number a) (and_left (ltb 0 (answer_number a)) (leb (answer_number a) 5) w), leb-true (answer_number a) 5 (and_right (ltb 0 (answer_number a)) (leb (answer_number a) 5) w))
 
-  pub refused-not-filed : (r : Option Code) (j : Judged) (a : Answer) → checked files kind r day j ≡ Refused a → (count : ℕ) → a ≡ Answer.Filed count → ⊥
+  pub refused-not-filed : (r : Option Code) (j : Result ℕ Fault) (a : Answer) → checked files kind r day j ≡ Refused a → (count : ℕ) → a ≡ Answer.Filed count → ⊥
   refused-not-filed r j a q count p = let z : answer_number a ≡ 0 = ap answer_number p in omega (arith, (refused-number r j a q).0)

@@ -1,6 +1,7 @@
 -- The limits of the journals, found out by counting records and files alone. Assumes nothing.
 --     within-few      where each record is short enough, the byte limit follows from the record limit
 --     room-limits     a file of m records keeps to all limits exactly where there is a slot for it and room for m records
+use Rattle.std.specs.Prelude.{Ok}
 use mathlib.Core.Path.{◌≡◌, refl, sym, ap, ap₂, ◌∙◌}
 use mathlib.Core.Logic.{⊎_elim}
 use mathlib.Core.Bool.{Bool, true, cond, ◌&&◌, and-true}
@@ -17,7 +18,6 @@ use Rattle.laws.proofs.Tests.{le-or-lt, and_left, and_right}
 use Rattle.laws.proofs.Tables.{length-table, table-cong}
 use Rattle.files.specs.Judged.{judged_file}
 use Rattle.files.specs.Judged.{records_of as texts_of}
-use Rattle.files.specs.declared.judge.Judged.TheVariants.{Records}
 use Rattle.model.specs.Model.{Filed}
 use Rattle.store.specs.journals.Files.{file_count, files_of, records_of}
 use Rattle.store.specs.journals.Records.{record_at}
@@ -119,7 +119,7 @@ module _ (b : Buffers) (e : is_readable b ≡ true) (publisher day : ℕ) (text 
   good : good_files b.files ≡ true
   good = (parts b e).good-files
 
-  pub room-limits : (kind : Filable) → judged_file (file_kind kind) text ≡ Records m → within_limits ((held b).files ++ (filed_as kind publisher day text ∷ [])) ≡ has_room b.files kind m
+  pub room-limits : (kind : Filable) → judged_file (file_kind kind) text ≡ Ok m → within_limits ((held b).files ++ (filed_as kind publisher day text ∷ [])) ≡ has_room b.files kind m
   unfolding held filed_as has_room total
   room-limits Default j =
       limits b (filed_as Default publisher day text) (narrow_short 44 (texts_of (file_kind Default) text) (records-short Default text m j)) (omega arith)

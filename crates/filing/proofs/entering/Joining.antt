@@ -1,4 +1,5 @@
 -- What the code that enters a file leaves in the buffers. Assumes nothing.
+use Rattle.std.specs.Prelude.{Ok}
 use mathlib.Core.Path.{◌≡◌, refl, sym, ap, ◌∙◌}
 use mathlib.Core.List.{List, []}
 use Prim.Native.Nat.{ℕ, ◌+◌, ◌*◌, ◌≤◌}
@@ -9,7 +10,6 @@ use Rattle.laws.specs.Overlay.{overlay}
 use Rattle.laws.specs.Words.{low_first}
 use Rattle.model.specs.Model.{Filed}
 use Rattle.files.specs.Judged.{judged_file, records_of as texts_of}
-use Rattle.files.specs.declared.judge.Judged.TheVariants.{Records}
 use Rattle.store.specs.journals.Files.{file_count, file_at, files_of, file_slot, records_of}
 use Rattle.store.specs.declared.journals.files.File.{File}
 use Rattle.store.specs.Reads.{Buffers, lent}
@@ -39,13 +39,13 @@ narrow : (kind : Filable) → slot_width kind ≤ 256
 narrow Default = omega arith
 narrow Correction = omega arith
 
-pub asked : (kind which : Filable) (text : List ℕ) (from m n : ℕ) → kind ≡ which → judged_file (file_kind kind) text ≡ Records m → from + m ≤ most kind → most which * slot_width which ≤ n
+pub asked : (kind which : Filable) (text : List ℕ) (from m n : ℕ) → kind ≡ which → judged_file (file_kind kind) text ≡ Ok m → from + m ≤ most kind → most which * slot_width which ≤ n
     → Lines (slot_width which) text m × (((from + m) * slot_width which ≤ n) × (slot_width which ≤ 256))
 asked kind which text from m n k e r l =
     (judged-lines which text m (rw k at e), (omega (arith, mul-le-mul_right (slot_width which) (rw k at r), l), narrow which))
 
 -- and what it leaves
-module _ (kind : Filable) (text before after other : List ℕ) (from m : ℕ) (e : judged_file (file_kind kind) text ≡ Records m) where
+module _ (kind : Filable) (text before after other : List ℕ) (from m : ℕ) (e : judged_file (file_kind kind) text ≡ Ok m) where
   pub put-regular : kind ≡ Default → after ≡ journal_with 45 before from (first_lines m text)
       → (after ≡ regular_with kind before from (texts_of (file_kind kind) text)) × (other ≡ corrections_with kind other from (texts_of (file_kind kind) text))
   put-regular k w = rw (records-lines kind text m e, k) (w, refl)
@@ -70,7 +70,7 @@ unfolding entered filed_as
 entered-as Default publisher day text b = refl
 entered-as Correction publisher day text b = refl
 
-module _ (kind : Filable) (publisher day m : ℕ) (text : List ℕ) (judged : judged_file (file_kind kind) text ≡ Records m) where
+module _ (kind : Filable) (publisher day m : ℕ) (text : List ℕ) (judged : judged_file (file_kind kind) text ≡ Ok m) where
   file-same : (number : ℕ) → number ≡ kind_number kind → ◌≡◌ {A = File} (record { kind = number; publisher = publisher; day = day; count = m }) (file_in (filed_as kind publisher day text))
   unfolding file_in filed_as
   file-same number k = λ i. record { kind = k i; publisher = publisher; day = day; count = sym (records-count kind text m judged) i }

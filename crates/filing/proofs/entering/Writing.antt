@@ -1,8 +1,7 @@
 -- The loop that writes the first lines of a text, and what is known of the lines of a file that was judged. Assumes nothing.
 use Rattle.layout.specs.declared.correction.Correction.{Correction as ACorrection}
-use Rattle.std.specs.Prelude.{is_some}
+use Rattle.std.specs.Prelude.{Ok, is_some, Option, Some, None}
 use Rattle.layout.specs.declared.report.Report.{Report}
-use Rattle.std.specs.Prelude.{Option, Some, None}
 use mathlib.Core.Path.{◌≡◌, refl, sym, ap, ◌∙◌}
 use mathlib.Core.Bool.{true}
 use mathlib.Core.List.{List, [], ◌∷◌}
@@ -23,7 +22,6 @@ use Rattle.files.specs.Cursor.{line_start}
 use Rattle.files.proofs.Cursor.{line-at, line-is, lines-enough}
 use Rattle.files.proofs.FileTrip.{file-written}
 use Rattle.files.specs.Judged.{judged_file, records_of}
-use Rattle.files.specs.declared.judge.Judged.TheVariants.{Records}
 use Rattle.layout.specs.Report.{report_of}
 use Rattle.layout.specs.Correction.{correction_of}
 use Rattle.layout.proofs.ReportLaws.{report-record}
@@ -120,7 +118,7 @@ unfolding is_record shorter
 record-short Default l e = lt-ltb (length l) 45 (report-short l (report_of l) refl e)
 record-short Correction l e = lt-ltb (length l) 98 (correction-short l (correction_of l) refl e)
 
-module _ (kind : Filable) (text : List ℕ) (m : ℕ) (e : judged_file (file_kind kind) text ≡ Records m) where
+module _ (kind : Filable) (text : List ℕ) (m : ℕ) (e : judged_file (file_kind kind) text ≡ Ok m) where
   pub records-lines : records_of (file_kind kind) text ≡ first_lines m text
   unfolding records_of
   records-lines = rw e

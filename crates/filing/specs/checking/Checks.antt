@@ -1,11 +1,12 @@
 -- What the checks behind 44 come to, as the code makes them over the list of files. `Filing` has them over the store; `proofs/checking/Deciding` that both
 -- agree. Assumes nothing: these are definitions.
+use Rattle.std.specs.Prelude.{Result, Ok, Err}
+use Rattle.files.specs.declared.judge.Fault.{Fault}
 use Rattle.std.specs.Prelude.{Option, Some, None}
 use Rattle.std.specs.Prelude.{Bool, cond, ◌&&◌, List, ℕ, ◌+◌, ltb, leb}
 use Rattle.laws.specs.Lists.{any}
 use Rattle.calendar.specs.Dates.{in_calendar}
 use Rattle.fields.specs.declared.code.Code.{Code}
-use Rattle.files.specs.declared.judge.Judged.{Judged}
 use Rattle.store.specs.journals.Files.{file_count, files_of, same_file, records_of}
 use Rattle.store.specs.declared.journals.files.File.{File}
 use Rattle.filing.specs.declared.entering.kind.Filable.{Filable}
@@ -22,18 +23,18 @@ has_room files kind m = ltb (file_count files) 1024 && leb (records_of (kind_num
 abbrev pub room_checked : Bool → Code → ℕ → Checked
 room_checked room c m = cond room (Passed c m) (Refused Full)
 
-abbrev pub text_checked : (ℕ → Bool) → Code → Judged → Checked
-text_checked room c (Judged.Fault place cause) = Refused (Answer.Fault place cause)
-text_checked room c (Judged.Records m) = room_checked (room m) c m
+abbrev pub text_checked : (ℕ → Bool) → Code → Result ℕ Fault → Checked
+text_checked room c (Err fault) = Refused (Answer.Fault fault.at fault.cause)
+text_checked room c (Ok m) = room_checked (room m) c m
 
 -- a file as it is looked for
 abbrev pub sought : Filable → ℕ → ℕ → File
 sought kind publisher day = record { kind = kind_number kind; publisher = publisher; day = day; count = 0 }
 
-unfoldable pub day_checked : List ℕ → Filable → Code → ℕ → Judged → Checked
+unfoldable pub day_checked : List ℕ → Filable → Code → ℕ → Result ℕ Fault → Checked
 day_checked files kind c day text =
     cond (in_calendar day) (cond (any (same_file (sought kind c.0 day)) (files_of files)) (Refused FiledAlready) (text_checked (has_room files kind) c text)) (Refused NoDay)
 
-abbrev pub checked : List ℕ → Filable → Option Code → ℕ → Judged → Checked
+abbrev pub checked : List ℕ → Filable → Option Code → ℕ → Result ℕ Fault → Checked
 checked files kind None day text = Refused NoCode
 checked files kind (Some c) day text = day_checked files kind c day text

@@ -1,4 +1,6 @@
 -- The limits, and the checks of filing in their order: paper 01, "What filing answers". Assumes nothing: these are definitions.
+use Rattle.std.specs.Prelude.{Result, Ok, Err}
+use Rattle.files.specs.declared.judge.Fault.{Fault}
 use Rattle.fields.specs.declared.code.Code.{Code}
 use Rattle.std.specs.Prelude.{Option, Some, None}
 use Rattle.std.specs.Prelude.{Bool, cond, ◌&&◌, ℕ, eqb, leb, length}
@@ -7,7 +9,6 @@ use Rattle.laws.specs.Lists.{any, keep, total}
 use Rattle.calendar.specs.Dates.{in_calendar}
 use Rattle.fields.specs.Code.{code_of}
 use Rattle.files.specs.Judged.{judged_file}
-use Rattle.files.specs.declared.judge.Judged.{Judged}
 use Rattle.model.specs.Model.{Filed, alike}
 use Rattle.store.specs.Reads.{Buffers, held, is_readable}
 use Rattle.filing.specs.declared.entering.kind.Filable.{Filable}
@@ -35,12 +36,12 @@ pub data Decision : Type 0 where
   Accept : Filed → Decision
 
 -- 4, then 5
-abbrev pub judged_to : List Filed → Filed → Judged → Decision
-judged_to files f (Judged.Fault place cause) = Refuse (Answer.Fault place cause)
-judged_to files f (Judged.Records m) = cond (within_limits (files ++ (f ∷ []))) (Accept f) (Refuse Full)
+abbrev pub judged_to : List Filed → Filed → Result ℕ Fault → Decision
+judged_to files f (Err fault) = Refuse (Answer.Fault fault.at fault.cause)
+judged_to files f (Ok m) = cond (within_limits (files ++ (f ∷ []))) (Accept f) (Refuse Full)
 
 -- 3
-unfoldable pub new_to : List Filed → Filed → Judged → Decision
+unfoldable pub new_to : List Filed → Filed → Result ℕ Fault → Decision
 new_to files f text = cond (any (alike f) files) (Refuse FiledAlready) (judged_to files f text)
 
 -- 1, then 2

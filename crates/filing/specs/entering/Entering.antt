@@ -1,4 +1,5 @@
 -- What the buffers are once a file's records have joined their journal, and when a file may be entered. Assumes nothing: these are definitions.
+use Rattle.std.specs.Prelude.{Ok}
 use Rattle.std.specs.Prelude.{◌≡◌, Bool, true, false, cond, ℕ, ◌+◌, ◌*◌, ◌≤◌, ◌<◌, eqb, ltb, length, take}
 use mathlib.Core.List.{List, flat_map}
 use Rattle.laws.specs.Lists.{any, all}
@@ -10,7 +11,6 @@ use Rattle.calendar.specs.Dates.{in_calendar}
 use Rattle.model.specs.Model.{Filed}
 use Rattle.records.specs.declared.names.kind.FileKind.{FileKind}
 use Rattle.files.specs.Judged.{judged_file, records_of as texts_of}
-use Rattle.files.specs.declared.judge.Judged.TheVariants.{Records}
 use Rattle.store.specs.journals.Files.{file_count, files_of, file_slot, same_file, records_of}
 use Rattle.store.specs.declared.journals.files.File.{File}
 use Rattle.store.specs.Reads.{Buffers, lent, is_readable}
@@ -65,7 +65,7 @@ entered f b = record {
 -- range, none alike is filed, and there is room
 pub record Enterable (b : Buffers) (kind : Filable) (publisher day : ℕ) (text : List ℕ) (m : ℕ) : Type 0 where
   pub readable : is_readable b ≡ true
-  pub judged : judged_file (file_kind kind) text ≡ Records m
+  pub judged : judged_file (file_kind kind) text ≡ Ok m
   pub code : publisher ≤ 999
   pub date : in_calendar day ≡ true
   pub new : any (same_file (file_in (filed_as kind publisher day text))) (files_of b.files) ≡ false
@@ -75,7 +75,7 @@ pub record Enterable (b : Buffers) (kind : Filable) (publisher day : ℕ) (text 
 -- ---- as the code enters it
 -- the part of `Enterable` that it needs, of the three buffers that it writes
 pub record Ready (files regular corrections : List ℕ) (kind : Filable) (text : List ℕ) (m : ℕ) : Type 0 where
-  pub judged : judged_file (file_kind kind) text ≡ Records m
+  pub judged : judged_file (file_kind kind) text ≡ Ok m
   pub slot : file_count files < 1024
   pub room : records_of (kind_number kind) (files_of files) + m ≤ most kind
   pub long-files : 8194 ≤ length files

@@ -14,7 +14,6 @@ use calendar::dates;
 use calendar::dates::CalendarDays;
 use fields::code::Code;
 use files::judge;
-use files::judge::Judged;
 use store::journals::files::File;
 use store::journals::{files as list, sums};
 
@@ -79,8 +78,8 @@ fn check_text(files: &[u8], kind: Filable, code: Code, text: &[u8]) -> Checked
     ensures { result ≡ text_checked (has_room files.now kind) code (judged_file (file_kind kind) text.now) }
 {
     match judge::judge(kind.file_kind(), text) {
-        Judged::Fault(place, cause) => Checked::Refused(Answer::Fault(place, cause)),
-        Judged::Records(m) => check_room(files, kind, code, m),
+        Err(fault) => Checked::Refused(Answer::Fault(fault.at, fault.cause)),
+        Ok(m) => check_room(files, kind, code, m),
     }
 }
 

@@ -1,7 +1,7 @@
 // Entering a file: its records behind the stored ones of their journal, and a slot in the list of files.
 ghost use Rattle.std.specs.Prelude.{◌≡◌, ◌+◌, ◌*◌, ◌≤◌, ◌<◌, length};
 ghost use Rattle.files.specs.Judged.{judged_file, records_of};
-ghost use Rattle.files.specs.declared.judge.Judged.TheVariants.{Records};
+ghost use Rattle.std.specs.Prelude.{Ok};
 ghost use Rattle.store.specs.journals.Files.{file_count};
 ghost use Rattle.filing.specs.entering.Entering.{file_kind, most, filed_as, files_with, journal_with, regular_with, corrections_with, first_lines, Lines, Ready, Joined};
 
@@ -38,7 +38,7 @@ fn put_records(
     text: &[u8],
     m: usize,
 )
-    requires { (judged_file (file_kind kind) text.now ≡ Records m) × ((from + m ≤ most kind) × ((368640 ≤ length regular.old) × (200704 ≤ length corrections.old))) }
+    requires { (judged_file (file_kind kind) text.now ≡ Ok m) × ((from + m ≤ most kind) × ((368640 ≤ length regular.old) × (200704 ≤ length corrections.old))) }
     ensures { (regular.new ≡ regular_with kind regular.old from (records_of (file_kind kind) text.now)) × (corrections.new ≡ corrections_with kind corrections.old from (records_of (file_kind kind) text.now)) }
 {
     match kind {

@@ -3,6 +3,7 @@
 -- them by `pair_settles` and so on; those that are a record of a crate's own stand below, each by name. tests/outcomes.sh goes through all public
 -- functions and holds each to one of these. Assumes nothing.
 use Rattle.std.specs.Prelude.{Result}
+use Rattle.records.specs.declared.names.written.NotWritten.{NotWritten}
 use mathlib.Core.Path.{◌≡◌, sym, ap, ◌∙◌}
 use mathlib.Core.List.{List}
 use Prim.Native.Nat.{ℕ, ◌+◌}
@@ -12,7 +13,6 @@ use Rattle.laws.specs.Told.{Told}
 use Rattle.laws.proofs.Slots.{same-slots}
 use Rattle.fields.specs.declared.number.Number.{Number}
 use Rattle.entries.specs.declared.entry.Line.{Line}
-use Rattle.records.specs.declared.names.written.Written.{Written}
 use Rattle.records.specs.names.Written.{Wrote}
 use Rattle.store.specs.Reads.{Buffers}
 use Rattle.starting.specs.declared.start.NotStarted.{NotStarted}
@@ -67,7 +67,7 @@ pub starting-settles : (text : List ℕ) (b : Buffers) → Settles (λ (o : Resu
 starting-settles text b x y p q = pair_settles _ _ x y (p.answers, p.leaves) (q.answers, q.leaves)
 
 -- writing a file or its name: the answer and the buffer
-pub writing-settles : (right : Written) (text before : List ℕ) → Settles (λ (o : Written × List ℕ). Wrote right text before o.1 o.0)
+pub writing-settles : (right : Result ℕ NotWritten) (text before : List ℕ) → Settles (λ (o : Result ℕ NotWritten × List ℕ). Wrote right text before o.1 o.0)
 writing-settles right text before x y p q = pair_settles _ _ x y (p.answer, p.bytes) (q.answer, q.bytes)
 
 -- laying a field or a record into a buffer: the place behind it and the buffer
@@ -118,5 +118,5 @@ start-settles text before x y p q = three-settle _ _ _ x y (p.answers, p.tells, 
 pub file-settles : (b : Buffers) (kind : ℕ) (publisher : List ℕ) (day : ℕ) (text : List ℕ) → Settles (λ (o : ℕ × ℕ × ℕ × ℕ × Buffers). FilesAs b kind publisher day text o.0 o.1 o.2 o.3 o.4)
 file-settles b kind publisher day text x y p q = λ i. ((p.answers ∙ sym q.answers) i, (p.tells ∙ sym q.tells) i, (p.names ∙ sym q.names) i, (p.blames ∙ sym q.blames) i, (p.leaves ∙ sym q.leaves) i)
 
-pub write-settles : (right : Written) (text before : List ℕ) → Settles (λ (o : List ℕ × ℕ × ℕ). Writes right text before o.0 o.1 o.2)
+pub write-settles : (right : Result ℕ NotWritten) (text before : List ℕ) → Settles (λ (o : List ℕ × ℕ × ℕ). Writes right text before o.0 o.1 o.2)
 write-settles right text before x y p q = three-settle _ _ _ x y (p.bytes, p.answers, p.tells) (q.bytes, q.answers, q.tells)

@@ -1,4 +1,6 @@
 -- The names of files: what the code's tests and stores say of the definitions. Assumes nothing.
+use Rattle.std.specs.Prelude.{Result, Ok, Err}
+use Rattle.records.specs.declared.names.written.NotWritten.{NotWritten}
 use Rattle.std.specs.Prelude.{Some, None}
 use Prim.Native.Nat.{ℕ, ◌+◌, ◌/◌, ◌<◌, ◌≤◌}
 use native.Mathlib.Omega.{arith}
@@ -20,7 +22,6 @@ use Rattle.calendar.specs.Answers.{full_year, date_of}
 use Rattle.calendar.specs.declared.dates.Date.{Date}
 use Rattle.records.specs.names.Kind.{kind_of, letter_of}
 use Rattle.records.specs.declared.names.name.Name.{Name}
-use Rattle.records.specs.declared.names.written.Written.{Written}
 use Rattle.records.specs.names.Written.{Wrote}
 use Rattle.records.specs.names.Name.{ending, framed, day_of_six, six_of, spelling, name_text, name_answer}
 
@@ -81,19 +82,19 @@ letter-none b d k q r = simp (ne_eqb b 68 d, ne_eqb b 75 k, ne_eqb b 81 q, ne_eq
 
 -- ---- the writer
 -- what a writer answers and leaves is settled
-pub wrote_one : {w : Written} {text before a b : List ℕ} {r s : Written} → Wrote w text before a r → Wrote w text before b s → (a ≡ b) × (r ≡ s)
+pub wrote_one : {w : Result ℕ NotWritten} {text before a b : List ℕ} {r s : Result ℕ NotWritten} → Wrote w text before a r → Wrote w text before b s → (a ≡ b) × (r ≡ s)
 wrote_one p q = (p.bytes ∙ sym q.bytes, p.answer ∙ sym q.answer)
 
 module _ (m : Name) (before : List ℕ) where
-  pub wrote_none : date_of m.day.0 ≡ None → Wrote (name_answer m (length before)) (name_text m) before before (Written.Fault 0)
+  pub wrote_none : date_of m.day.0 ≡ None → Wrote (name_answer m (length before)) (name_text m) before before (Err (NotWritten.Fault 0))
   unfolding name_answer name_text
   wrote_none e = record { answer = rw e; bytes = rw e }
 
-  pub wrote-short : (x : Date) → date_of m.day.0 ≡ Some x → length before < 12 → Wrote (name_answer m (length before)) (name_text m) before before Written.Long
+  pub wrote-short : (x : Date) → date_of m.day.0 ≡ Some x → length before < 12 → Wrote (name_answer m (length before)) (name_text m) before before (Err NotWritten.Long)
   unfolding name_answer name_text
   wrote-short x e h = record { answer = rw (e, lt-leb 12 (length before) h); bytes = rw (e, lt-leb 12 (length before) h) }
 
   pub wrote-name : (x : Date) (after : List ℕ) → date_of m.day.0 ≡ Some x → 12 ≤ length before → after ≡ overlay before 0 (spelling (letter_of m.kind) (six_of x))
-      → Wrote (name_answer m (length before)) (name_text m) before after (Written.Length 12)
+      → Wrote (name_answer m (length before)) (name_text m) before after (Ok 12)
   unfolding name_answer name_text
   wrote-name x after e h p = record { answer = rw (e, le-leb 12 (length before) h); bytes = rw (e, le-leb 12 (length before) h) p }

@@ -1,4 +1,6 @@
 -- The names of files (5.2.2), with the two-digit years of the calendar. Assumes nothing: these are definitions.
+use Rattle.std.specs.Prelude.{Result, Ok, Err}
+use Rattle.records.specs.declared.names.written.NotWritten.{NotWritten}
 use Rattle.std.specs.Prelude.{Option, Some, None}
 use Rattle.std.specs.Prelude.{ℕ, ◌+◌, ◌*◌, ◌/◌, ◌%◌, Bool, false, cond, ◌&&◌, List, [], ◌∷◌, ◌++◌, eqb, leb, get_or, take, drop}
 use Rattle.laws.specs.Lists.{same_lists}
@@ -9,8 +11,6 @@ use Rattle.calendar.specs.declared.dates.CalendarDays.{CalendarDays}
 use Rattle.calendar.specs.declared.dates.Date.{Date}
 use Rattle.records.specs.declared.names.kind.FileKind.{FileKind}
 use Rattle.records.specs.declared.names.name.Name.{Name}
-use Rattle.records.specs.declared.names.written.Written.{Written}
-use Rattle.records.specs.declared.names.written.Written.TheVariants.{Length, Long}
 use Rattle.records.specs.names.Kind.{kind_of, letter_of}
 
 -- ".txt"
@@ -66,9 +66,9 @@ unfoldable pub name_text : Name → List ℕ
 name_text m = name_at m.kind (date_of m.day.0)
 
 -- what the writer of a name answers, to a buffer of `room` bytes
-abbrev pub answer_at : Option Date → ℕ → Written
-answer_at (Some x) room = cond (leb 12 room) (Length 12) Long
-answer_at None room = Written.Fault 0
+abbrev pub answer_at : Option Date → ℕ → Result ℕ NotWritten
+answer_at (Some x) room = cond (leb 12 room) (Ok 12) (Err NotWritten.Long)
+answer_at None room = Err (NotWritten.Fault 0)
 
-unfoldable pub name_answer : Name → ℕ → Written
+unfoldable pub name_answer : Name → ℕ → Result ℕ NotWritten
 name_answer m room = answer_at (date_of m.day.0) room

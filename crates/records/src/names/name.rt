@@ -5,7 +5,7 @@ ghost use Rattle.records.specs.names.Name.{framed, day_of_six, name_of, six_of, 
 ghost use Rattle.records.specs.names.Written.{Wrote};
 
 use crate::names::kind::FileKind;
-use crate::names::written::Written;
+use crate::names::written::NotWritten;
 use calendar::dates::{CalendarDays, Date};
 
 #[derive(Drop)]
@@ -83,18 +83,18 @@ impl Name {
     }
 
     // The name into a lent buffer; 4 where its day is past the calendar's end.
-    pub fn write(self, out: &mut [u8]) -> Written
+    pub fn write(self, out: &mut [u8]) -> Result<usize, NotWritten>
         ensures { Wrote (name_answer self (length out.old)) (name_text self) out.old out.new result }
     {
         let kind = self.kind;
         let day = self.day;
         let Some(date) = calendar::dates::date_of(day) else {
-            return Written::Fault(0);
+            return Err(NotWritten::Fault(0));
         };
         if out.len() < 12 {
-            return Written::Long;
+            return Err(NotWritten::Long);
         }
         put(out, kind.letter(), six(date));
-        Written::Length(12)
+        Ok(12)
     }
 }

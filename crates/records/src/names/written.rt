@@ -1,8 +1,7 @@
-// What a writer into a lent buffer answers: the length of what it wrote; 4 and the place of the first record whose
-// values its layout can't hold; 41 where the buffer is too short. Unless it wrote, the buffer keeps its bytes.
+// A writer into a lent buffer answers the length of what it wrote, or why it wrote nothing: 4 and the place of the first record whose
+// values its layout can't hold; 41 where the buffer is too short. Then the buffer keeps its bytes.
 #[derive(Clone, Copy)]
-pub enum Written {
-    Length(usize),
+pub enum NotWritten {
     Fault(usize),
     Long,
 }

@@ -1,48 +1,43 @@
--- `composing::measure::measure` meets its contract. The records from `at` on, measured behind the first `k`, measure as all do. Assumes nothing.
-use Rattle.composing.proofs.GroupLaws.{group-whole, measure-on, measure-stop, measure-done}
+-- `composing::measure::measure` meets its contract. The records that are left, measured behind the first `count`, measure as all do. Assumes nothing.
+use mathlib.Core.Path.{sym, ◌∙◌}
 use native.Mathlib.Omega.{arith}
-use mathlib.Core.Path.{refl, sym, ◌∙◌}
-use borrow.Author.Rules.{rules}
+use Rattle.composing.proofs.GroupLaws.{cut_of, measure-on, measure-stop, measure-done, chunk-some, chunk-length, chunk-short}
 use Rattle.composing.proofs.measure.measure.Goals as goal
-
-pub loop-at-init : goal.loop-at-init
-loop-at-init c = (search rules, (search rules, (search rules, refl)))
 
 pub returns-then-not-fits : goal.returns-then-not-fits
 returns-then-not-fits c =
-    sym (measure-stop c.args.kind c.args.words.now c.loop-at.at _ _ c.width-w.ensures c.group-values.ensures c.loop-at.k c.loop-at.total (omega arith) (sym c.fits.ensures ∙ c.if-not-fits.true)) ∙ c.loop-at.invariant.1.1.1
+    let l = c.loop-values in
+    let s = c.in-Some.ensures.steps.1 in
+    sym (measure-stop (cut_of l.invariant.size s.0 s.1 s.2) l.count l.bytes (sym c.fits.ensures ∙ c.if-not-fits.true)) ∙ l.invariant.left
 
-pub overflow_add-total : goal.overflow_add-total
-overflow_add-total c =
-    let fit = sym c.fits.ensures ∙ c.if-not-fits.false in
-    let t = group-whole c.args.kind c.args.words.now c.loop-at.at _ _ c.width-w.ensures c.group-values.ensures _ (omega arith) fit c.len.ensures in
-    omega arith
+pub overflow_add-bytes : goal.overflow_add-bytes
+overflow_add-bytes c =
+    let l = c.loop-values in
+    let s = c.in-Some.ensures.steps.1 in
+    let g = cut_of l.invariant.size s.0 s.1 s.2 in
+    omega (arith, chunk-length g, chunk-short g _ (sym c.fits.ensures ∙ c.if-not-fits.false) c.len.ensures)
 
-pub overflow_add-total-in-loop-at : goal.overflow_add-total-in-loop-at
-overflow_add-total-in-loop-at c =
-    let fit = sym c.fits.ensures ∙ c.if-not-fits.false in
-    let t = group-whole c.args.kind c.args.words.now c.loop-at.at _ _ c.width-w.ensures c.group-values.ensures _ (omega arith) fit c.len.ensures in
-    omega arith
+pub overflow_add-bytes-in-loop-values : goal.overflow_add-bytes-in-loop-values
+overflow_add-bytes-in-loop-values c =
+    let l = c.loop-values in
+    let s = c.in-Some.ensures.steps.1 in
+    let g = cut_of l.invariant.size s.0 s.1 s.2 in
+    omega (arith, chunk-length g, chunk-short g _ (sym c.fits.ensures ∙ c.if-not-fits.false) c.len.ensures)
 
-pub overflow_add-at : goal.overflow_add-at
-overflow_add-at c =
+pub loop-values-preserved : goal.loop-values-preserved
+loop-values-preserved c =
+    let l = c.loop-values in
+    let s = c.in-Some.ensures.steps.1 in
+    let g = cut_of l.invariant.size s.0 s.1 s.2 in
     let fit = sym c.fits.ensures ∙ c.if-not-fits.false in
-    let t = group-whole c.args.kind c.args.words.now c.loop-at.at _ _ c.width-w.ensures c.group-values.ensures _ (omega arith) fit c.len.ensures in
-    omega arith
-
-pub loop-at-smaller : goal.loop-at-smaller
-loop-at-smaller c =
-    let fit = sym c.fits.ensures ∙ c.if-not-fits.false in
-    let t = group-whole c.args.kind c.args.words.now c.loop-at.at _ _ c.width-w.ensures c.group-values.ensures _ (omega arith) fit c.len.ensures in
-    omega arith
-
-pub loop-at-preserved : goal.loop-at-preserved
-loop-at-preserved c =
-    let fit = sym c.fits.ensures ∙ c.if-not-fits.false in
-    let t = group-whole c.args.kind c.args.words.now c.loop-at.at _ _ c.width-w.ensures c.group-values.ensures _ (omega arith) fit c.len.ensures in
-    let on = measure-on c.args.kind c.args.words.now c.loop-at.at _ _ c.width-w.ensures c.group-values.ensures c.loop-at.k c.loop-at.total _ (omega arith) fit c.len.ensures in
-    (t.inside, (omega arith, (omega arith, sym on ∙ c.loop-at.invariant.1.1.1)))
+    record {
+      size = c.next.ensures.steps.0 ∙ l.invariant.size;
+      counted = omega (arith, chunk-length g, chunk-some g);
+      short = omega (arith, chunk-length g, chunk-short g _ fit c.len.ensures);
+      left = sym (measure-on g l.count l.bytes _ fit c.len.ensures) ∙ l.invariant.left;
+    }
 
 pub returns : goal.returns
 returns c =
-    sym (measure-done c.args.kind c.args.words.now c.loop-at.at c.loop-at.k c.loop-at.total (omega arith)) ∙ c.loop-at.invariant.1.1.1
+    let l = c.loop-values in
+    sym (measure-done c.args.kind _ l.count l.bytes c.in-None.ensures.steps.1.0) ∙ l.invariant.left

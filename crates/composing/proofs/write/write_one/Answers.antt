@@ -1,9 +1,11 @@
 -- `composing::write::write_one` meets its contract. Assumes nothing.
 use Rattle.composing.proofs.WroteLaws.{wrote-fault, wrote-long, wrote-whole, one-unfit, one-two, one-held, one-fit, one-length}
-use Rattle.composing.proofs.GroupLaws.{group-whole}
+use native.Mathlib.Nat.{min-le_right}
+use lib.ListN.{length, length-take}
+use Rattle.records.proofs.RecordLaws.{fits-short}
 use Rattle.composing.specs.Measuring.{record_lines}
 use Rattle.files.specs.Writing.{values_in, held_one}
-use mathlib.Core.Path.{sym, ◌∙◌}
+use mathlib.Core.Path.{sym, ap, ◌∙◌}
 use native.Mathlib.Omega.{arith}
 use Rattle.composing.proofs.write.write_one.Goals as goal
 
@@ -26,10 +28,8 @@ pub overflow_add-len : goal.overflow_add-len
 overflow_add-len c =
     let k = c.args.kind in
     let ws = c.args.words.now in
-    let vs = values_in k ws in
     let fit = sym c.fits.ensures ∙ c.if-not-fits.false in
-    let t = group-whole k ws 0 _ _ c.width-w.ensures c.group-values.ensures _ (omega arith) fit c.len.ensures in
-    omega arith
+    omega (arith, fits-short k _ fit, c.len.ensures, ap length c.group-values.ensures, length-take c.width-w.result ws, min-le_right c.width-w.result (length ws))
 
 pub returns-then-out-len : goal.returns-then-out-len
 returns-then-out-len c =

@@ -1,31 +1,35 @@
 -- `faults::cut::rest` meets its contract. Assumes nothing.
-use Prim.Native.Nat.{◌-◌}
+use Prim.Native.Nat.{ℕ, ◌+◌, ◌-◌}
 use lib.ListN.{length-drop, length, drop}
 use lib.Seq.{take_all}
-use mathlib.Core.Path.{refl, sym, ◌∙◌}
+use mathlib.Core.Path.{◌≡◌, ap, sym, ◌∙◌}
 use native.Mathlib.Omega.{arith}
+use Rattle.laws.specs.Split.{end_of}
 use Rattle.faults.specs.Cut.{rest_at}
 use Rattle.laws.proofs.Split.{rest-on, rest_ended}
 use Rattle.faults.proofs.CutLaws.{rest-here}
 use Rattle.faults.proofs.cut.rest.Goals as goal
 
-pub loop-left-init : goal.loop-left-init
-loop-left-init c = (omega arith, refl)
+pub loop-i-init : goal.loop-i-init
+loop-i-init c =
+    let e : c.args.k - 0 ≡ c.args.k = omega arith in
+    (omega arith, ap (rest_at c.args.s.now) (sym e))
 
 pub returns-then-s-e : goal.returns-then-s-e
 unfolding rest_at
 returns-then-s-e c =
     let a = c.args in
-    sym (c.loop-left.invariant.1 ∙ rest_ended 44 a.s.now c.loop-left.at c.loop-left.left c.loop-left.invariant.0 (omega arith) (omega (arith, c.field_end-e.ensures)))
+    sym (c.loop-i.invariant.1 ∙ rest_ended 44 a.s.now c.loop-i.at (c.args.k - c.loop-i.i) c.loop-i.invariant.0 (omega arith) (omega (arith, c.field_end-e.ensures)))
 
-pub loop-left-preserved : goal.loop-left-preserved
+pub loop-i-preserved : goal.loop-i-preserved
 unfolding rest_at
-loop-left-preserved c =
+loop-i-preserved c =
     let a = c.args in
-    (omega arith, c.loop-left.invariant.1 ∙ rest-on 44 a.s.now c.loop-left.at c.loop-left.left c.loop-left.invariant.0 (omega arith) (omega (arith, c.field_end-e.ensures)) ∙ rw c.field_end-e.ensures refl)
+    let less : c.args.k - c.loop-i.i - 1 ≡ c.args.k - (c.loop-i.i + 1) = omega arith in
+    (omega arith, c.loop-i.invariant.1 ∙ rest-on 44 a.s.now c.loop-i.at (c.args.k - c.loop-i.i) c.loop-i.invariant.0 (omega arith) (omega (arith, c.field_end-e.ensures)) ∙ rw c.field_end-e.ensures (ap (λ (n : ℕ). rest_at (drop (end_of 44 a.s.now c.loop-i.at + 1) a.s.now) n) less))
 
 pub returns : goal.returns
 returns c =
     let s = c.args.s.now in
-    take_all (length s - c.loop-left.at) (drop c.loop-left.at s) (omega (arith, length-drop c.loop-left.at s))
-    ∙ sym (c.loop-left.invariant.1 ∙ rest-here (drop c.loop-left.at s) c.loop-left.left (omega arith))
+    take_all (length s - c.loop-i.at) (drop c.loop-i.at s) (omega (arith, length-drop c.loop-i.at s))
+    ∙ sym (c.loop-i.invariant.1 ∙ rest-here (drop c.loop-i.at s) (c.args.k - c.loop-i.i) (omega arith))

@@ -1,12 +1,9 @@
 -- `faults::cut::rest` meets its contract. Assumes nothing.
-use Prim.Native.Nat.{◌≤◌}
+use Prim.Native.Nat.{◌-◌, ◌≤◌}
 use lib.ListN.{length, drop}
 use mathlib.Core.Path.{◌≡◌}
 use Rattle.faults.specs.Cut.{rest_at}
 use Rattle.faults.proofs.cut.rest.Given as goal
 
-abbrev pub invariant-loop-left : goal.invariant-loop-left
-invariant-loop-left l = (l.at ≤ length l.s) × (rest_at l.s l.k ≡ rest_at (drop l.at l.s) l.left)
-
-abbrev pub decreases-loop-left : goal.decreases-loop-left
-decreases-loop-left l = l.left
+abbrev pub invariant-loop-i : goal.invariant-loop-i
+invariant-loop-i l = (l.at ≤ length l.s) × (rest_at l.s l.k ≡ rest_at (drop l.at l.s) (l.k - l.i))

@@ -32,9 +32,10 @@ slice_bounds-check-count c = omega (arith, c.loop-end.invariant.1.1.0.from)
 pub slice_bounds-check-start : goal.slice_bounds-check-start
 slice_bounds-check-start c = omega (arith, c.loop-end.invariant.1.1.0.from)
 
-pub returns-in-Wrong : goal.returns-in-Wrong
-returns-in-Wrong c =
-    c.at_field.ensures ∙ sym (turn-fault c.args.kind c.loop-end.i c.loop-end.invariant.1.1.0 _ _ (omega arith) (sym c.begins.ensures ∙ c.if-begins.false) (sym c.check.ensures ∙ c.in-Wrong.is)) ∙ c.loop-end.invariant.1.1.1
+pub returns-in_err-check : goal.returns-in_err-check
+returns-in_err-check c =
+    let e = turn-fault c.args.kind c.loop-end.i c.loop-end.invariant.1.1.0 _ (omega arith) (sym c.begins.ensures ∙ c.if-begins.false) (sym c.check.ensures ∙ c.in_err-check.was) in
+    rw (sym c.loop-end.invariant.1.1.1 ∙ e) (search rules)
 
 pub loop-end-smaller : goal.loop-end-smaller
 loop-end-smaller c =
@@ -43,7 +44,7 @@ loop-end-smaller c =
 
 pub loop-end-preserved : goal.loop-end-preserved
 loop-end-preserved c =
-    let n = turn-record c.args.kind c.loop-end.i c.loop-end.invariant.1.1.0 (omega arith) (sym c.begins.ensures ∙ c.if-begins.false) (sym c.check.ensures ∙ c.in_default.is) in
+    let n = turn-record c.args.kind c.loop-end.i c.loop-end.invariant.1.1.0 (omega arith) (sym c.begins.ensures ∙ c.if-begins.false) (sym c.check.ensures ∙ c.in_ok-check.was) in
     (omega arith, (omega (arith, c.loop-end.invariant.1.1.0.from), (ended_at _ _ _ (omega arith) c.field_end-end-in-loop-end.ensures, sym n ∙ c.loop-end.invariant.1.1.1)))
 
 pub returns : goal.returns

@@ -8,4 +8,4 @@ pub put_correction-requires : goal.put_correction-requires
 put_correction-requires c = (correction-back _ _ (sym c.read.ensures ∙ c.in-Some.is)).1
 
 pub put_correction-requires-2 : goal.put_correction-requires-2
-put_correction-requires-2 c = correction-at-fits _ _ _ (sym c.read_correction.ensures ∙ c.in-Correction.is)
+put_correction-requires-2 c = correction-at-fits _ _ _ (sym c.read_correction.ensures ∙ c.in-Ok.is)

@@ -8,4 +8,4 @@ pub put_report-requires : goal.put_report-requires
 put_report-requires c = (report-back _ _ (sym c.read.ensures ∙ c.in-Some.is)).1
 
 pub put_report-requires-2 : goal.put_report-requires-2
-put_report-requires-2 c = report-at-fits _ _ _ (sym c.read_report.ensures ∙ c.in-Report.is)
+put_report-requires-2 c = report-at-fits _ _ _ (sym c.read_report.ensures ∙ c.in-Ok.is)

@@ -8,4 +8,4 @@ pub put_request-requires : goal.put_request-requires
 put_request-requires c = (request-back _ _ (sym c.read.ensures ∙ c.in-Some.is)).1
 
 pub put_request-requires-2 : goal.put_request-requires-2
-put_request-requires-2 c = request-at-fits _ _ _ (sym c.read_request.ensures ∙ c.in-Request.is)
+put_request-requires-2 c = request-at-fits _ _ _ (sym c.read_request.ensures ∙ c.in-Ok.is)

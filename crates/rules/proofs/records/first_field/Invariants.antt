@@ -1,6 +1,6 @@
 -- `rules::records::first_field` meets its contract: what is found is the run of the bytes that are left, behind the digits before them.
 -- Assumes nothing.
-use Prim.Native.Nat.{◌≤◌, ◌<◌, ◌-◌, ◌*◌, ◌^◌}
+use Prim.Native.Nat.{◌<◌, ◌-◌, ◌*◌, ◌^◌}
 use mathlib.Core.Path.{◌≡◌}
 use lib.ListN.{drop}
 use Rattle.laws.specs.Split.{piece_of}
@@ -10,7 +10,4 @@ use Rattle.rules.proofs.FirstRun.{run}
 use Rattle.rules.proofs.records.first_field.Given as goal
 
 abbrev pub invariant-loop-i : goal.invariant-loop-i
-invariant-loop-i l = (l.i ≤ l.most) × (field_digits (digits_field_of (piece_of 44 l.s 0)) ≡ run l.n (11 - l.i) (drop l.i l.s)) × (l.n < 2 * 10 ^ l.i)
-
-abbrev pub decreases-loop-i : goal.decreases-loop-i
-decreases-loop-i l = l.most - l.i
+invariant-loop-i l = (field_digits (digits_field_of (piece_of 44 l.s 0)) ≡ run l.n (11 - l.i) (drop l.i l.s)) × (l.n < 2 * 10 ^ l.i)
