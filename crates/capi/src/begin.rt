@@ -8,16 +8,16 @@ ghost use Rattle.capi.specs.Starting.{StartsAs};
 use crate::told;
 use crate::told::Numbers;
 use starting::start;
-use starting::start::Started;
+use starting::start::NotStarted;
 use store::readable;
 
-fn tell(s: Started) -> Numbers
+fn tell(s: Result<usize, NotStarted>) -> Numbers
     ensures { result ≡ in_numbers 0 (started_told s) }
 {
     match s {
-        Started::Done(n) => told::with(0, n),
-        Started::Short => told::alone(44),
-        Started::BadTable => told::alone(6),
+        Ok(n) => told::with(0, n),
+        Err(NotStarted::Short) => told::alone(44),
+        Err(NotStarted::BadTable) => told::alone(6),
     }
 }
 

@@ -5,8 +5,8 @@ use Rattle.std.specs.Prelude.{◌≡◌, true, ◌⊎◌, List, ℕ, Result, Ok,
 use Rattle.desk.specs.declared.failure.Failure.{Failure}
 use Rattle.desk.specs.declared.failure.Failure.TheVariants.{Refused, Fault}
 use Rattle.store.specs.Reads.{Buffers, is_readable}
-use Rattle.starting.specs.declared.start.Started.{Started}
-use Rattle.starting.specs.declared.start.Started.TheVariants.{Done, Short, BadTable}
+use Rattle.starting.specs.declared.start.NotStarted.{NotStarted}
+use Rattle.starting.specs.declared.start.NotStarted.TheVariants.{Short, BadTable}
 use Rattle.starting.specs.Start.{start_answer, start_buffers}
 
 abbrev pub Ended : Type 0
@@ -26,10 +26,10 @@ read_status (Ok n) = Ok tt
 read_status (Err fault) = Err Refused
 
 -- of starting, by what it answers
-abbrev pub start_status : Started → Ended
-start_status (Done n) = Ok tt
-start_status Short = Err Refused
-start_status BadTable = Err Refused
+abbrev pub start_status : Result ℕ NotStarted → Ended
+start_status (Ok n) = Ok tt
+start_status (Err Short) = Err Refused
+start_status (Err BadTable) = Err Refused
 
 pub record StartsBy (text : List ℕ) (before : Buffers) (ended : Ended) (after : Buffers) : Type 0 where
   pub ends : Ends (start_status (start_answer text before)) ended

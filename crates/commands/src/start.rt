@@ -8,8 +8,8 @@ use crate::{LONGEST, end, given, opened};
 use desk::place::PATH_MAX;
 use desk::{Ended, Failure, Host, Page, args, place};
 use disk::{Books, lock, saved};
-use starting::start::Started;
 use std::io;
+use starting::start::NotStarted;
 use std::io::ErrorKind;
 use words::refusal::Refusal;
 
@@ -67,9 +67,9 @@ fn start_on(rt: &impl Host, folder: &[u8], path: &[u8], text: &[u8], books: &mut
         &mut books.corrections,
         &mut books.entries,
     ) {
-        Started::Short => opened::refused(rt, path, Refusal::Damaged),
-        Started::BadTable => opened::refused(rt, path, Refusal::Table),
-        Started::Done(n) => {
+        Err(NotStarted::Short) => opened::refused(rt, path, Refusal::Damaged),
+        Err(NotStarted::BadTable) => opened::refused(rt, path, Refusal::Table),
+        Ok(n) => {
             save_new(rt, folder, books)?;
             started(rt, n)
         }

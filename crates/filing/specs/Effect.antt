@@ -1,4 +1,5 @@
 -- What filing leaves in the buffers, and its contract: answer and every byte, for every input. Assumes nothing: these are definitions.
+use Rattle.std.specs.Prelude.{Ok}
 use Rattle.std.specs.Prelude.{◌≡◌, List, [], ◌∷◌, ◌++◌, ℕ}
 use Rattle.model.specs.Model.{Filed, Store, count_of}
 use Rattle.rules.specs.Rules.{rules}
@@ -6,7 +7,6 @@ use Rattle.store.specs.Reads.{Buffers, Held, held}
 use Rattle.filing.specs.declared.entering.kind.Filable.{Filable}
 use Rattle.filing.specs.entering.Entering.{entered}
 use Rattle.filing.specs.fitting.Renewing.{renewed_entries}
-use Rattle.starting.specs.declared.start.Started.TheVariants.{Done}
 use Rattle.starting.specs.Start.{Starts}
 use Rattle.filing.specs.declared.checking.answer.Answer.{Answer}
 use Rattle.filing.specs.checking.Filing.{Decision, Refuse, Accept, decide}
@@ -48,7 +48,7 @@ pub record Accepted (f : Filed) (b : Buffers) (count : ℕ) (after : Buffers) : 
 
 -- ---- the buffers that starting and filing lead to, whatever is answered on the way
 pub data Came : Buffers → Type 0 where
-  start : {text : List ℕ} {before after : Buffers} {n : ℕ} → Starts text before (Done n) after → Came after
+  start : {text : List ℕ} {before after : Buffers} {n : ℕ} → Starts text before (Ok n) after → Came after
   file : {b after : Buffers} → Came b → {kind : Filable} {publisher : List ℕ} {day : ℕ} {text : List ℕ} {answer : Answer} → Files b kind publisher day text answer after → Came after
 
 -- what they hold, as a store of the model under the paper's rules

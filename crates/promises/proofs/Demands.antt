@@ -33,6 +33,7 @@
 use Rattle.std.specs.Prelude.{None}
 use Rattle.std.specs.Prelude.{Ok}
 use Rattle.std.specs.Prelude.{Option, Some}
+use Rattle.std.specs.Prelude.{Ok, Result, None, Option, Some}
 use mathlib.Core.Path.{◌≡◌, ◌∙◌}
 use mathlib.Core.Logic.{◌⊎◌, ⊎_elim}
 use mathlib.Core.Bool.{true, false}
@@ -63,8 +64,7 @@ use Rattle.store.specs.numbers.Lines.{line_count, line_at}
 use Rattle.store.specs.declared.numbers.lines.Line.{Line}
 use Rattle.store.specs.entry_slots.Entries.{entry_at}
 use Rattle.store.specs.Reads.{Buffers, table_line, held, is_readable, reads}
-use Rattle.starting.specs.declared.start.Started.{Started}
-use Rattle.starting.specs.declared.start.Started.TheVariants.{Done}
+use Rattle.starting.specs.declared.start.NotStarted.{NotStarted}
 use Rattle.starting.specs.tables.Given.{table_of}
 use Rattle.starting.specs.Start.{Starts, started_with}
 use Rattle.starting.proofs.Readable.{started-reads}
@@ -118,11 +118,11 @@ pub filing-answers-by-the-table-c : {b after : Buffers} {kind : ℕ} {publisher 
 filing-answers-by-the-table-c s = s.answers ∙ answers-by-table (files-c s)
 
 -- starting likewise: "44 for a short buffer alone", then 6
-pub starting-answers-by-the-table : {text : List ℕ} {before after : Buffers} {answer : Started} → Starts text before answer after → started_number answer ≡ first_line (starting_table text before) 0
+pub starting-answers-by-the-table : {text : List ℕ} {before after : Buffers} {answer : Result ℕ NotStarted} → Starts text before answer after → started_number answer ≡ first_line (starting_table text before) 0
 starting-answers-by-the-table s = start-by-table s
 
 -- "the store then reads as exactly the given table, empty journals and one first entry per line"
-pub started-as-given : {text : List ℕ} {before after : Buffers} {n : ℕ} → Starts text before (Done n) after
+pub started-as-given : {text : List ℕ} {before after : Buffers} {n : ℕ} → Starts text before (Ok n) after
     → (lines : List Line) × (table_of text ≡ Some lines) × (n ≡ length lines) × (reads after ≡ Some (started_with lines))
 started-as-given {text} {before} {after} {n} s = started-reads text before after n s
 

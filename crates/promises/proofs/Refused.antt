@@ -1,6 +1,7 @@
 -- What a refusal leaves, function by function. Assumes nothing.
 use Rattle.std.specs.Prelude.{Option, Some, None}
 use Rattle.std.specs.Prelude.{Result, Ok, Err}
+use Rattle.std.specs.Prelude.{Err, Result, Option, Some, None, Ok}
 use Rattle.records.specs.declared.names.written.NotWritten.{NotWritten}
 use mathlib.Core.Path.{◌≡◌, refl, ap, ◌∙◌}
 use mathlib.Core.Bool.{Bool, true, false, cond, not}
@@ -14,6 +15,8 @@ use Rattle.records.specs.names.Written.{after_writing}
 use Rattle.store.specs.Reads.{Buffers, Held, held, long_enough}
 use Rattle.store.specs.declared.numbers.lines.Line.{Line}
 use Rattle.starting.specs.declared.start.Started.{Started}
+use Rattle.store.specs.entry_slots.Entries.{entry_slot}
+use Rattle.starting.specs.declared.start.NotStarted.{NotStarted}
 use Rattle.starting.specs.tables.Given.{table_of}
 use Rattle.starting.specs.Start.{answer_of, start_answer, Starts}
 use Rattle.starting.proofs.Readable.{refused-stays}
@@ -48,14 +51,14 @@ pub reworks-c : {b : Buffers} {list : List ℕ} {answer more : ℕ} {entries lis
 reworks-c s = record { answers = refl; leaves = s.leaves; lists = s.lists }
 
 -- ---- starting
-start-stays : {text : List ℕ} {before after : Buffers} {answer : Started} → Starts text before answer after → (started_number answer ≡ 0 → ⊥) → after ≡ before
+start-stays : {text : List ℕ} {before after : Buffers} {answer : Result ℕ NotStarted} → Starts text before answer after → (started_number answer ≡ 0 → ⊥) → after ≡ before
 start-stays {text} {before} {after} {answer} s not-0 = refused-stays text before after answer s (λ n e. not-0 (ap started_number e))
 
-pub start-by-table : {text : List ℕ} {before after : Buffers} {answer : Started} → Starts text before answer after → started_number answer ≡ first_line (starting_table text before) 0
+pub start-by-table : {text : List ℕ} {before after : Buffers} {answer : Result ℕ NotStarted} → Starts text before answer after → started_number answer ≡ first_line (starting_table text before) 0
 unfolding start_answer
 start-by-table {text} {before} s = ap started_number s.answers ∙ go (long_enough before) (table_of text)
   where
-    go : (t : Bool) (o : Option (List Line)) → started_number (cond t (answer_of o) Started.Short) ≡ first_line ((not t, 44) ∷ (is_no_table o, 6) ∷ []) 0
+    go : (t : Bool) (o : Option (List Line)) → started_number (cond t (answer_of o) (Err NotStarted.Short)) ≡ first_line ((not t, 44) ∷ (is_no_table o, 6) ∷ []) 0
     go true (Some lines) = refl
     go true None = refl
     go false (Some lines) = refl

@@ -1,4 +1,5 @@
 -- The stores in use are those that starting and filing lead to (`Came`) and those that were worked out again (`Resumed`). Assumes nothing.
+use Rattle.std.specs.Prelude.{Err, Ok, Result}
 use mathlib.Core.Path.{◌≡◌, refl, sym, ap, subst, ◌∙◌}
 use mathlib.Core.Logic.{◌⊎◌, inl, inr, ⊎_elim}
 use mathlib.Core.Bool.{true}
@@ -12,7 +13,7 @@ use Rattle.store.specs.journals.Files.{file_count}
 use Rattle.store.specs.Reads.{Buffers, held, is_readable}
 use Rattle.store.proofs.Checks.{few-files}
 use Rattle.store.proofs.Whole.{whole-files}
-use Rattle.starting.specs.declared.start.Started.{Started}
+use Rattle.starting.specs.declared.start.NotStarted.{NotStarted}
 use Rattle.starting.specs.Start.{start_answer, Starts}
 use Rattle.filing.specs.Effect.{Came, store_of}
 use Rattle.filing.proofs.Promises.{came-reached}
@@ -35,13 +36,13 @@ unfolding held
 all-counted b = length-first (file_count b.files) b.files b.regular b.corrections
 
 -- ---- answer 0 that other languages get
-pub done-c : {text : List ℕ} {before after : Buffers} {more : ℕ} → StartsAs text before 0 more after → Starts text before (Started.Done more) after
+pub done-c : {text : List ℕ} {before after : Buffers} {more : ℕ} → StartsAs text before 0 more after → Starts text before (Ok more) after
 done-c {text} {before} {after} {more} s = go (start_answer text before) refl
   where
-    go : (a : Started) → start_answer text before ≡ a → Starts text before (Started.Done more) after
-    go (Started.Done n) e = record { answers = ap Started.Done (s.tells ∙ ap started_count e) ∙ sym e; leaves = s.leaves }
-    go Started.Short e = absurd (let z = s.answers ∙ ap started_number e in omega (arith, z))
-    go Started.BadTable e = absurd (let z = s.answers ∙ ap started_number e in omega (arith, z))
+    go : (a : Result ℕ NotStarted) → start_answer text before ≡ a → Starts text before (Ok more) after
+    go (Ok n) e = record { answers = ap Ok (s.tells ∙ ap started_count e) ∙ sym e; leaves = s.leaves }
+    go (Err NotStarted.Short) e = absurd (let z = s.answers ∙ ap started_number e in omega (arith, z))
+    go (Err NotStarted.BadTable) e = absurd (let z = s.answers ∙ ap started_number e in omega (arith, z))
 
 pub changed-c : {b : Buffers} {more : ℕ} {list entries listed : List ℕ} → ReworksAs b list 0 more entries listed → Reworks b all_files list (Ok more) entries listed
 changed-c {b} {more} {list} {entries} {listed} s = go (rework_of (with_room list b)) refl

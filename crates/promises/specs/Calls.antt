@@ -1,11 +1,10 @@
 -- Each public function that is lent memory to change: the paper's number that it answered, and what it was lent, before and after. Assumes nothing:
 -- these are definitions.
-use Rattle.std.specs.Prelude.{Result}
+use Rattle.std.specs.Prelude.{Result, List, [], ◌∷◌, ℕ}
 use Rattle.records.specs.declared.names.written.NotWritten.{NotWritten}
-use Rattle.std.specs.Prelude.{List, [], ◌∷◌, ℕ}
 use Rattle.records.specs.names.Written.{Wrote}
 use Rattle.store.specs.Reads.{Buffers}
-use Rattle.starting.specs.declared.start.Started.{Started}
+use Rattle.starting.specs.declared.start.NotStarted.{NotStarted}
 use Rattle.starting.specs.Start.{Starts}
 use Rattle.filing.specs.declared.entering.kind.Filable.{Filable}
 use Rattle.filing.specs.declared.checking.answer.Answer.{Answer}
@@ -28,7 +27,7 @@ bytes_of b = b.table ∷ b.files ∷ b.regular ∷ b.corrections ∷ b.entries �
 
 -- the number, and each lent run of bytes or numbers: a call that ends in `-c` is what other languages call
 pub data Call : ℕ → List (List ℕ) → List (List ℕ) → Type 0 where
-  start : {text : List ℕ} {before after : Buffers} {answer : Started} → Starts text before answer after → Call (started_number answer) (bytes_of before) (bytes_of after)
+  start : {text : List ℕ} {before after : Buffers} {answer : Result ℕ NotStarted} → Starts text before answer after → Call (started_number answer) (bytes_of before) (bytes_of after)
   start-c : {text : List ℕ} {before after : Buffers} {answer more : ℕ} → StartsAs text before answer more after → Call answer (bytes_of before) (bytes_of after)
   file : {b after : Buffers} {kind : Filable} {publisher : List ℕ} {day : ℕ} {text : List ℕ} {answer : Answer}
       → Files b kind publisher day text answer after → Call (filed_number answer) (bytes_of b) (bytes_of after)

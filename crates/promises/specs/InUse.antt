@@ -1,8 +1,8 @@
 -- The buffers that starting, filing and reworking lead to, in whatever order they are called. Assumes nothing: these are definitions.
+use Rattle.std.specs.Prelude.{Ok}
 use Rattle.std.specs.Prelude.{List, ℕ, ◌≤◌}
 use Rattle.store.specs.journals.Files.{file_count}
 use Rattle.store.specs.Reads.{Buffers, lent}
-use Rattle.starting.specs.declared.start.Started.TheVariants.{Done}
 use Rattle.starting.specs.Start.{Starts}
 use Rattle.filing.specs.declared.entering.kind.Filable.{Filable}
 use Rattle.filing.specs.declared.checking.answer.Answer.{Answer}
@@ -21,7 +21,7 @@ with_entries b entries = lent b.table b.files b.regular b.corrections entries
 -- A store in use: `start` is the library's function and `start-c` the one that other languages call, and so on
 pub data InUse : Buffers → Type 0 where
   -- it was started
-  start : {text : List ℕ} {before after : Buffers} {n : ℕ} → Starts text before (Done n) after → InUse after
+  start : {text : List ℕ} {before after : Buffers} {n : ℕ} → Starts text before (Ok n) after → InUse after
   start-c : {text : List ℕ} {before after : Buffers} {more : ℕ} → StartsAs text before 0 more after → InUse after
   -- a file was offered, whatever was answered
   file : {b after : Buffers} → InUse b → {kind : Filable} {publisher : List ℕ} {day : ℕ} {text : List ℕ} {answer : Answer}

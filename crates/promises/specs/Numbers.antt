@@ -1,11 +1,11 @@
 -- The paper's number of each answer, and the values that are told with it, by the definitions beside the answers. Assumes nothing: these are definitions.
-use Rattle.std.specs.Prelude.{Result}
+use Rattle.std.specs.Prelude.{Result, ℕ}
 use Rattle.records.specs.declared.names.written.NotWritten.{NotWritten}
 use Rattle.std.specs.Prelude.{ℕ}
 use Rattle.std.specs.Prelude.{Option, Result, ℕ}
 use Rattle.laws.specs.Told.{value_at}
 use Rattle.records.specs.names.Written.{written_told}
-use Rattle.starting.specs.declared.start.Started.{Started}
+use Rattle.starting.specs.declared.start.NotStarted.{NotStarted}
 use Rattle.starting.specs.Start.{started_told}
 use Rattle.filing.specs.declared.checking.answer.Answer.{Answer}
 use Rattle.filing.specs.checking.Answers.{answer_told}
@@ -18,10 +18,10 @@ use Rattle.asking.specs.Numbers.{why_told, asked_told}
 use Rattle.reworking.specs.Reworking.{reworked_told}
 
 -- starting: 0 with how many lines the table has
-abbrev pub started_number : Started → ℕ
+abbrev pub started_number : Result ℕ NotStarted → ℕ
 started_number a = (started_told a).number
 
-abbrev pub started_count : Started → ℕ
+abbrev pub started_count : Result ℕ NotStarted → ℕ
 started_count a = value_at 0 (started_told a)
 
 -- filing: 0 with the count of the journal records whose number the file names

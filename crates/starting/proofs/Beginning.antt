@@ -1,4 +1,5 @@
 -- What is written where the text is a table. Assumes nothing.
+use Rattle.std.specs.Prelude.{Err, Ok, Result}
 use Rattle.std.specs.Prelude.{Option, Some, None}
 use mathlib.Core.Path.{◌≡◌, refl, sym, ap, ap₂, ◌∙◌}
 use mathlib.Core.Bool.{true, false}
@@ -22,14 +23,14 @@ use Rattle.store.specs.numbers.Lines.{line_slot, line_at}
 use Rattle.store.specs.declared.numbers.lines.Line.{Line}
 use Rattle.starting.specs.tables.Given.{table_of, Spread}
 use Rattle.starting.specs.Start.{first_of, first_slot, answer_of, start_answer, start_buffers, Starts, table_after, files_after, entries_after, table_with, entries_with, Entered, Begun}
-use Rattle.starting.specs.declared.start.Started.{Started}
-use Rattle.starting.specs.declared.start.Started.TheVariants.{Done, Short, BadTable}
+use Rattle.starting.specs.declared.start.NotStarted.{NotStarted}
+use Rattle.starting.specs.declared.start.NotStarted.TheVariants.{Short, BadTable}
 use Rattle.starting.proofs.tables.Spreading.{spread-part, lines-laid}
 
 -- ---- the table
-pub table-written : (room : List ℕ) (n : ℕ) (t t₁ : List ℕ) → t₁ ≡ overlay t 0 (low_first 2 n) → overlay t₁ 2 (take (2 + n * 14 - 2) (drop 2 room)) ≡ table_with room n t
+pub table_written : (room : List ℕ) (n : ℕ) (t t₁ : List ℕ) → t₁ ≡ overlay t 0 (low_first 2 n) → overlay t₁ 2 (take (2 + n * 14 - 2) (drop 2 room)) ≡ table_with room n t
 unfolding table_with part
-table-written room n t t₁ e =
+table_written room n t t₁ e =
     let size : 2 + n * 14 - 2 ≡ n * 14 = omega arith in
     ap₂ (λ (b : List ℕ) (k : ℕ). overlay b 2 (take k (drop 2 room))) e size
 
@@ -59,8 +60,8 @@ entries_next room e e₁ i l x q p r =
 
 -- ---- all of it
 module _ (text t f e : List ℕ) where
-  pub begun-not : table_of text ≡ None → Begun text t f e BadTable t f e
-  begun-not g = record { answers = rw g; table_is = rw g; files-is = rw g; entries-is = rw g }
+  pub begun_not : table_of text ≡ None → Begun text t f e (Err BadTable) t f e
+  begun_not g = record { answers = rw g; table_is = rw g; files-is = rw g; entries-is = rw g }
 
   module _ (t' f' e' before room : List ℕ) (n : ℕ) (ls : List Line) (g : table_of text ≡ Some ls) (s : Spread ls before n room) (long : 14338 ≤ length before)
       (w : Entered room n t f e t' f' e') where
@@ -76,23 +77,23 @@ module _ (text t f e : List ℕ) where
     unfolding entries_with
     entries-end = ap (λ (l : List Line). overlay e 0 (flat_map first_slot l)) (lines-laid ls before n room s long)
 
-    pub begun-done : Begun text t f e (Done n) t' f' e'
-    begun-done = record {
-      answers = ap Done s.size ∙ sym (ap answer_of g);
+    pub begun_done : Begun text t f e (Ok n) t' f' e'
+    begun_done = record {
+      answers = ap Ok s.size ∙ sym (ap answer_of g);
       table_is = w.table_is ∙ table-end ∙ sym (ap (λ (o : Option (List Line)). table_after o t) g);
       files-is = w.files-is ∙ sym (ap (λ (o : Option (List Line)). files_after o f) g);
       entries-is = w.entries-is ∙ entries-end ∙ sym (ap (λ (o : Option (List Line)). entries_after o e) g);
     }
 
 -- ---- with the test of the buffers' lengths
-pub starts-short : (text : List ℕ) (b : Buffers) → long_enough b ≡ false → Starts text b Short b
+pub starts_short : (text : List ℕ) (b : Buffers) → long_enough b ≡ false → Starts text b (Err Short) b
 unfolding start_answer start_buffers
-starts-short text b e = record { answers = rw e; leaves = rw e }
+starts_short text b e = record { answers = rw e; leaves = rw e }
 
-pub starts-long : (text t f r c e t' f' e' : List ℕ) (answer : Started) → long_enough (lent t f r c e) ≡ true → Begun text t f e answer t' f' e'
+pub starts_long : (text t f r c e t' f' e' : List ℕ) (answer : Result ℕ NotStarted) → long_enough (lent t f r c e) ≡ true → Begun text t f e answer t' f' e'
     → Starts text (lent t f r c e) answer (lent t' f' r c e')
 unfolding start_answer start_buffers
-starts-long text t f r c e t' f' e' answer q w = record {
+starts_long text t f r c e t' f' e' answer q w = record {
   answers = rw q w.answers;
   leaves = rw q (λ i. lent (w.table_is i) (w.files-is i) r c (w.entries-is i));
 }

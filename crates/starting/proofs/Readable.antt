@@ -1,4 +1,5 @@
 -- Whatever answer 0 leaves reads as the given table, no file, and the first entries; a refusal leaves the buffers as they were. Assumes nothing.
+use Rattle.std.specs.Prelude.{Err, Ok, Result}
 use Rattle.std.specs.Prelude.{Option, Some, None}
 use mathlib.Core.Path.{◌≡◌, refl, sym, ap, ◌∙◌}
 use mathlib.Core.Bool.{Bool, true, false, cond, ◌&&◌}
@@ -32,8 +33,8 @@ use Rattle.store.specs.Reads.{Buffers, table_line, held, long_enough, good_table
 use Rattle.store.proofs.Checks.{Long, long, reads-some}
 use Rattle.starting.specs.tables.Given.{line_given, end_given, with_line, lines_given, number_of_line, checked, table_of}
 use Rattle.starting.specs.Start.{first_of, first_slot, answer_of, start_answer, with_table, start_buffers, Starts, started_with}
-use Rattle.starting.specs.declared.start.Started.{Started}
-use Rattle.starting.specs.declared.start.Started.TheVariants.{Done, Short}
+use Rattle.starting.specs.declared.start.NotStarted.{NotStarted}
+use Rattle.starting.specs.declared.start.NotStarted.TheVariants.{Short}
 use Rattle.starting.proofs.Beginning.{length-first}
 use Rattle.starting.proofs.tables.Reading.{line-good}
 use Rattle.starting.proofs.tables.Spreading.{no_line}
@@ -212,12 +213,12 @@ module _ (b : Buffers) (ls : List Line) (w : Table ls) (enough : long_enough b �
   table-held = reads-some (with_table (Some ls) b) readable ∙ ap Some holds
 
 -- what answer 0 leaves reads as exactly the given table, no file, and one first entry for each line
-pub started-reads : (text : List ℕ) (before after : Buffers) (n : ℕ) → Starts text before (Done n) after
+pub started-reads : (text : List ℕ) (before after : Buffers) (n : ℕ) → Starts text before (Ok n) after
     → (ls : List Line) × (table_of text ≡ Some ls) × (n ≡ length ls) × (reads after ≡ Some (started_with ls))
 unfolding start_answer start_buffers
 started-reads text before after n s = go (long_enough before) (table_of text) refl refl s.answers s.leaves
   where
-    go : (t : Bool) (o : Option (List Line)) → long_enough before ≡ t → table_of text ≡ o → Done n ≡ cond t (answer_of (table_of text)) Short → after ≡ cond t (with_table (table_of text) before) before
+    go : (t : Bool) (o : Option (List Line)) → long_enough before ≡ t → table_of text ≡ o → Ok n ≡ cond t (answer_of (table_of text)) (Err Short) → after ≡ cond t (with_table (table_of text) before) before
         → (ls : List Line) × (table_of text ≡ Some ls) × (n ≡ length ls) × (reads after ≡ Some (started_with ls))
     go true (Some ls) p q a l =
         let counted : n ≡ length ls = cc in
@@ -226,11 +227,11 @@ started-reads text before after n s = go (long_enough before) (table_of text) re
     go false o p q a l = let z : ◌≡◌ {A = ℕ} 0 1 = cc in absurd (omega arith)
 
 -- a refusal writes nothing
-pub refused-stays : (text : List ℕ) (before after : Buffers) (answer : Started) → Starts text before answer after → ((n : ℕ) → answer ≡ Done n → ⊥) → after ≡ before
+pub refused-stays : (text : List ℕ) (before after : Buffers) (answer : Result ℕ NotStarted) → Starts text before answer after → ((n : ℕ) → answer ≡ Ok n → ⊥) → after ≡ before
 unfolding start_answer start_buffers
 refused-stays text before after answer s never = go (long_enough before) (table_of text) refl refl s.answers s.leaves
   where
-    go : (t : Bool) (o : Option (List Line)) → long_enough before ≡ t → table_of text ≡ o → answer ≡ cond t (answer_of (table_of text)) Short → after ≡ cond t (with_table (table_of text) before) before
+    go : (t : Bool) (o : Option (List Line)) → long_enough before ≡ t → table_of text ≡ o → answer ≡ cond t (answer_of (table_of text)) (Err Short) → after ≡ cond t (with_table (table_of text) before) before
         → after ≡ before
     go true (Some ls) p q a l = absurd (never (length ls) (a ∙ ap answer_of q))
     go true None p q a l = l ∙ ap (λ (o : Option (List Line)). with_table o before) q

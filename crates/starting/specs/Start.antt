@@ -1,5 +1,5 @@
 -- What starting answers, and what it leaves in the buffers. Assumes nothing: these are definitions.
-use Rattle.std.specs.Prelude.{Option, Some, None}
+use Rattle.std.specs.Prelude.{Option, Some, None, Result, Ok, Err}
 use Rattle.std.specs.Prelude.{◌≡◌, cond, ℕ, ◌*◌, length}
 use mathlib.Core.List.{List, [], ◌∷◌, ◌++◌, map, flat_map}
 use Rattle.laws.specs.Lists.{table}
@@ -13,16 +13,16 @@ use Rattle.store.specs.Reads.{Buffers, Held, table_line, long_enough}
 use Rattle.entries.specs.Entry.{first_entry}
 use Rattle.entries.specs.declared.entry.Entry.{Entry}
 use Rattle.starting.specs.tables.Given.{table_of}
-use Rattle.starting.specs.declared.start.Started.{Started}
-use Rattle.starting.specs.declared.start.Started.TheVariants.{Done, Short, BadTable}
+use Rattle.starting.specs.declared.start.NotStarted.{NotStarted}
+use Rattle.starting.specs.declared.start.NotStarted.TheVariants.{Short, BadTable}
 
 -- what an answer tells: 0 with the count of the lines, 44, or 6
-abbrev pub started_told : Started → Told
-started_told (Done n) = told 0 (n ∷ [])
-started_told Short = told 44 []
-started_told BadTable = told 6 []
+abbrev pub started_told : Result ℕ NotStarted → Told
+started_told (Ok n) = told 0 (n ∷ [])
+started_told (Err Short) = told 44 []
+started_told (Err BadTable) = told 6 []
 
-abbrev pub start_number : Started → ℕ
+abbrev pub start_number : Result ℕ NotStarted → ℕ
 start_number s = (started_told s).number
 
 -- the first entry of a line: holder the owner, no confirmed date, all places free
@@ -33,12 +33,12 @@ unfoldable pub first_slot : Line → List ℕ
 first_slot l = entry_slot (first_of l)
 
 -- ---- the answer: 44 for a short buffer before all else, then 6 for a text that gives no table
-abbrev pub answer_of : Option (List Line) → Started
-answer_of (Some ls) = Done (length ls)
-answer_of None = BadTable
+abbrev pub answer_of : Option (List Line) → Result ℕ NotStarted
+answer_of (Some ls) = Ok (length ls)
+answer_of None = Err BadTable
 
-unfoldable pub start_answer : List ℕ → Buffers → Started
-start_answer text b = cond (long_enough b) (answer_of (table_of text)) Short
+unfoldable pub start_answer : List ℕ → Buffers → Result ℕ NotStarted
+start_answer text b = cond (long_enough b) (answer_of (table_of text)) (Err Short)
 
 -- ---- the buffers: the count and the lines, no file, a first entry for each line; every other byte stays
 abbrev pub table_after : Option (List Line) → List ℕ → List ℕ
@@ -66,7 +66,7 @@ unfoldable pub start_buffers : List ℕ → Buffers → Buffers
 start_buffers text b = cond (long_enough b) (with_table (table_of text) b) b
 
 -- what the contract of starting says
-pub record Starts (text : List ℕ) (before : Buffers) (answer : Started) (after : Buffers) : Type 0 where
+pub record Starts (text : List ℕ) (before : Buffers) (answer : Result ℕ NotStarted) (after : Buffers) : Type 0 where
   pub answers : answer ≡ start_answer text before
   pub leaves : after ≡ start_buffers text before
 
@@ -88,7 +88,7 @@ pub record Entered (room : List ℕ) (n : ℕ) (t f e t' f' e' : List ℕ) : Typ
   pub files-is : f' ≡ overlay f 0 (low_first 2 0)
   pub entries-is : e' ≡ entries_with room n e
 
-pub record Begun (text t f e : List ℕ) (answer : Started) (t' f' e' : List ℕ) : Type 0 where
+pub record Begun (text t f e : List ℕ) (answer : Result ℕ NotStarted) (t' f' e' : List ℕ) : Type 0 where
   pub answers : answer ≡ answer_of (table_of text)
   pub table_is : t' ≡ table_after (table_of text) t
   pub files-is : f' ≡ files_after (table_of text) f

@@ -14,10 +14,9 @@ use store::numbers::lines::TABLE_LENGTH;
 use store::readable;
 use store::slots::run;
 
-// What starting answers; 0 carries the count of the table's lines.
-#[derive(Drop)]
-pub enum Started {
-    Done(usize),
+// Why a store is not started: a short buffer, or a text that is no number table.
+#[derive(Clone, Copy, PartialEq, Eq)]
+pub enum NotStarted {
     Short,
     BadTable,
 }
@@ -26,12 +25,14 @@ pub enum Started {
 fn first_of(l: lines::Line) -> Entry
     ensures { result ≡ first_of l }
 {
-    let owner = l.owner;
-    let setup = l.setup;
-    entries::entry::first(Line { owner, setup })
+    entries::entry::first(Line {
+        owner: l.owner,
+        setup: l.setup,
+    })
 }
 
 // Writes the count and the n lines of `room` into the table.
+#[tactic(auto, using(crate::proofs::Beginning::table_written))]
 fn put_table(room: &[u8], n: usize, table: &mut [u8])
     requires { (n ≤ 1024) × (14338 ≤ length room.now) × (14338 ≤ length table.old) }
     ensures { table.new ≡ table_with room.now n table.old }
@@ -42,16 +43,13 @@ fn put_table(room: &[u8], n: usize, table: &mut [u8])
 }
 
 // Writes the first entries of the n lines of `room`.
+#[tactic(auto, using(crate::proofs::Beginning::entries_none, crate::proofs::Beginning::entries_next))]
 fn put_entries(room: &[u8], n: usize, entries: &mut [u8])
     requires { (2 + n * 14 ≤ length room.now) × (n * 100 ≤ length entries.old) }
     ensures { entries.new ≡ entries_with room.now n entries.old }
 {
-    let mut i = 0;
-    while i < n {
-        let l = lines::line_at(room, i);
-        let e = first_of(l);
-        entry::put_entry(entries, i, e);
-        i += 1;
+    for i in 0..n {
+        entry::put_entry(entries, i, first_of(lines::line_at(room, i)));
     }
 }
 
@@ -72,32 +70,16 @@ fn begin(
     table: &mut [u8],
     files: &mut [u8],
     entries: &mut [u8],
-) -> Started
+) -> Result<usize, NotStarted>
     requires { (14338 ≤ length room.old) × (14338 ≤ length table.old) × (8194 ≤ length files.old) × (102400 ≤ length entries.old) }
     ensures { Begun text.now table.old files.old entries.old result table.new files.new entries.new }
 {
-    let Some(n) = scratch::judge(text, room) else {
-        return Started::BadTable;
-    };
+    let n = scratch::judge(text, room).ok_or(NotStarted::BadTable)?;
     enter(room, n, table, files, entries);
-    Started::Done(n)
+    Ok(n)
 }
 
-// The same with as much room as a table needs.
-fn begin_in(
-    text: &[u8],
-    room: &mut [u8; TABLE_LENGTH],
-    table: &mut [u8],
-    files: &mut [u8],
-    entries: &mut [u8],
-) -> Started
-    requires { (14338 ≤ length table.old) × (8194 ≤ length files.old) × (102400 ≤ length entries.old) }
-    ensures { Begun text.now table.old files.old entries.old result table.new files.new entries.new }
-{
-    begin(text, room, table, files, entries)
-}
-
-// Starts a store: 44 for a short buffer before all else; 6 for a text that is no number table, and nothing is written; else 0, and
+// Starts a store: `Short` (44) before all else; `BadTable` (6), and nothing is written; else the count of the table's lines (0), and
 // the buffers then read as the table, no file, and the first entry of each line.
 pub fn start(
     text: &[u8],
@@ -106,12 +88,12 @@ pub fn start(
     regular: &mut [u8],
     corrections: &mut [u8],
     entries: &mut [u8],
-) -> Started
+) -> Result<usize, NotStarted>
     ensures { Starts text.now (lent table.old files.old regular.old corrections.old entries.old) result (lent table.new files.new regular.new corrections.new entries.new) }
 {
     if !readable::long_enough(table, files, regular, corrections, entries) {
-        return Started::Short;
+        return Err(NotStarted::Short);
     }
     let mut room = [0u8; TABLE_LENGTH];
-    begin_in(text, &mut room, table, files, entries)
+    begin(text, &mut room, table, files, entries)
 }

@@ -51,9 +51,9 @@ module _ (t : List ℕ) (e : good_table t ≡ true) where
       and_left (all good_line (lines_of t)) (none_twice same_number (table (line_count t) (number_at t)))
       (and_right (leb (line_count t) 1024) (all good_line (lines_of t) && none_twice same_number (table (line_count t) (number_at t))) e)
 
-  pub numbers-once : none_twice same_number (table (line_count t) (number_at t)) ≡ true
+  pub numbers_once : none_twice same_number (table (line_count t) (number_at t)) ≡ true
   unfolding good_table
-  numbers-once =
+  numbers_once =
       and_right (all good_line (lines_of t)) (none_twice same_number (table (line_count t) (number_at t)))
       (and_right (leb (line_count t) 1024) (all good_line (lines_of t) && none_twice same_number (table (line_count t) (number_at t))) e)
 
@@ -64,9 +64,9 @@ files-good f e =
     let rest : Bool = none_twice same_file (files_of f) && (leb (records_of 0 (files_of f)) 8192 && leb (records_of 1 (files_of f)) 2048) in
     and_left (all good_file (files_of f)) rest (and_right (leb (file_count f) 1024) (all good_file (files_of f) && rest) e)
 
-pub files-once : (f : List ℕ) → good_files f ≡ true → none_twice same_file (files_of f) ≡ true
+pub files_once : (f : List ℕ) → good_files f ≡ true → none_twice same_file (files_of f) ≡ true
 unfolding good_files
-files-once f e =
+files_once f e =
     let counts : Bool = leb (records_of 0 (files_of f)) 8192 && leb (records_of 1 (files_of f)) 2048 in
     and_left (none_twice same_file (files_of f)) counts
     (and_right (all good_file (files_of f)) (none_twice same_file (files_of f) && counts)

@@ -1,6 +1,6 @@
 // Whether the records of the two journals are in their layouts.
 ghost use Rattle.std.specs.Prelude.{◌≡◌, ◌+◌, ◌*◌, ◌≤◌, length};
-ghost use Rattle.laws.specs.Lists.{table, all};
+ghost use Rattle.std.specs.List.{list_all, range_with_len};
 ghost use Rattle.laws.specs.Slots.{slot_at};
 ghost use Rattle.layout.specs.Correction.{correction_of};
 ghost use Rattle.layout.specs.Report.{report_of};
@@ -34,29 +34,15 @@ fn good_correction(corrections: &[u8], k: usize) -> bool
 // Whether each of the first n slots of the regular journal does.
 pub(crate) fn good_reports(regular: &[u8], n: usize) -> bool
     requires { n * 45 ≤ length regular.now }
-    ensures { result ≡ all good_report (table n (slot_at 0 45 regular.now)) }
+    ensures { result ≡ list_all (λ i. good_report (slot_at 0 45 regular.now i)) (range_with_len 0 n) }
 {
-    let mut i = 0;
-    while i < n {
-        if !good_report(regular, i) {
-            return false;
-        }
-        i += 1;
-    }
-    true
+    (0..n).all(|i| good_report(regular, i))
 }
 
 // Whether each of the first n slots of the correction journal does.
 pub(crate) fn good_corrections(corrections: &[u8], n: usize) -> bool
     requires { n * 98 ≤ length corrections.now }
-    ensures { result ≡ all good_correction (table n (slot_at 0 98 corrections.now)) }
+    ensures { result ≡ list_all (λ i. good_correction (slot_at 0 98 corrections.now i)) (range_with_len 0 n) }
 {
-    let mut i = 0;
-    while i < n {
-        if !good_correction(corrections, i) {
-            return false;
-        }
-        i += 1;
-    }
-    true
+    (0..n).all(|i| good_correction(corrections, i))
 }

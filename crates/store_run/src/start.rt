@@ -4,21 +4,21 @@ ghost use Rattle.std.specs.Prelude.{◌≤◌};
 use crate::{line, print};
 use desk::Host;
 use starting::start;
-use starting::start::Started;
+use starting::start::NotStarted;
 
 // What was answered, with the line's own words before the count; nothing where it has none.
-fn said(rt: &impl Host, line: &[u8], w: &[u8], a: Started) {
+fn said(rt: &impl Host, line: &[u8], w: &[u8], a: Result<usize, NotStarted>) {
     if line::field(line, 3).len() == 0 {
         return;
     }
     print::text(rt, line::field(line, 1));
     match a {
-        Started::Done(n) => {
+        Ok(n) => {
             print::text(rt, line::field(line, 3));
             print::number(rt, n);
         }
-        Started::Short => print::word(rt, w, print::SHORT),
-        Started::BadTable => print::word(rt, w, print::BAD_TABLE),
+        Err(NotStarted::Short) => print::word(rt, w, print::SHORT),
+        Err(NotStarted::BadTable) => print::word(rt, w, print::BAD_TABLE),
     }
 }
 
@@ -43,7 +43,7 @@ fn started(
     r: &mut [u8],
     c: &mut [u8],
     e: &mut [u8],
-) -> Started {
+) -> Result<usize, NotStarted> {
     let table = lent(t.len(), short == 1);
     let files = lent(f.len(), short == 2);
     let regular = lent(r.len(), short == 3);

@@ -2,8 +2,8 @@
 use Rattle.layout.specs.declared.correction.Correction.{Correction as ACorrection}
 use Rattle.std.specs.Prelude.{Ok}
 use Rattle.std.specs.Prelude.{is_some}
+use Rattle.std.specs.Prelude.{Ok, is_some, Option, Some, None}
 use Rattle.layout.specs.declared.report.Report.{Report}
-use Rattle.std.specs.Prelude.{Option, Some, None}
 use mathlib.Core.Path.{◌≡◌, refl, sym, ap, ◌∙◌}
 use mathlib.Core.Bool.{true}
 use mathlib.Core.List.{List, [], ◌∷◌}

@@ -16,7 +16,7 @@ use Rattle.fields.specs.declared.number.Number.{Number}
 use Rattle.entries.specs.declared.entry.Line.{Line}
 use Rattle.records.specs.names.Written.{Wrote}
 use Rattle.store.specs.Reads.{Buffers}
-use Rattle.starting.specs.declared.start.Started.{Started}
+use Rattle.starting.specs.declared.start.NotStarted.{NotStarted}
 use Rattle.starting.specs.Start.{Starts}
 use Rattle.filing.specs.declared.entering.kind.Filable.{Filable}
 use Rattle.filing.specs.declared.checking.answer.Answer.{Answer}
@@ -66,7 +66,7 @@ pub filing-settles : (b : Buffers) (kind : Filable) (publisher : List ℕ) (day 
 filing-settles b kind publisher day text x y p q = pair_settles _ _ x y (p.answers, p.leaves) (q.answers, q.leaves)
 
 -- starting: the answer and the five buffers
-pub starting-settles : (text : List ℕ) (b : Buffers) → Settles (λ (o : Started × Buffers). Starts text b o.0 o.1)
+pub starting-settles : (text : List ℕ) (b : Buffers) → Settles (λ (o : Result ℕ NotStarted × Buffers). Starts text b o.0 o.1)
 starting-settles text b x y p q = pair_settles _ _ x y (p.answers, p.leaves) (q.answers, q.leaves)
 
 -- writing a file or its name: the answer and the buffer

@@ -7,27 +7,20 @@ use fields::date;
 use fields::number::{Digits, Number};
 use store::numbers::lines::Line;
 
+#[tactic(auto, unfolding(crate::specs::tables::Given::line_given, crate::specs::tables::Given::four_of))]
 pub fn read_line(l: &[u8]) -> Option<Line>
     ensures { result ≡ line_given l.now }
 {
     if text::cuts(l, 44) != 3 {
         return None;
     }
-    let Some(first) = Digits::read(text::piece(l, 44, 0)) else {
-        return None;
-    };
+    let first = Digits::read(text::piece(l, 44, 0))?;
     if first.is_empty() {
         return None;
     }
-    let Some(number) = Number::read(first, text::piece(l, 44, 1)) else {
-        return None;
-    };
-    let Some(owner) = Code::read(text::piece(l, 44, 2)) else {
-        return None;
-    };
-    let Some(setup) = date::read(text::piece(l, 44, 3)) else {
-        return None;
-    };
+    let number = Number::read(first, text::piece(l, 44, 1))?;
+    let owner = Code::read(text::piece(l, 44, 2))?;
+    let setup = date::read(text::piece(l, 44, 3))?;
     Some(Line {
         number,
         owner,

@@ -21,9 +21,7 @@ fn lay_out(text: &[u8], room: &mut [u8]) -> Option<usize>
         if lines::NUMBERS <= n {
             return None;
         }
-        let Some(l) = given::read_line(&text[at..end]) else {
-            return None;
-        };
+        let l = given::read_line(&text[at..end])?;
         lines::put_line(room, n, l);
         at = end + 1;
         n += 1;
@@ -36,11 +34,6 @@ pub(crate) fn judge(text: &[u8], room: &mut [u8]) -> Option<usize>
     requires { 14338 ≤ length room.old }
     ensures { Judged text.now room.old result room.new }
 {
-    let Some(n) = lay_out(text, room) else {
-        return None;
-    };
-    if !twice::no_number_twice(room, n) {
-        return None;
-    }
-    Some(n)
+    let n = lay_out(text, room)?;
+    twice::no_number_twice(room, n).then_some(n)
 }

@@ -19,7 +19,7 @@ use Rattle.laws.proofs.Slots.{slot_same, slot-other, slot-flat, length-flat}
 use Rattle.laws.proofs.Tables.{table-cong, table-self, all-each}
 use Rattle.laws.proofs.Words.{word_first, word-behind, word_next}
 use Rattle.store.proofs.slots.Widths.{word-one}
-use Rattle.store.proofs.entry_slots.Places.{kind-small, length-place}
+use Rattle.store.proofs.entry_slots.Places.{kind_small, length-place}
 use Rattle.fields.specs.declared.kind.Kind.{Kind}
 use Rattle.fields.specs.declared.kind.Kind.TheVariants.{P, L, Z}
 use Rattle.entries.specs.declared.entry.Entry.{Entry}
@@ -140,7 +140,7 @@ module _ (p : Place) (f : FinePlace p) (e : p.taken ≡ true) where
         opened p e,
         (first-is p),
         ne_eqb (1 + kind_no p.report.kind) 0 (λ q. omega arith),
-        le-leb (1 + kind_no p.report.kind) 3 (omega (arith, kind-small p.report.kind)),
+        le-leb (1 + kind_no p.report.kind) 3 (omega (arith, kind_small p.report.kind)),
         open-back,
       )
       open-good

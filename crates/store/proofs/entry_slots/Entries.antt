@@ -9,6 +9,9 @@ use native.Mathlib.Nat.{add-zero, zero-add}
 use native.Mathlib.Omega.{arith}
 use lib.Dec.{lit≤}
 use borrow.Author.Tests.{le-leb, lt-leb}
+use Rattle.std.specs.List.{list_all, range_with_len}
+use Rattle.laws.proofs.Tables.{table-cong}
+use Rattle.store.proofs.Ranges.{all_of_table}
 use Rattle.laws.specs.Lists.{table, all}
 use Rattle.laws.specs.Overlay.{overlay, part}
 use Rattle.laws.specs.Slots.{slot_at}
@@ -24,6 +27,11 @@ use Rattle.store.specs.entry_slots.Entries.{last_no, last_of, places_of, entry_s
 pub place-cut : (s : List ℕ) (at i : ℕ) → i < 8 → part s (at + i * 12) 12 ≡ slot_at 0 12 (part s at 96) i
 unfolding slot_at
 place-cut s at i h = sym (part-part s at 96 (0 + i * 12) 12 (omega arith) ∙ ap (λ (j : ℕ). part s (at + j) 12) (zero-add (i * 12)))
+
+good_eight : (s : List ℕ) (at : ℕ) → list_all (λ i. good_place (part s (at + i * 12) 12)) (range_with_len 0 8) ≡ all good_place (table 8 (slot_at 0 12 (part s at 96)))
+good_eight s at =
+    all_of_table (λ i. part s (at + i * 12) 12) good_place 8
+    ∙ ap (all good_place) (table-cong 8 (λ i. part s (at + i * 12) 12) (slot_at 0 12 (part s at 96)) (λ i h. place-cut s at i h))
 
 module _ (s : List ℕ) (k : ℕ) where
   cut : slot_at 0 100 s k ≡ part s (k * 100) 100
@@ -50,24 +58,24 @@ module _ (s : List ℕ) (k : ℕ) where
       λ i. record { holder = record { 0 = h' i }; last = l' i; places = p' i }
 
   module _ (h w : ℕ) (eh : h ≡ word_at 2 s (k * 100)) (ew : w ≡ word_at 2 s (k * 100 + 2)) where
-    pub holder-beyond : 999 < h → false ≡ good_entry (slot_at 0 100 s k)
+    pub holder_beyond : 999 < h → false ≡ good_entry (slot_at 0 100 s k)
     unfolding good_entry
-    holder-beyond b = rw (holder-word, ← eh, lt-leb h 999 b)
+    holder_beyond b = rw (holder-word, ← eh, lt-leb h 999 b)
 
-    pub date-beyond : h ≤ 999 → 18993 < w → false ≡ good_entry (slot_at 0 100 s k)
+    pub date_beyond : h ≤ 999 → 18993 < w → false ≡ good_entry (slot_at 0 100 s k)
     unfolding good_entry
-    date-beyond a b = rw (holder-word, ← eh, le-leb h 999 a, head-word 2 (lit≤ tt), ← ew, lt-leb w 18993 b)
+    date_beyond a b = rw (holder-word, ← eh, le-leb h 999 a, head-word 2 (lit≤ tt), ← ew, lt-leb w 18993 b)
 
-    pub entry-good : h ≤ 999 → w ≤ 18993 → all good_place (table 8 (slot_at 0 12 (part s (k * 100 + 4) 96))) ≡ good_entry (slot_at 0 100 s k)
+    pub entry_good : h ≤ 999 → w ≤ 18993 → list_all (λ i. good_place (part s (k * 100 + 4 + i * 12) 12)) (range_with_len 0 8) ≡ good_entry (slot_at 0 100 s k)
     unfolding good_entry
-    entry-good a b = rw (holder-word, ← eh, le-leb h 999 a, head-word 2 (lit≤ tt), ← ew, le-leb w 18993 b, eight)
+    entry_good a b = good_eight s (k * 100 + 4) ∙ rw (holder-word, ← eh, le-leb h 999 a, head-word 2 (lit≤ tt), ← ew, le-leb w 18993 b, eight)
 
 -- four bytes and the places behind them, written one after the other, are the entry
-pub entry-written : (s d : List ℕ) (at : ℕ) (e : Entry) (l : ℕ) → l ≡ last_no e.last
+pub entry_written : (s d : List ℕ) (at : ℕ) (e : Entry) (l : ℕ) → l ≡ last_no e.last
     → d ≡ overlay s at (e.holder.0 % 256 ∷ e.holder.0 / 256 % 256 ∷ l % 256 ∷ l / 256 % 256 ∷ [])
     → overlay d (at + 4) (flat_map place_slot e.places) ≡ overlay s at (entry_slot e)
 unfolding entry_slot low_first
-entry-written s d at e l el ed =
+entry_written s d at e l el ed =
     ap (λ (b : List ℕ). overlay b (at + 4) (flat_map place_slot e.places)) ed
     ∙ sym (overlay-append s at (e.holder.0 % 256 ∷ e.holder.0 / 256 % 256 ∷ l % 256 ∷ l / 256 % 256 ∷ []) (flat_map place_slot e.places))
     ∙ ap (λ (n : ℕ). overlay s at (e.holder.0 % 256 ∷ e.holder.0 / 256 % 256 ∷ n % 256 ∷ n / 256 % 256 ∷ flat_map place_slot e.places)) el

@@ -29,7 +29,7 @@ module _ (s : List ℕ) (at k : ℕ) (fits : at + 12 ≤ length s) (first : k �
   first_byte : word_at 1 (part s at 12) 0 ≡ k
   first_byte = word-part 1 s at 12 0 (lit≤ tt) ∙ ap (word_at 1 s) (add-zero at) ∙ word-one s at (omega arith) ∙ sym first
 
-  pub open-read : (kind : Kind) (date losing gaining day place : ℕ) → kind ≡ kind_of k → date ≡ word_at 2 s (at + 1) → losing ≡ word_at 2 s (at + 3)
+  pub open_read : (kind : Kind) (date losing gaining day place : ℕ) → kind ≡ kind_of k → date ≡ word_at 2 s (at + 1) → losing ≡ word_at 2 s (at + 3)
       → gaining ≡ word_at 2 s (at + 5) → day ≡ word_at 2 s (at + 7) → place ≡ word_at 3 s (at + 9)
       → ◌≡◌ {A = Place} (record {
         taken = true;
@@ -38,7 +38,7 @@ module _ (s : List ℕ) (at k : ℕ) (fits : at + 12 ≤ length s) (first : k �
         at = place;
       }) (open_of (part s at 12))
   unfolding open_of
-  open-read kind date losing gaining day place ek ea el eg ed ep =
+  open_read kind date losing gaining day place ek ea el eg ed ep =
       let k' : kind ≡ kind_of (word_at 1 (part s at 12) 0) = ek ∙ ap kind_of (sym first_byte) in
       let a' : date ≡ word_at 2 (part s at 12) 1 = ea ∙ sym (word-part 2 s at 12 1 (lit≤ tt)) in
       let l' : losing ≡ word_at 2 (part s at 12) 3 = el ∙ sym (word-part 2 s at 12 3 (lit≤ tt)) in
@@ -52,43 +52,43 @@ module _ (s : List ℕ) (at k : ℕ) (fits : at + 12 ≤ length s) (first : k �
         at = p' i;
       }
 
-  pub place-free : k ≡ 0 → free_place ≡ place_of (part s at 12)
+  pub place_free : k ≡ 0 → free_place ≡ place_of (part s at 12)
   unfolding place_of
-  place-free e = rw (first_byte, eq-eqb k 0 e)
+  place_free e = rw (first_byte, eq-eqb k 0 e)
 
-  pub place-open : (k ≡ 0 → ⊥) → open_of (part s at 12) ≡ place_of (part s at 12)
+  pub place_open : (k ≡ 0 → ⊥) → open_of (part s at 12) ≡ place_of (part s at 12)
   unfolding place_of
-  place-open n = rw (first_byte, ne_eqb k 0 n)
+  place_open n = rw (first_byte, ne_eqb k 0 n)
 
-  pub good-free : k ≡ 0 → all is_zero (take (at + 12 - at) (drop at s)) ≡ good_place (part s at 12)
+  pub good_free : k ≡ 0 → all is_zero (take (at + 12 - at) (drop at s)) ≡ good_place (part s at 12)
   unfolding good_place
-  good-free e =
+  good_free e =
       let size : at + 12 - at ≡ 12 = omega arith in
       ap (λ (n : ℕ). all is_zero (take n (drop at s))) size ∙ ap (all is_zero) whole ∙ rw (first_byte, eq-eqb k 0 e)
     where
       whole : take 12 (drop at s) ≡ part s at 12
       whole = sym (part_cut s at 12)
 
-  pub good-beyond : (k ≡ 0 → ⊥) → 3 < k → false ≡ good_place (part s at 12)
+  pub good_beyond : (k ≡ 0 → ⊥) → 3 < k → false ≡ good_place (part s at 12)
   unfolding good_place
-  good-beyond n h = rw (first_byte, ne_eqb k 0 n, lt-leb k 3 h)
+  good_beyond n h = rw (first_byte, ne_eqb k 0 n, lt-leb k 3 h)
 
-  pub good-taken : (k ≡ 0 → ⊥) → k ≤ 3 → good_open (open_of (part s at 12)) ≡ good_place (part s at 12)
+  pub good_taken : (k ≡ 0 → ⊥) → k ≤ 3 → good_open (open_of (part s at 12)) ≡ good_place (part s at 12)
   unfolding good_place
-  good-taken n h = rw (first_byte, ne_eqb k 0 n, le-leb k 3 h)
+  good_taken n h = rw (first_byte, ne_eqb k 0 n, le-leb k 3 h)
 
 -- ---- what the code writes
-pub kind-small : (k : Kind) → kind_no k ≤ 2
-kind-small P = lit≤ tt
-kind-small L = lit≤ tt
-kind-small Z = lit≤ tt
+pub kind_small : (k : Kind) → kind_no k ≤ 2
+kind_small P = lit≤ tt
+kind_small L = lit≤ tt
+kind_small Z = lit≤ tt
 
 module _ (s : List ℕ) (at : ℕ) (p : Place) where
-  pub put-free : p.taken ≡ false → overlay s at (replicate 12 0) ≡ overlay s at (place_slot p)
+  pub put_free : p.taken ≡ false → overlay s at (replicate 12 0) ≡ overlay s at (place_slot p)
   unfolding place_slot
-  put-free e = rw e
+  put_free e = rw e
 
-  pub put-open : (k : ℕ) → p.taken ≡ true → k ≡ kind_no p.report.kind
+  pub put_open : (k : ℕ) → p.taken ≡ true → k ≡ kind_no p.report.kind
       → overlay s at ((1 + k)
       ∷ p.report.date.0 % 256
       ∷ p.report.date.0 / 256 % 256
@@ -103,7 +103,7 @@ module _ (s : List ℕ) (at : ℕ) (p : Place) where
       ∷ p.at / 256 / 256 % 256
       ∷ []) ≡ overlay s at (place_slot p)
   unfolding place_slot low_first
-  put-open k e ek = rw (e, ek)
+  put_open k e ek = rw (e, ek)
 
 pub length-place : (p : Place) → length (place_slot p) ≡ 12
 unfolding place_slot low_first

@@ -4,7 +4,7 @@ use mathlib.Core.List.{List, [], ◌∷◌, ◌++◌}
 use Prim.Native.Nat.{ℕ, ◌+◌}
 use Rattle.laws.specs.Lists.{table, total}
 use Rattle.laws.proofs.Lists.{total-end}
-use Rattle.laws.proofs.Tables.{table_more}
+use Rattle.laws.proofs.Tables.{all_none, all-next, all-not, table_more}
 use Rattle.store.specs.journals.Files.{records_in, records_of}
 use Rattle.store.specs.declared.journals.files.File.{File}
 
@@ -20,3 +20,7 @@ module _ (kind : ℕ) where
   pub records-next : (f : ℕ → File) (n sum : ℕ) (g : File) → g ≡ f n → sum ≡ records_of kind (table n f)
       → sum + records_in kind g ≡ records_of kind (table (n + 1) f)
   records-next f n sum g e s = rw (s, e) (sym (ap (records_of kind) (table_more n f) ∙ records-end (table n f) (f n)))
+
+pub ruleset counting = (records-none, records-next)
+
+pub ruleset files = (all_none, all-next, all-not)

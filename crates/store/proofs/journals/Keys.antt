@@ -46,9 +46,9 @@ apart f g u v e =
     rw (eq-eqb f.kind g.kind k, eq-eqb f.publisher g.publisher p, eq-eqb f.day g.day d)
 
 -- the sorted numbers of the first n files rise exactly if no file is there twice
-pub files-once : (files : List ℕ) (n : ℕ) → all good_file (table n (file_at files)) ≡ true → rising (sorted (keys_of n files)) ≡ none_twice same_file (table n (file_at files))
+pub files_once : (files : List ℕ) (n : ℕ) → all good_file (table n (file_at files)) ≡ true → rising (sorted (keys_of n files)) ≡ none_twice same_file (table n (file_at files))
 unfolding keys_of
-files-once files n a =
+files_once files n a =
     ap (λ (l : List ℕ). rising (sorted l)) (sym (map-table key_of n (file_at files)))
     ∙ once-by-number same_file key_of good_file apart level (table n (file_at files)) a
 
@@ -57,7 +57,7 @@ pub keys_none : (files keys : List ℕ) → take 0 keys ≡ keys_of 0 files
 unfolding keys_of
 keys_none files keys = lay-none (λ (j : ℕ). key_of (file_at files j)) keys
 
-pub keys-next : (files keys : List ℕ) (i v : ℕ) (f : File) → i < length keys → f ≡ file_at files i → v ≡ key_of f → take i keys ≡ keys_of i files
+pub keys_next : (files keys : List ℕ) (i v : ℕ) (f : File) → i < length keys → f ≡ file_at files i → v ≡ key_of f → take i keys ≡ keys_of i files
     → take (i + 1) (set keys i v) ≡ keys_of (i + 1) files
 unfolding keys_of
-keys-next files keys i v f h e k inv = lay-next (λ (j : ℕ). key_of (file_at files j)) keys i v h (k ∙ ap key_of e) inv
+keys_next files keys i v f h e k inv = lay-next (λ (j : ℕ). key_of (file_at files j)) keys i v h (k ∙ ap key_of e) inv

@@ -14,21 +14,21 @@ use Rattle.laws.proofs.Slots.{slot_same, slot-other, length-slot, held-slot, slo
 use Rattle.store.specs.journals.Records.{record_at, record_in}
 
 module _ (width : ℕ) (journal : List ℕ) (k : ℕ) where
-  pub beyond-records : (count : ℕ) → count ≤ k → [] ≡ record_in width count journal k
+  pub beyond_records : (count : ℕ) → count ≤ k → [] ≡ record_in width count journal k
   unfolding record_in
-  beyond-records count h = rw (le-ltb k count h)
+  beyond_records count h = rw (le-ltb k count h)
 
-  pub beyond-buffer : (count : ℕ) → length journal / width ≤ k → [] ≡ record_in width count journal k
+  pub beyond_buffer : (count : ℕ) → length journal / width ≤ k → [] ≡ record_in width count journal k
   unfolding record_in
-  beyond-buffer count h = rw (le-ltb k (length journal / width) h, and-false (ltb k count))
+  beyond_buffer count h = rw (le-ltb k (length journal / width) h, and-false (ltb k count))
 
   pub within : (count : ℕ) → k < count → k < length journal / width → held_in (slot_at 0 width journal k) ≡ record_in width count journal k
   unfolding record_in record_at
   within count h i = rw (lt-ltb k count h, lt-ltb k (length journal / width) i)
 
   -- a place below as many as the buffer has room for is in the buffer
-  pub place-fits : k < length journal / width → k * width + width ≤ length journal
-  place-fits h = omega (arith, slots_apart width h, div-mul-le_self (length journal) width)
+  pub place_fits : k < length journal / width → k * width + width ≤ length journal
+  place_fits h = omega (arith, slots_apart width h, div-mul-le_self (length journal) width)
 
   -- reading after writing: the record that was written, every other as before
   pub record_same : (bytes : List ℕ) → k * width + width ≤ length journal → length bytes < width → record_at width (overlay journal (k * width) (slot_of width bytes)) k ≡ bytes

@@ -55,11 +55,11 @@ unfolding file_at low_first
 file-counted files k n = ap file_of (slot-head 2 8 files k 0 (low_first 2 n) (lit≤ tt))
 
 -- ---- what the code reads
-pub file-read : (files : List ℕ) (k a b c d : ℕ) → 2 + k * 8 + 8 ≤ length files → a ≡ get_or files (2 + k * 8) 0 → b ≡ word_at 2 files (2 + k * 8 + 1)
+pub file_read : (files : List ℕ) (k a b c d : ℕ) → 2 + k * 8 + 8 ≤ length files → a ≡ get_or files (2 + k * 8) 0 → b ≡ word_at 2 files (2 + k * 8 + 1)
     → c ≡ word_at 2 files (2 + k * 8 + 3) → d ≡ word_at 3 files (2 + k * 8 + 5)
     → ◌≡◌ {A = File} (record { kind = a; publisher = b; day = c; count = d }) (file_at files k)
 unfolding file_at file_of slot_at
-file-read files k a b c d fits ea eb ec ed =
+file_read files k a b c d fits ea eb ec ed =
     let at : ℕ = 2 + k * 8 in
     let e0 : a ≡ word_at 1 (part files at 8) 0 =
     ea ∙ sym (word-part 1 files at 8 0 (lit≤ tt) ∙ ap (word_at 1 files) (add-zero at) ∙ word-one files at (omega arith)) in

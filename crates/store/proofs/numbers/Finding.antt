@@ -33,9 +33,9 @@ low_byte lines i h =
     ∙ word_more 4 lines (2 + i * 14) (omega arith)
 
 -- where that is another one, the line has another number
-pub told-apart : (lines : List ℕ) (i low : ℕ) (number : Number) → 2 + i * 14 + 14 ≤ length lines → get_or lines (2 + i * 14) 0 < 256 → low ≡ number.first.0 % 256 → (get_or lines (2 + i * 14) 0 ≡ low → ⊥) → same_number number (number_at lines i) ≡ false
+pub told_apart : (lines : List ℕ) (i low : ℕ) (number : Number) → 2 + i * 14 + 14 ≤ length lines → get_or lines (2 + i * 14) 0 < 256 → low ≡ number.first.0 % 256 → (get_or lines (2 + i * 14) 0 ≡ low → ⊥) → same_number number (number_at lines i) ≡ false
 unfolding same_number
-told-apart lines i low number h b e ne =
+told_apart lines i low number h b e ne =
     rw (ne_eqb number.first.0 (number_at lines i).first.0 (λ q. ne (omega (arith, low_byte lines i h))))
 
 -- ---- the search
@@ -47,11 +47,11 @@ module _ (lines : List ℕ) (n : ℕ) (number : Number) (i : ℕ) (inv : Searche
     here : get_or (table n (number_at lines)) i number ≡ number_at lines i
     here = get_or-table n i (number_at lines) number h
 
-    pub find-on : same_number number (number_at lines i) ≡ false → Searched (same_number number) (table n (number_at lines)) (i + 1)
-    find-on q = search-on (same_number number) number (table n (number_at lines)) i inv inside (ap (same_number number) here ∙ q)
+    pub find_on : same_number number (number_at lines i) ≡ false → Searched (same_number number) (table n (number_at lines)) (i + 1)
+    find_on q = search-on (same_number number) number (table n (number_at lines)) i inv inside (ap (same_number number) here ∙ q)
 
-    pub find-here : same_number number (number_at lines i) ≡ true → i ≡ first_at (same_number number) (table n (number_at lines))
-    find-here q = search-here (same_number number) number (table n (number_at lines)) i inv inside (ap (same_number number) here ∙ q)
+    pub find_here : same_number number (number_at lines i) ≡ true → i ≡ first_at (same_number number) (table n (number_at lines))
+    find_here q = search-here (same_number number) number (table n (number_at lines)) i inv inside (ap (same_number number) here ∙ q)
 
   pub find_none : n ≤ i → i ≡ first_at (same_number number) (table n (number_at lines))
   find_none h = search-none (same_number number) number (table n (number_at lines)) i inv (omega (arith, length-table n (number_at lines)))

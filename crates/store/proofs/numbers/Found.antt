@@ -1,10 +1,9 @@
 -- What the search for a number's line comes to. Assumes nothing.
 use Rattle.std.specs.Prelude.{Some, None}
 use mathlib.Core.Path.{◌≡◌, refl, sym, ap, ◌∙◌}
-use mathlib.Core.Bool.{◌&&◌}
 use mathlib.Core.List.{List, [], ◌∷◌, map}
 use Prim.Native.Nat.{ℕ, ◌+◌, ◌*◌, ◌≤◌, ◌<◌}
-use borrow.Author.Tests.{lt-ltb, le-ltb, le-leb, lt-leb}
+use borrow.Author.Tests.{le-leb, lt-leb}
 use lib.ListN.{length}
 use Rattle.laws.specs.Lists.{table, first_at}
 use Rattle.laws.proofs.Tables.{map-table}
@@ -14,6 +13,9 @@ use Rattle.fields.specs.declared.number.Number.{Number}
 use Rattle.store.specs.numbers.Lines.{line_at, number_at, line_count, lines_of}
 use Rattle.store.specs.numbers.Find.{is_of, found_line}
 use Rattle.store.specs.declared.numbers.lines.Line.{Line}
+use mathlib.Core.Bool.{Bool, true, false, cond, ◌&&◌}
+use Rattle.std.specs.Bool.{then_some}
+use lib.Dec.{ltb}
 
 -- ---- the first line that has the number is the first number that is the same
 same-comm : (x y : Number) → same_number x y ≡ same_number y x
@@ -39,10 +41,10 @@ module _ (t : List ℕ) (x : Number) where
     q : i ≡ first_at (is_of x) (table n (line_at t))
     q = f ∙ line_first x t n
 
-    pub found_at : i < n → Some i ≡ found_line t x
+    pub found_among : then_some (ltb i n) i ≡ found_line t x
     unfolding found_line lines_of
-    found_at g = rw (← e, le-leb (2 + n * 14) (length t) h, ← q, lt-ltb i n g)
-
-    pub found-unknown : n ≤ i → None ≡ found_line t x
-    unfolding found_line lines_of
-    found-unknown g = rw (← e, le-leb (2 + n * 14) (length t) h, ← q, le-ltb i n g)
+    found_among = go (ltb i n) ∙ rw (← e, le-leb (2 + n * 14) (length t) h, ← q)
+      where
+        go : (b : Bool) → then_some b i ≡ cond b (Some i) None
+        go true = refl
+        go false = refl

@@ -12,13 +12,13 @@ use Rattle.laws.specs.Lists.{all}
 use Rattle.laws.specs.Overlay.{part}
 use Rattle.laws.specs.Slots.{slot_at, held_in, is_zero, is_held}
 use Rattle.laws.proofs.Overlay.{part_at, take-drop}
-use Rattle.laws.proofs.Slots.{held-short, held-long}
+use Rattle.laws.proofs.Slots.{slot-written, held-short, held-long}
 
 module _ (width : ℕ) (journal : List ℕ) (k n : ℕ) (fits : k * width + width ≤ length journal) (e : n ≡ get_or journal (k * width) 0) where
   -- as many as the length byte says
-  pub held-as-said : n < width → take (k * width + 1 + n - (k * width + 1)) (drop (k * width + 1) journal) ≡ held_in (slot_at 0 width journal k)
+  pub held_as_said : n < width → take (k * width + 1 + n - (k * width + 1)) (drop (k * width + 1) journal) ≡ held_in (slot_at 0 width journal k)
   unfolding slot_at
-  held-as-said h =
+  held_as_said h =
       held-short width journal (k * width) n (k * width + 1 + n - (k * width + 1)) fits e h (omega arith)
       ∙ ap (λ (at : ℕ). held_in (part journal at width)) (sym (zero-add (k * width)))
 
@@ -38,9 +38,9 @@ module _ (width : ℕ) (journal : List ℕ) (k n : ℕ) (fits : k * width + widt
       ∙ ap (λ (at : ℕ). get_or journal at 0) (add-zero (0 + k * width) ∙ zero-add (k * width))
       ∙ sym e
 
-  pub held-beyond : width ≤ n → false ≡ is_held width (slot_at 0 width journal k)
+  pub held_beyond : width ≤ n → false ≡ is_held width (slot_at 0 width journal k)
   unfolding is_held
-  held-beyond h = rw (first, le-ltb n width h)
+  held_beyond h = rw (first, le-ltb n width h)
 
   rest : n < width → drop (n + 1) (slot_at 0 width journal k) ≡ take (k * width + width - (k * width + 1 + n)) (drop (k * width + 1 + n) journal)
   unfolding slot_at part
@@ -53,6 +53,8 @@ module _ (width : ℕ) (journal : List ℕ) (k n : ℕ) (fits : k * width + widt
       ∙ ap (take (width - (n + 1))) (drop-drop (n + 1) (0 + k * width) journal)
       ∙ ap₂ (λ (a b : ℕ). take a (drop b journal)) e₂ e₃
 
-  pub held-zeros : n < width → all is_zero (take (k * width + width - (k * width + 1 + n)) (drop (k * width + 1 + n) journal)) ≡ is_held width (slot_at 0 width journal k)
+  pub held_zeros : n < width → all is_zero (take (k * width + width - (k * width + 1 + n)) (drop (k * width + 1 + n) journal)) ≡ is_held width (slot_at 0 width journal k)
   unfolding is_held
-  held-zeros h = rw (first, lt-ltb n width h, ← rest h)
+  held_zeros h = rw (first, lt-ltb n width h, ← rest h)
+
+pub ruleset written = slot-written

@@ -1,51 +1,44 @@
--- Zeros counted off eight at a time. Assumes nothing.
-use Prim.Native.Nat.{ℕ, suc, ◌+◌, ◌-◌, ◌≤◌, ◌<◌}
-use native.Mathlib.Nat.{add-zero}
+-- Zeros counted off eight at a time, in words of eight bytes, then those that are left. Assumes nothing.
+use Prim.Native.Nat.{ℕ, zero, suc, ◌+◌, ◌*◌, ◌/◌, ◌≤◌}
 use native.Mathlib.Omega.{arith}
-use mathlib.Core.Path.{◌≡◌, sym, ap, ◌∙◌}
-use mathlib.Core.Bool.{Bool, true, false, ◌&&◌}
-use mathlib.Core.List.{List}
-use lib.ListN.{length, get_or, take, drop, length-drop, take-append-drop}
-use lib.Seq.{take-suc, get_or-drop, drop-drop, take_all}
+use mathlib.Core.Path.{◌≡◌, refl, sym, ap, ap₂, ◌∙◌}
+use mathlib.Core.Bool.{Bool, ◌&&◌, and_assoc}
+use mathlib.Core.List.{List, [], ◌∷◌}
+use lib.Dec.{eqb}
+use lib.ListN.{length, take, drop, replicate, length-drop, take-append-drop}
+use lib.Seq.{drop-drop, length-take-le}
+use lib.Pointwise.{pointwise}
+use Rattle.std.specs.List.{list_all}
+use Rattle.std.specs.Simd.{first_chunks}
 use Rattle.laws.specs.Lists.{all}
 use Rattle.laws.specs.Slots.{is_zero}
-use Rattle.laws.proofs.Tables.{all_more, all_append}
+use Rattle.laws.proofs.Tables.{all_append}
+use Rattle.laws.proofs.Chains.{all_as_std}
 
-module _ (s : List ℕ) (at : ℕ) where
-  -- one byte more
-  one_more : (k : ℕ) → at + k < length s → all is_zero (take (suc k) (drop at s)) ≡ (all is_zero (take k (drop at s)) && is_zero (get_or s (at + k) 0))
-  one_more k h =
-      ap (all is_zero) (take-suc (drop at s) k 0 (omega (arith, length-drop at s)))
-      ∙ all_more is_zero (take k (drop at s)) (get_or (drop at s) k 0)
-      ∙ ap (λ (b : ℕ). all is_zero (take k (drop at s)) && is_zero b) (get_or-drop at s k 0)
+abbrev pub word_zero : List ℕ → Bool
+word_zero w = pointwise eqb w (replicate 8 0)
 
-  module _ (h : at + 8 ≤ length s) where
-    first : all is_zero (take 1 (drop at s)) ≡ is_zero (get_or s at 0)
-    unfolding all
-    first = one_more 0 (omega arith) ∙ ap (λ (i : ℕ). is_zero (get_or s i 0)) (add-zero at)
+-- a word equals as many zeros where each byte is zero
+same_zeros : (n : ℕ) (xs : List ℕ) → length xs ≡ n → pointwise eqb xs (replicate n 0) ≡ all is_zero xs
+unfolding all is_zero
+same_zeros zero [] e = refl
+same_zeros zero (x ∷ xs) e = absurd (omega arith)
+same_zeros (suc n) [] e = absurd (omega arith)
+same_zeros (suc n) (x ∷ xs) e = ap (λ (b : Bool). eqb x 0 && b) (same_zeros n xs (omega arith))
 
-    low : all is_zero (take 4 (drop at s)) ≡ (((is_zero (get_or s at 0) && is_zero (get_or s (at + 1) 0)) && is_zero (get_or s (at + 2) 0)) && is_zero (get_or s (at + 3) 0))
-    low = one_more 3 (omega arith) ∙ ap (λ (b : Bool). b && is_zero (get_or s (at + 3) 0)) (one_more 2 (omega arith) ∙ ap (λ (b : Bool). b && is_zero (get_or s (at + 2) 0)) (one_more 1 (omega arith) ∙ ap (λ (b : Bool). b && is_zero (get_or s (at + 1) 0)) first))
+words : (n : ℕ) (s : List ℕ) → n * 8 ≤ length s → list_all word_zero (first_chunks 8 n s) && all is_zero (drop (n * 8) s) ≡ all is_zero s
+words zero s h = refl
+words (suc n) s h =
+    ap₂ ◌&&◌
+    (ap (λ (b : Bool). b && list_all word_zero (first_chunks 8 n (drop 8 s))) (same_zeros 8 (take 8 s) (length-take-le 8 s (omega arith))))
+    (ap (all is_zero) (ap (λ (k : ℕ). drop k s) (let e : suc n * 8 ≡ 8 + n * 8 = omega arith in e) ∙ sym (drop-drop (n * 8) 8 s)))
+    ∙ and_assoc (all is_zero (take 8 s)) (list_all word_zero (first_chunks 8 n (drop 8 s))) (all is_zero (drop (n * 8) (drop 8 s)))
+    ∙ ap (λ (b : Bool). all is_zero (take 8 s) && b) (words n (drop 8 s) (omega (arith, length-drop 8 s)))
+    ∙ sym (all_append is_zero (take 8 s) (drop 8 s))
+    ∙ ap (all is_zero) (take-append-drop 8 s)
 
-    pub eight : all is_zero (take 8 (drop at s))
-        ≡ (((((((is_zero (get_or s at 0) && is_zero (get_or s (at + 1) 0)) && is_zero (get_or s (at + 2) 0)) && is_zero (get_or s (at + 3) 0)) && is_zero (get_or s (at + 4) 0)) && is_zero (get_or s (at + 5) 0)) && is_zero (get_or s (at + 6) 0)) && is_zero (get_or s (at + 7) 0))
-    eight =
-        one_more 7 (omega arith)
-        ∙ ap (λ (b : Bool). b && is_zero (get_or s (at + 7) 0)) (one_more 6 (omega arith) ∙ ap (λ (b : Bool). b && is_zero (get_or s (at + 6) 0)) (one_more 5 (omega arith) ∙ ap (λ (b : Bool). b && is_zero (get_or s (at + 5) 0)) (one_more 4 (omega arith) ∙ ap (λ (b : Bool). b && is_zero (get_or s (at + 4) 0)) low)))
-
-  -- what is left behind eight bytes
-  eight-on : all is_zero (drop at s) ≡ (all is_zero (take 8 (drop at s)) && all is_zero (drop (at + 8) s))
-  eight-on =
-      ap (all is_zero) (sym (take-append-drop 8 (drop at s)))
-      ∙ all_append is_zero (take 8 (drop at s)) (drop 8 (drop at s))
-      ∙ ap (λ (l : List ℕ). all is_zero (take 8 (drop at s)) && all is_zero l) (drop-drop 8 at s)
-
-  module _ (r : Bool) (e : r ≡ all is_zero (take 8 (drop at s))) where
-    pub eight-failed : r ≡ false → all is_zero (drop at s) ≡ false
-    eight-failed f = eight-on ∙ rw (← e, f)
-
-    pub eight-passed : r ≡ true → all is_zero (drop at s) ≡ all is_zero (drop (at + 8) s)
-    eight-passed t = eight-on ∙ rw (← e, t)
-
-  pub rest : all is_zero (take (length s - at) (drop at s)) ≡ all is_zero (drop at s)
-  rest = ap (all is_zero) (take_all (length s - at) (drop at s) (omega (arith, length-drop at s)))
+pub zeros_by_words : (s : List ℕ) → (list_all word_zero (first_chunks 8 (length s / 8) s) && list_all (λ b. eqb b 0) (drop (length s / 8 * 8) s)) ≡ all is_zero s
+unfolding is_zero
+zeros_by_words s =
+    ap (λ (b : Bool). list_all word_zero (first_chunks 8 (length s / 8) s) && b) (sym (all_as_std (λ b. eqb b 0) (drop (length s / 8 * 8) s)))
+    ∙ words (length s / 8) s (omega arith)

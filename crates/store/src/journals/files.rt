@@ -29,14 +29,16 @@ pub struct File {
 }
 
 // How many files are filed.
+#[tactic(auto, unfolding(crate::specs::journals::Files::file_count))]
 pub fn file_count(files: &[u8]) -> usize
     requires { 2 ≤ length files.now }
     ensures { (result ≡ file_count files.now) × (result < 65536) }
 {
-    word::get2(files, 0) as usize
+    usize::from(word::get2(files, 0))
 }
 
 // The file in the slot k.
+#[tactic(auto, using(crate::proofs::journals::Reading::file_read))]
 pub fn file_at(files: &[u8], k: usize) -> File
     requires { 2 + k * 8 + 8 ≤ length files.now }
     ensures { (result ≡ file_at files.now k) × (result.count < 16777216) }
@@ -51,20 +53,15 @@ pub fn file_at(files: &[u8], k: usize) -> File
 }
 
 // Writes a file into the slot k.
+#[tactic(auto, unfolding(crate::specs::journals::Files::file_slot, laws::specs::Words::low_first))]
 pub fn put_file(files: &mut [u8], k: usize, f: File)
     requires { 2 + k * 8 + 8 ≤ length files.old }
     ensures { files.new ≡ overlay files.old (2 + k * 8) (file_slot f) }
 {
-    let slot = [
-        f.kind,
-        (f.publisher % 256) as u8,
-        (f.publisher / 256 % 256) as u8,
-        (f.day % 256) as u8,
-        (f.day / 256 % 256) as u8,
-        (f.count % 256) as u8,
-        (f.count / 256 % 256) as u8,
-        (f.count / 256 / 256 % 256) as u8,
-    ];
+    let [p0, p1] = f.publisher.to_le_bytes();
+    let [d0, d1] = f.day.to_le_bytes();
+    let [c0, c1, c2, _] = f.count.to_le_bytes();
+    let slot = [f.kind, p0, p1, d0, d1, c0, c1, c2];
     run::write(files, HEAD + k * SLOT, &slot);
 }
 
@@ -77,30 +74,23 @@ pub fn put_count(files: &mut [u8], n: u16)
 }
 
 // Whether a file is in range.
+#[tactic(auto, unfolding(crate::specs::journals::Files::good_file))]
 fn good_file(f: File) -> bool
     ensures { result ≡ good_file f }
 {
-    if 1 < f.kind {
-        return false;
-    }
-    if Code::HIGHEST.0 < f.publisher {
-        return false;
-    }
-    f.day <= LAST_DAY
+    f.kind <= 1 && f.publisher <= Code::HIGHEST.0 && f.day <= LAST_DAY
 }
 
 // Whether each of the first n files is.
+#[tactic(auto, using(crate::proofs::journals::Counting::files))]
 pub fn good_files(files: &[u8], n: usize) -> bool
     requires { 2 + n * 8 ≤ length files.now }
     ensures { result ≡ all good_file (table n (file_at files.now)) }
 {
-    let mut i = 0;
-    while i < n {
-        let f = file_at(files, i);
-        if !good_file(f) {
+    for k in 0..n {
+        if !good_file(file_at(files, k)) {
             return false;
         }
-        i += 1;
     }
     true
 }

@@ -50,17 +50,15 @@ pub fn put_correction(corrections: &mut [u8], k: usize, bytes: &[u8])
 }
 
 // The record at the place k of a journal that holds `count` records; the empty part where there is none.
+#[tactic(auto, using(crate::proofs::journals::Places::beyond_records, crate::proofs::journals::Places::beyond_buffer, crate::proofs::journals::Places::within, crate::proofs::journals::Places::place_fits))]
 fn shown(journal: &[u8], width: usize, count: usize, k: usize) -> &[u8]
     requires { 0 < width }
     ensures { result.now ≡ record_in width count journal.now k }
 {
-    if count <= k {
-        return &journal[0..0];
+    if k < count && k < journal.len() / width {
+        return record::bytes(journal, width, k);
     }
-    if journal.len() / width <= k {
-        return &journal[0..0];
-    }
-    record::bytes(journal, width, k)
+    &[]
 }
 
 // The bytes of the record at a place of one of the two journals, a part of that journal; `count` is how many records it holds.

@@ -7,6 +7,7 @@ use crate::journals::files;
 use crate::journals::files::File;
 
 // What a file adds to the records of a kind.
+#[tactic(auto, unfolding(crate::specs::journals::Files::records_in))]
 pub fn records_in(f: File, kind: u8) -> usize
     ensures { (result ≡ records_in kind f) × (result ≤ f.count) }
 {
@@ -14,16 +15,14 @@ pub fn records_in(f: File, kind: u8) -> usize
 }
 
 // How many records the files of a kind among the first n have.
+#[tactic(auto, using(crate::proofs::journals::Counting::counting))]
 pub fn records_of(files: &[u8], n: usize, kind: u8) -> usize
     requires { (2 + n * 8 ≤ length files.now) × (n < 65536) }
     ensures { result ≡ records_of kind (table n (file_at files.now)) }
 {
     let mut sum = 0;
-    let mut i = 0;
-    while i < n {
-        let f = files::file_at(files, i);
-        sum += records_in(f, kind);
-        i += 1;
+    for k in 0..n {
+        sum += records_in(files::file_at(files, k), kind);
     }
     sum
 }

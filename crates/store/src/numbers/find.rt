@@ -9,33 +9,28 @@ use crate::numbers::lines;
 use fields::number::Number;
 
 // Whether the line i has the number. The lowest byte of its first field tells most lines that do not.
+#[tactic(auto, using(crate::proofs::numbers::Finding::told_apart, crate::proofs::numbers::Keys::number_read))]
 fn has_number(lines: &[u8], i: usize, low: u8, number: Number) -> bool
     requires { (2 + i * 14 + 14 ≤ length lines.now) × (low ≡ number.first.0 % 256) }
     ensures { result ≡ same_number number (number_at lines.now i) }
 {
     let at = lines::HEAD + i * lines::LINE;
-    if lines[at] != low {
-        return false;
-    }
-    let l = lines::line_at(lines, i);
-    let x = l.number;
-    Number::same(number, x)
+    lines[at] == low && Number::same(number, lines::line_at(lines, i).number)
 }
 
 // The place of the first of n lines that has the number; n where none has it.
+#[tactic(auto, using(crate::proofs::numbers::Finding::find_on, crate::proofs::numbers::Finding::find_here, crate::proofs::numbers::Finding::find_none))]
 pub fn line_of(lines: &[u8], n: usize, number: Number) -> usize
     requires { 2 + n * 14 ≤ length lines.now }
     ensures { result ≡ first_at (same_number number) (table n (number_at lines.now)) }
 {
     let low = (number.first.0 % 256) as u8;
-    let mut i = 0;
-    while i < n {
+    for i in 0..n {
         if has_number(lines, i, low, number) {
             return i;
         }
-        i += 1;
     }
-    i
+    n
 }
 
 // The line of a number. A table that is cut off before its last line has none.
@@ -50,8 +45,5 @@ pub fn find_line(table: &[u8], number: Number) -> Option<usize>
         return None;
     }
     let i = line_of(table, n, number);
-    if i < n {
-        return Some(i);
-    }
-    None
+    (i < n).then_some(i)
 }

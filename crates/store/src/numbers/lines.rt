@@ -1,7 +1,7 @@
 // The lines of the number table: a count in two bytes, then for each number its two fields in five bytes each, its owner and its
 // set-up day in two.
 ghost use Rattle.std.specs.Prelude.{◌≡◌, ◌+◌, ◌*◌, ◌≤◌, ◌<◌, length};
-ghost use Rattle.laws.specs.Lists.{table, all};
+ghost use Rattle.std.specs.List.{list_all, range_with_len};
 ghost use Rattle.laws.specs.Overlay.{overlay};
 ghost use Rattle.laws.specs.Words.{low_first};
 ghost use Rattle.store.specs.numbers.Lines.{line_slot, line_at, line_count, good_line};
@@ -30,56 +30,43 @@ pub struct Line {
 }
 
 // How many lines there are.
+#[tactic(auto, unfolding(crate::specs::numbers::Lines::line_count))]
 pub fn line_count(lines: &[u8]) -> usize
     requires { 2 ≤ length lines.now }
     ensures { (result ≡ line_count lines.now) × (result < 65536) }
 {
-    word::get2(lines, 0) as usize
+    usize::from(word::get2(lines, 0))
 }
 
 // The line in the slot k.
+#[tactic(auto, using(crate::proofs::numbers::Reading::line_read))]
 pub fn line_at(lines: &[u8], k: usize) -> Line
     requires { 2 + k * 14 + 14 ≤ length lines.now }
     ensures { result ≡ line_at lines.now k }
 {
     let at = HEAD + k * LINE;
-    let first = Digits(word::get5(lines, at));
-    let last = Digits(word::get5(lines, at + 5));
-    let owner = Code(word::get2(lines, at + 10));
-    let setup = CalendarDays(word::get2(lines, at + 12));
-    let number = Number { first, last };
+    let number = Number {
+        first: Digits(word::get5(lines, at)),
+        last: Digits(word::get5(lines, at + 5)),
+    };
     Line {
         number,
-        owner,
-        setup,
+        owner: Code(word::get2(lines, at + 10)),
+        setup: CalendarDays(word::get2(lines, at + 12)),
     }
 }
 
 // Writes a line into the slot k.
+#[tactic(auto, unfolding(crate::specs::numbers::Lines::line_slot, laws::specs::Words::low_first))]
 pub fn put_line(lines: &mut [u8], k: usize, l: Line)
     requires { 2 + k * 14 + 14 ≤ length lines.old }
     ensures { lines.new ≡ overlay lines.old (2 + k * 14) (line_slot l) }
 {
-    let first = l.number.first.0;
-    let last = l.number.last.0;
-    let owner = l.owner.0;
-    let setup = l.setup.0;
-    let slot = [
-        (first % 256) as u8,
-        (first / 256 % 256) as u8,
-        (first / 256 / 256 % 256) as u8,
-        (first / 256 / 256 / 256 % 256) as u8,
-        (first / 256 / 256 / 256 / 256 % 256) as u8,
-        (last % 256) as u8,
-        (last / 256 % 256) as u8,
-        (last / 256 / 256 % 256) as u8,
-        (last / 256 / 256 / 256 % 256) as u8,
-        (last / 256 / 256 / 256 / 256 % 256) as u8,
-        (owner % 256) as u8,
-        (owner / 256 % 256) as u8,
-        (setup % 256) as u8,
-        (setup / 256 % 256) as u8,
-    ];
+    let [f0, f1, f2, f3, f4, _, _, _] = l.number.first.0.to_le_bytes();
+    let [l0, l1, l2, l3, l4, _, _, _] = l.number.last.0.to_le_bytes();
+    let [o0, o1] = l.owner.0.to_le_bytes();
+    let [s0, s1] = l.setup.0.to_le_bytes();
+    let slot = [f0, f1, f2, f3, f4, l0, l1, l2, l3, l4, o0, o1, s0, s1];
     run::write(lines, HEAD + k * LINE, &slot);
 }
 
@@ -92,37 +79,17 @@ pub fn put_count(lines: &mut [u8], n: u16)
 }
 
 // Whether a line is well formed.
+#[tactic(auto, unfolding(crate::specs::numbers::Lines::good_line))]
 pub fn good_line(l: Line) -> bool
     ensures { result ≡ good_line l }
 {
-    let number = l.number;
-    let first = number.first;
-    let owner = l.owner;
-    let setup = l.setup;
-    if !number.fits() {
-        return false;
-    }
-    if first.is_empty() {
-        return false;
-    }
-    if !owner.fits() {
-        return false;
-    }
-    in_calendar(setup)
+    l.number.fits() && !l.number.first.is_empty() && l.owner.fits() && in_calendar(l.setup)
 }
 
 // Whether each of the first n lines is.
 pub(crate) fn good_lines(lines: &[u8], n: usize) -> bool
     requires { 2 + n * 14 ≤ length lines.now }
-    ensures { result ≡ all good_line (table n (line_at lines.now)) }
+    ensures { result ≡ list_all (λ i. good_line (line_at lines.now i)) (range_with_len 0 n) }
 {
-    let mut i = 0;
-    while i < n {
-        let l = line_at(lines, i);
-        if !good_line(l) {
-            return false;
-        }
-        i += 1;
-    }
-    true
+    (0..n).all(|i| good_line(line_at(lines, i)))
 }

@@ -12,6 +12,7 @@ use crate::slots::keys;
 use fields::number::Number;
 
 // A number for a number's two fields.
+#[tactic(auto, unfolding(crate::specs::numbers::Twice::key_of))]
 fn key_of(n: Number) -> u64
     ensures { result ≡ key_of n }
 {
@@ -19,25 +20,14 @@ fn key_of(n: Number) -> u64
 }
 
 // Lays the keys of the first n lines into `numbers`.
+#[tactic(auto, using(crate::proofs::numbers::Keys::keys_none, crate::proofs::numbers::Keys::keys_next))]
 fn gather(lines: &[u8], n: usize, numbers: &mut [u64])
     requires { (2 + n * 14 ≤ length lines.now) × (n ≤ length numbers.old) }
     ensures { take n numbers.new ≡ keys_of n lines.now }
 {
-    let mut i = 0;
-    while i < n {
-        let l = lines::line_at(lines, i);
-        let number = l.number;
-        numbers[i] = key_of(number);
-        i += 1;
+    for i in 0..n {
+        numbers[i] = key_of(lines::line_at(lines, i).number);
     }
-}
-
-// The same for room of as many keys as the sort takes.
-fn gather_all(lines: &[u8], n: usize, numbers: &mut [u64; 10240])
-    requires { (2 + n * 14 ≤ length lines.now) × (n ≤ 1024) }
-    ensures { take n numbers.new ≡ keys_of n lines.now }
-{
-    gather(lines, n, numbers);
 }
 
 // Whether the sorted keys rise.
@@ -46,51 +36,43 @@ fn keys_rise(lines: &[u8], n: usize) -> bool
     ensures { result ≡ rising (sorted (keys_of n lines.now)) }
 {
     let mut numbers = [0u64; 10240];
-    gather_all(lines, n, &mut numbers);
+    gather(lines, n, &mut numbers);
     keys::rise(&mut numbers, n)
 }
 
 // Whether the number x stands in one of the lines from `from` on.
+#[tactic(auto, using(crate::proofs::numbers::Keys::behind_on, crate::proofs::numbers::Keys::behind_here, crate::proofs::numbers::Keys::behind_none, crate::proofs::numbers::Keys::number_read))]
 fn has_behind(lines: &[u8], n: usize, from: usize, x: Number) -> bool
     requires { 2 + n * 14 ≤ length lines.now }
     ensures { result ≡ any (same_number x) (drop from (table n (number_at lines.now))) }
 {
-    let mut i = from;
-    while i < n {
-        let l = lines::line_at(lines, i);
-        let y = l.number;
-        if Number::same(x, y) {
+    for i in from..n {
+        if Number::same(x, lines::line_at(lines, i).number) {
             return true;
         }
-        i += 1;
     }
     false
 }
 
 // Whether no number stands behind itself, each compared with each.
+#[tactic(auto, using(crate::proofs::numbers::Keys::each_on, crate::proofs::numbers::Keys::each_here, crate::proofs::numbers::Keys::each_passed, crate::proofs::numbers::Keys::number_read))]
 fn each_once(lines: &[u8], n: usize) -> bool
     requires { 2 + n * 14 ≤ length lines.now }
     ensures { result ≡ none_twice same_number (table n (number_at lines.now)) }
 {
-    let mut i = 0;
-    while i < n {
-        let l = lines::line_at(lines, i);
-        let x = l.number;
-        if has_behind(lines, n, i + 1, x) {
+    for i in 0..n {
+        if has_behind(lines, n, i + 1, lines::line_at(lines, i).number) {
             return false;
         }
-        i += 1;
     }
     true
 }
 
 // Whether no number stands in the first n lines twice.
+#[tactic(auto, using(crate::proofs::numbers::Keys::numbers_once))]
 pub fn no_number_twice(lines: &[u8], n: usize) -> bool
     requires { (2 + n * 14 ≤ length lines.now) × (n ≤ 1024) }
     ensures { result ≡ none_twice same_number (table n (number_at lines.now)) }
 {
-    if keys_rise(lines, n) {
-        return true;
-    }
-    each_once(lines, n)
+    keys_rise(lines, n) || each_once(lines, n)
 }

@@ -1,66 +1,48 @@
 // Runs of bytes written into a buffer.
-ghost use Rattle.std.specs.Prelude.{◌≡◌, ◌+◌, ◌≤◌, length, take, drop, replicate};
+ghost use Rattle.std.specs.Prelude.{◌≡◌, ◌==◌, ◌+◌, ◌≤◌, eqb, length, replicate};
+ghost use lib.Pointwise.{pointwise};
+ghost use Rattle.std.specs.List.{list_all};
 ghost use Rattle.laws.specs.Lists.{all};
 ghost use Rattle.laws.specs.Overlay.{overlay};
 ghost use Rattle.laws.specs.Slots.{is_zero};
 
 // Writes the bytes of `src` into `dst` from `at` on.
+#[tactic(auto, using(crate::proofs::slots::Runs::part_written))]
 pub fn write(dst: &mut [u8], at: usize, src: &[u8])
     requires { at + length src.now ≤ length dst.old }
     ensures { dst.new ≡ overlay dst.old at src.now }
 {
-    let mut i = 0;
-    while i < src.len() {
-        dst[at + i] = src[i];
-        i += 1;
-    }
+    dst[at..at + src.len()].copy_from_slice(src);
 }
 
 // Writes `b` into `dst` from `at` on, `n` times.
+#[tactic(auto, using(crate::proofs::slots::Runs::part_written))]
 pub(crate) fn fill(dst: &mut [u8], at: usize, n: usize, b: u8)
     requires { at + n ≤ length dst.old }
     ensures { dst.new ≡ overlay dst.old at (replicate n b) }
 {
-    let mut i = 0;
-    while i < n {
-        dst[at + i] = b;
-        i += 1;
-    }
+    dst[at..at + n].fill(b);
 }
 
-// Whether the eight bytes from `at` on are zero: one comparison of a word, once compiled.
-fn eight_zeros(s: &[u8], at: usize) -> bool
-    requires { at + 8 ≤ length s.now }
-    ensures { result ≡ all is_zero (take 8 (drop at s.now)) }
+// Whether all words are zero: one comparison each, once compiled.
+fn words_zero(words: &[[u8; 8]]) -> bool
+    ensures { result ≡ list_all (λ w. pointwise eqb w (replicate 8 0)) words.now }
 {
-    let low = (s[at] == 0) & (s[at + 1] == 0) & (s[at + 2] == 0) & (s[at + 3] == 0);
-    low & (s[at + 4] == 0) & (s[at + 5] == 0) & (s[at + 6] == 0) & (s[at + 7] == 0)
+    words.iter().all(|word| *word == [0; 8])
 }
 
 // Whether all bytes are zero, one by one.
 fn each_zero(s: &[u8]) -> bool
-    ensures { result ≡ all is_zero s.now }
+    ensures { result ≡ list_all (λ b. b == 0) s.now }
 {
-    let mut i = 0;
-    while i < s.len() {
-        if s[i] != 0 {
-            return false;
-        }
-        i += 1;
-    }
-    true
+    s.iter().all(|&b| b == 0)
 }
 
 // Whether all bytes are zero: eight at a time, then those that are left.
+#[tactic(auto, using(crate::proofs::slots::Zeros::zeros_by_words))]
 pub fn zeros(s: &[u8]) -> bool
     ensures { result ≡ all is_zero s.now }
 {
-    let mut i: usize = 0;
-    while 8 <= s.len() - i {
-        if !eight_zeros(s, i) {
-            return false;
-        }
-        i += 8;
-    }
-    each_zero(&s[i..])
+    let (words, rest) = s.as_chunks::<8>();
+    words_zero(words) && each_zero(rest)
 }

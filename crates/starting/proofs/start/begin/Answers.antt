@@ -1,17 +1,13 @@
 -- `starting::start::begin` meets its contract. Assumes nothing.
 use native.Mathlib.Omega.{arith}
-use Rattle.starting.proofs.Beginning.{begun-not, begun-done}
+use Rattle.starting.proofs.Beginning.{begun_done}
 use Rattle.starting.proofs.start.begin.Goals as goal
-
-pub returns-in_default : goal.returns-in_default
-returns-in_default c = begun-not _ _ _ _ (rw c.in_default.is at c.judge.ensures)
-
-pub enter-requires : goal.enter-requires
-enter-requires c = let s = rw c.in-Some.is at c.judge.ensures in
-    let few = s.2.few in
-    (few, omega (arith, c.judge.auto.room, c.requires.0), c.requires.1, c.requires.2, c.requires.3)
+use Rattle.std.proofs.Common.{◌≡◌, Some}
+use Rattle.std.proofs.lemmas.Grind.{common_steps}
 
 pub returns : goal.returns
-returns c = let s = rw c.in-Some.is at c.judge.ensures in
+returns c =
     let a = c.args in
-    begun-done a.text.now a.table.now a.files.now a.entries.now _ _ _ a.room.now c.judge.new.room c.in-Some.n s.0 s.1 s.2 c.requires.0 c.enter.ensures
+    let j : c.judge.result ≡ Some c.in_ok-n.n = grind (arith, common_steps) in
+    let s = rw j at c.judge.ensures in
+    begun_done a.text.now a.table.now a.files.now a.entries.now _ _ _ a.room.now c.judge.new.room c.in_ok-n.n s.0 s.1 s.2 c.requires.0 c.enter.ensures

@@ -36,10 +36,10 @@ slice_bounds-read_line-end c = let a = c.args in
     let h : c.loop-at.at ≤ c.field_end-end.result = omega (arith, turn-from a.text.now a.room.now c.loop-at.at c.loop-at.n c.loop-at.room t, c.field_end-end.ensures) in
     search rules
 
-pub returns-in_default : goal.returns-in_default
-returns-in_default c = let a = c.args in
+pub returns-in_err-l : goal.returns-in_err-l
+returns-in_err-l c = let a = c.args in
     let t = c.loop-at.invariant.1 in
-    turn-fault a.text.now a.room.now c.loop-at.at c.loop-at.n c.loop-at.room t (rw c.field_end-end.ensures at c.if-text-end.false) (rw c.field_end-end.ensures at (sym c.read_line.ensures ∙ c.in_default.is))
+    rw c.from_residual.ensures (turn-fault a.text.now a.room.now c.loop-at.at c.loop-at.n c.loop-at.room t (rw c.field_end-end.ensures at c.if-text-end.false) (rw c.field_end-end.ensures at (sym c.read_line.ensures ∙ c.in_err-l.was)))
 
 pub put_line-requires : goal.put_line-requires
 put_line-requires c = let a = c.args in
@@ -56,7 +56,7 @@ pub loop-at-preserved : goal.loop-at-preserved
 loop-at-preserved c = let a = c.args in
     let t = c.loop-at.invariant.1 in (
       c.put_line.auto.lines ∙ c.loop-at.invariant.0,
-      rw c.field_end-end.ensures (turn-next a.text.now a.room.now c.loop-at.at c.loop-at.n c.loop-at.room t (rw c.field_end-end.ensures at c.if-text-end.false) c.in-Some.l _ c.if-n-ge-NUMBERS.false (rw c.field_end-end.ensures at (sym c.read_line.ensures ∙ c.in-Some.is)) c.put_line.ensures),
+      rw c.field_end-end.ensures (turn-next a.text.now a.room.now c.loop-at.at c.loop-at.n c.loop-at.room t (rw c.field_end-end.ensures at c.if-text-end.false) c.in_ok-l.l _ c.if-n-ge-NUMBERS.false (rw c.field_end-end.ensures at (sym c.read_line.ensures ∙ c.in_ok-l.was)) c.put_line.ensures),
     )
 
 pub returns : goal.returns

@@ -1,6 +1,6 @@
 -- `store::entry_slots::entry::places_at` meets its contract. Assumes nothing.
 use lib.ListN.{length, take}
-use Prim.Native.Nat.{ℕ, ◌-◌, ◌≤◌}
+use Prim.Native.Nat.{ℕ}
 use mathlib.Core.Path.{◌≡◌}
 use Rattle.laws.specs.Lists.{table}
 use Rattle.laws.specs.Overlay.{part}
@@ -9,7 +9,4 @@ use Rattle.store.specs.entry_slots.Places.{place_of}
 use Rattle.store.proofs.entry_slots.entry.places_at.Given as goal
 
 abbrev pub invariant-loop-i : goal.invariant-loop-i
-invariant-loop-i l = (l.i ≤ 8) × (length l.places ≡ 8) × (take l.i l.places ≡ table l.i (λ (j : ℕ). place_of (slot_at 0 12 (part l.entries l.at 96) j)))
-
-abbrev pub decreases-loop-i : goal.decreases-loop-i
-decreases-loop-i l = 8 - l.i
+invariant-loop-i l = (length l.places ≡ 8) × (take l.i l.places ≡ table l.i (λ (j : ℕ). place_of (slot_at 0 12 (part l.entries l.at 96) j)))

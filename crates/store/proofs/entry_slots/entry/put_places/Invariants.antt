@@ -1,5 +1,4 @@
 -- `store::entry_slots::entry::put_places` meets its contract. Assumes nothing.
-use Prim.Native.Nat.{◌-◌, ◌≤◌}
 use mathlib.Core.Path.{◌≡◌}
 use mathlib.Core.List.{flat_map}
 use lib.ListN.{length, take}
@@ -8,7 +7,4 @@ use Rattle.store.specs.entry_slots.Places.{place_slot}
 use Rattle.store.proofs.entry_slots.entry.put_places.Given as goal
 
 abbrev pub invariant-loop-i : goal.invariant-loop-i
-invariant-loop-i l = (l.i ≤ 8) × (length l.entries ≡ length l.initial.entries) × (l.entries ≡ overlay l.initial.entries l.at (flat_map place_slot (take l.i l.places)))
-
-abbrev pub decreases-loop-i : goal.decreases-loop-i
-decreases-loop-i l = 8 - l.i
+invariant-loop-i l = (length l.entries ≡ length l.initial.entries) × (l.entries ≡ overlay l.initial.entries l.at (flat_map place_slot (take l.i l.places)))

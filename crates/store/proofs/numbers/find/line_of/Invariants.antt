@@ -1,5 +1,4 @@
 -- `store::numbers::find::line_of` meets its contract: a search from the first line on. Assumes nothing.
-use Prim.Native.Nat.{◌-◌}
 use Rattle.laws.specs.Lists.{table}
 use Rattle.laws.proofs.Loops.{Searched}
 use Rattle.fields.specs.Number.{same_number}
@@ -8,6 +7,3 @@ use Rattle.store.proofs.numbers.find.line_of.Given as goal
 
 abbrev pub invariant-loop-i : goal.invariant-loop-i
 invariant-loop-i l = Searched (same_number l.number) (table l.n (number_at l.lines)) l.i
-
-abbrev pub decreases-loop-i : goal.decreases-loop-i
-decreases-loop-i l = l.n - l.i

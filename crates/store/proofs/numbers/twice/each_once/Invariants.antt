@@ -1,5 +1,4 @@
 -- `store::numbers::twice::each_once` meets its contract. Assumes nothing.
-use Prim.Native.Nat.{◌-◌}
 use mathlib.Core.Path.{◌≡◌}
 use lib.ListN.{drop}
 use Rattle.laws.specs.Lists.{table, none_twice}
@@ -9,6 +8,3 @@ use Rattle.store.proofs.numbers.twice.each_once.Given as goal
 
 abbrev pub invariant-loop-i : goal.invariant-loop-i
 invariant-loop-i l = none_twice same_number (drop l.i (table l.n (number_at l.lines))) ≡ none_twice same_number (table l.n (number_at l.lines))
-
-abbrev pub decreases-loop-i : goal.decreases-loop-i
-decreases-loop-i l = l.n - l.i

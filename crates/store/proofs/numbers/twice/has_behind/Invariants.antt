@@ -1,5 +1,4 @@
 -- `store::numbers::twice::has_behind` meets its contract. Assumes nothing.
-use Prim.Native.Nat.{◌-◌}
 use mathlib.Core.Path.{◌≡◌}
 use lib.ListN.{drop}
 use Rattle.laws.specs.Lists.{table, any}
@@ -9,6 +8,3 @@ use Rattle.store.proofs.numbers.twice.has_behind.Given as goal
 
 abbrev pub invariant-loop-i : goal.invariant-loop-i
 invariant-loop-i l = any (same_number l.x) (drop l.i (table l.n (number_at l.lines))) ≡ any (same_number l.x) (drop l.from (table l.n (number_at l.lines)))
-
-abbrev pub decreases-loop-i : goal.decreases-loop-i
-decreases-loop-i l = l.n - l.i
