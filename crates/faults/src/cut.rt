@@ -8,7 +8,7 @@ pub(crate) fn rest(s: &[u8], k: usize) -> &[u8]
     ensures { result.now ≡ rest_at s.now k }
 {
     let mut at: usize = 0;
-    for i in 0..k {
+    for _ in 0..k {
         let e = text::field_end(s, at, b',');
         if s.len() <= e {
             return &s[0..0];

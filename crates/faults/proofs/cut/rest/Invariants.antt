@@ -5,5 +5,5 @@ use mathlib.Core.Path.{◌≡◌}
 use Rattle.faults.specs.Cut.{rest_at}
 use Rattle.faults.proofs.cut.rest.Given as goal
 
-abbrev pub invariant-loop-i : goal.invariant-loop-i
-invariant-loop-i l = (l.at ≤ length l.s) × (rest_at l.s l.k ≡ rest_at (drop l.at l.s) (l.k - l.i))
+abbrev pub invariant-loop : goal.invariant-loop
+invariant-loop l = (l.at ≤ length l.s) × (rest_at l.s l.k ≡ rest_at (drop l.at l.s) (l.k - l.counter))
