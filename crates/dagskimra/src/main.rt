@@ -1,67 +1,47 @@
-// dagskimra: keeps the books of a telephone number exchange. A program has no exit status, so the status of the command goes to
-// descriptor 3, as a digit, and the launcher, bin/dagskimra, exits with it.
+// dagskimra: keeps the books of a telephone number exchange. The status of the command goes to descriptor 3, as a digit, and the
+// launcher, bin/dagskimra, exits with it.
 #![tactic(auto)]
 
-use desk::{Host, args};
+use desk::place::PATH_MAX;
+use desk::{Ended, Failure, Host, args};
 
 const STATUS_FILENO: i32 = 3;
 
-fn tell(status: u8) {
-    if status == 0 {
-        io::write_all(STATUS_FILENO, b"0");
-    } else if status == 1 {
-        io::write_all(STATUS_FILENO, b"1");
-    } else {
-        io::write_all(STATUS_FILENO, b"2");
-    }
+// 0 all was done, 1 something was refused, 2 the command line, a file or the system is at fault.
+fn tell(ended: Ended) {
+    let status = match ended {
+        Ok(()) => b"0",
+        Err(Failure::Refused) => b"1",
+        Err(Failure::Fault) => b"2",
+    };
+    io::write_all(STATUS_FILENO, status);
 }
 
-fn wrong(rt: &impl Host, why: &[u8]) -> u8 {
+fn wrong(rt: &impl Host, why: &str) -> Failure {
     words::usage(
         rt,
         why,
-        b"start | file | files | show | why | verdicts | figure | rework | read | demo | help; 'dagskimra help' explains each",
+        "start | file | files | show | why | verdicts | figure | rework | read | demo | help; 'dagskimra help' explains each",
     )
 }
 
-// The commands that change a store, list it, or need none.
-fn book(rt: &impl Host, count: usize) -> u8 {
-    if args::is(rt, 1, b"start") {
-        return commands::start::run(rt, count);
-    }
-    if args::is(rt, 1, b"file") {
-        return offers::file::run(rt, count);
-    }
-    if args::is(rt, 1, b"rework") {
-        return questions::rework::run(rt, count);
-    }
-    if args::is(rt, 1, b"files") {
-        return questions::listing::run(rt, count);
-    }
-    if args::is(rt, 1, b"read") {
-        return commands::read::run(rt, count);
-    }
-    wrong(rt, b"there is no such command")
-}
-
-// The commands that ask.
-fn run(rt: &impl Host, count: usize) -> u8 {
+fn run(rt: &impl Host, count: usize) -> Ended {
     if count < 2 {
-        return wrong(rt, b"no command is given");
+        return Err(wrong(rt, "no command is given"));
     }
-    if args::is(rt, 1, b"show") {
-        return questions::show::run(rt, count);
+    let mut word = [0u8; PATH_MAX];
+    match args::read(rt, 1, &mut word) {
+        Ok(b"start") => commands::start::run(rt, count),
+        Ok(b"file") => offers::file::run(rt, count),
+        Ok(b"files") => questions::listing::run(rt, count),
+        Ok(b"show") => questions::show::run(rt, count),
+        Ok(b"why") => reasons::why::run(rt, count),
+        Ok(b"verdicts") => reasons::verdicts::run(rt, count),
+        Ok(b"figure") => questions::figure::run(rt, count),
+        Ok(b"rework") => questions::rework::run(rt, count),
+        Ok(b"read") => commands::read::run(rt, count),
+        _ => Err(wrong(rt, "there is no such command")),
     }
-    if args::is(rt, 1, b"why") {
-        return reasons::why::run(rt, count);
-    }
-    if args::is(rt, 1, b"verdicts") {
-        return reasons::verdicts::run(rt, count);
-    }
-    if args::is(rt, 1, b"figure") {
-        return questions::figure::run(rt, count);
-    }
-    book(rt, count)
 }
 
 fn main(rt: HostRuntime) {

@@ -1,8 +1,9 @@
 -- What is shown of a table and its entries, and what words of the command line mean. Assumes nothing: these are definitions.
 use Rattle.std.specs.Prelude.{Option, Some, None, Result, Ok, Err}
-use Rattle.std.specs.Prelude.{Bool, false, cond, List, ℕ, leb, ltb, eqb, length}
+use Rattle.std.specs.Prelude.{false, cond, List, ℕ, leb, ltb, eqb, length}
 use Rattle.text.specs.Spelt.{digits_of}
 use Rattle.fields.specs.declared.number.Number.{Number}
+use Rattle.disk.specs.declared.books.Books.{Books}
 use Rattle.entries.specs.declared.entry.Entry.{Entry}
 use Rattle.store.specs.numbers.Find.{found_line}
 use Rattle.store.specs.numbers.Lines.{line_count, line_at}
@@ -36,8 +37,9 @@ entry_seen (Ok s) = s.entry
 entry_seen (Err e) = no_entry
 
 -- the entry of a line as it is stored, or as it stood before the file at n arrived
-abbrev pub entry_wanted : Bool → ℕ → List ℕ → List ℕ → List ℕ → List ℕ → List ℕ → ℕ → Entry
-entry_wanted stored n t f r c e i = cond stored (entry_shown e i) (entry_seen (standing_looked t f r c n i))
+abbrev pub entry_wanted : Option ℕ → Books → ℕ → Entry
+entry_wanted None b i = entry_shown b.entries i
+entry_wanted (Some n) b i = entry_seen (standing_looked b.table b.files b.regular b.corrections n i)
 
 -- ---- words
 -- the line of a number; none for what is no number
@@ -45,10 +47,6 @@ abbrev pub line_named : List ℕ → Option Number → Option ℕ
 line_named t (Some x) = found_line t x
 line_named t None = None
 
-abbrev pub value_of : Option ℕ → ℕ
-value_of (Some n) = n
-value_of None = 0
-
--- the number of a file, counted from 1, of at most nine digits; 0 for a word that is none
-unfoldable pub file_number : List ℕ → ℕ
-file_number word = cond (eqb (length word) 0) 0 (cond (ltb 9 (length word)) 0 (value_of (digits_of false word)))
+-- the number of a file, of at most nine digits; none for a word that is none
+unfoldable pub file_number : List ℕ → Option ℕ
+file_number word = cond (eqb (length word) 0) None (cond (ltb 9 (length word)) None (digits_of false word))

@@ -9,8 +9,5 @@ use store::numbers::find;
 pub fn line_of(lines: &[u8], number: Option<Number>) -> Option<usize>
     ensures { result ≡ line_named lines.now number }
 {
-    match number {
-        Some(x) => find::find_line(lines, x),
-        None => None,
-    }
+    find::find_line(lines, number?)
 }

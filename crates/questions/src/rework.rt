@@ -1,211 +1,105 @@
 // rework STORE: every entry worked out again from the journals. Those that change are listed, then all are put on the disk, and then
 // their count is printed. So nothing changes on the disk that is not listed, and with the last line all is done.
-use crate::{asked, compared, table};
+use crate::{asked, compared};
 use commands::{end, opened};
 use desk::place::PATH_MAX;
-use desk::{Host, args, copy_in, page};
-use disk::saved::Loaded;
-use disk::{CORRECTIONS, ENTRIES, FILES, REGULAR, TABLE, lock, saved};
-use page::ROOM;
+use desk::{Ended, Failure, Host, Page};
+use disk::parts::HolidayList;
+use disk::saved::LoadError;
+use disk::{Books, lock, saved};
 use store::numbers::lines::NUMBERS;
 
-// How it ended.
-#[derive(Drop)]
-pub enum Ended {
-    // so many entries changed, they are listed, and all are on the disk
-    Changed(usize),
+// Why the entries are not worked out again.
+#[derive(Clone, Copy)]
+enum ReworkError {
     // the store is damaged, and as it was
     Damaged,
     // it can't be read or written, and the reason has been told
-    Failed,
+    Failed(Failure),
 }
 
-// Writes the store, where there is something to write.
-fn keep(
-    rt: &impl Host,
-    folder: &[u8],
-    lines: &[u8; TABLE],
-    files: &[u8; FILES],
-    regular: &[u8; REGULAR],
-    corrections: &[u8; CORRECTIONS],
-    entries: &[u8; ENTRIES],
-    own: bool,
-    changed: usize,
-) -> Ended {
-    if own & (changed == 0) {
-        return Ended::Changed(0);
+impl From<Failure> for ReworkError {
+    fn from(failure: Failure) -> ReworkError {
+        ReworkError::Failed(failure)
     }
-    if saved::save(rt, folder, lines, files, regular, corrections, entries) {
-        return Ended::Changed(changed);
-    }
-    Ended::Failed
 }
 
-// Whether the lines of the first n places of the list could be printed; the reason has been told where not.
+impl From<LoadError> for ReworkError {
+    fn from(e: LoadError) -> ReworkError {
+        match e {
+            LoadError::Missing => ReworkError::Failed(Failure::Fault),
+            LoadError::Damaged => ReworkError::Damaged,
+        }
+    }
+}
+
+// The lines at the places of the list; where they can't be printed, the reason has been told.
 fn list_changed(
     rt: &impl Host,
     folder: &[u8],
-    lines: &[u8; TABLE],
-    before: &[u8; ENTRIES],
-    entries: &[u8; ENTRIES],
-    list: &[u16; NUMBERS],
-    n: usize,
-) -> bool {
-    let mut room = [0u8; ROOM];
-    let p = compared::listed(
-        rt,
-        page::begin(page::Stream::Out),
-        &mut room,
-        list,
-        n,
-        lines,
-        before,
-        entries,
-    );
-    if end::done(rt, p, &room, 0) == 0 {
-        return true;
-    }
-    words::complain(
-        rt,
-        folder,
-        b"what changes can't be listed, and the store is as it was",
-    );
-    false
-}
-
-// Lists what changed, and then writes the store: afterwards nothing could tell it any more. `own` says that the entries were worked out
-// with this program's holiday list.
-fn settle(
-    rt: &impl Host,
-    folder: &[u8],
-    lines: &[u8; TABLE],
-    files: &[u8; FILES],
-    regular: &[u8; REGULAR],
-    corrections: &[u8; CORRECTIONS],
-    entries: &[u8; ENTRIES],
-    before: &[u8; ENTRIES],
-    list: &[u16; NUMBERS],
-    own: bool,
-    n: usize,
+    places: &[u16],
+    books: &Books,
+    worked: &[u8],
 ) -> Ended {
-    if list_changed(rt, folder, lines, before, entries, list, n) {
-        return keep(
+    let mut page = Page::new(rt);
+    compared::list(&mut page, places, books, worked);
+    end::done(rt, page, Ok(())).map_err(|_| {
+        words::complain(
             rt,
             folder,
-            lines,
-            files,
-            regular,
-            corrections,
-            entries,
-            own,
-            n,
-        );
-    }
-    Ended::Failed
+            b"what changes can't be listed, and the store is as it was",
+        )
+    })
 }
 
-// Works out the entries of a store that has been loaded.
-fn rework_loaded<'a>(
+// Works out the entries of a store that has been loaded, and answers how many change. They are listed before the store is written:
+// afterwards nothing could tell them any more. Where none changes and the list is this program's, there is nothing to write.
+fn rework_loaded(
     rt: &impl Host,
     folder: &[u8],
-    lines: &[u8; TABLE],
-    files: &'a [u8; FILES],
-    regular: &'a [u8; REGULAR],
-    corrections: &'a [u8; CORRECTIONS],
-    entries: &mut [u8; ENTRIES],
-    own: bool,
-) -> Ended {
-    let mut before = [0u8; ENTRIES];
+    books: &mut Books,
+    holidays: HolidayList,
+) -> Result<usize, ReworkError> {
+    let mut worked = books.entries;
     let mut list = [0u16; NUMBERS];
-    copy_in(&mut before, 0, entries);
-    match asked::reworked(lines, files, regular, corrections, entries, &mut list) {
-        Err(_) => Ended::Damaged,
-        Ok(n) => settle(
-            rt,
-            folder,
-            lines,
-            files,
-            regular,
-            corrections,
-            entries,
-            &before,
-            &list,
-            own,
-            n,
-        ),
+    let Ok(n) = asked::reworked(books, &mut worked, &mut list) else {
+        return Err(ReworkError::Damaged);
+    };
+    list_changed(rt, folder, list.get(..n).unwrap_or(&list), books, &worked)?;
+    if 0 < n || holidays == HolidayList::Other {
+        books.entries = worked;
+        saved::save(rt, folder, books)?;
     }
+    Ok(n)
 }
 
 // The same for the store in a folder.
-fn rework_stored(rt: &impl Host, folder: &[u8], lines: &mut [u8; TABLE]) -> Ended {
-    let mut files = [0u8; FILES];
-    let mut regular = [0u8; REGULAR];
-    let mut corrections = [0u8; CORRECTIONS];
-    let mut entries = [0u8; ENTRIES];
-    match saved::load(
-        rt,
-        folder,
-        lines,
-        &mut files,
-        &mut regular,
-        &mut corrections,
-        &mut entries,
-    ) {
-        Loaded::Missing => Ended::Failed,
-        Loaded::Damaged => Ended::Damaged,
-        Loaded::OtherList => rework_loaded(
-            rt,
-            folder,
-            lines,
-            &files,
-            &regular,
-            &corrections,
-            &mut entries,
-            false,
-        ),
-        Loaded::Ready => rework_loaded(
-            rt,
-            folder,
-            lines,
-            &files,
-            &regular,
-            &corrections,
-            &mut entries,
-            true,
-        ),
-    }
+fn rework_stored(rt: &impl Host, folder: &[u8], books: &mut Books) -> Result<usize, ReworkError> {
+    let holidays = saved::load(rt, folder, books)?;
+    rework_loaded(rt, folder, books, holidays)
 }
 
 // The last line, once all is done.
-fn print(rt: &impl Host, n: usize, lines: &[u8; TABLE]) -> u8 {
-    let mut room = [0u8; ROOM];
-    let p = page::begin(page::Stream::Out);
-    let q = compared::count(rt, p, &mut room, b"changed", n, table::count(lines));
-    end::done(rt, q, &room, 0)
+fn print(rt: &impl Host, n: usize, books: &Books) -> Ended {
+    let mut page = Page::new(rt);
+    compared::count(&mut page, "changed", n, books);
+    end::done(rt, page, Ok(()))
 }
 
-fn rework_in(rt: &impl Host, folder: &[u8]) -> u8 {
-    let mut lines = [0u8; TABLE];
-    if !lock::take(rt, folder) {
-        return 2;
-    }
-    let ended = rework_stored(rt, folder, &mut lines);
-    lock::release(rt, folder);
-    match ended {
-        Ended::Failed => 2,
-        Ended::Damaged => opened::damaged(rt, folder),
-        Ended::Changed(n) => print(rt, n, &lines),
-    }
-}
-
-pub fn run(rt: &impl Host, count: usize) -> u8 {
+pub fn run(rt: &impl Host, count: usize) -> Ended {
+    let usage = "rework STORE";
     if count != 3 {
-        return words::usage(rt, b"rework takes a folder", b"rework STORE");
+        return Err(words::usage(rt, "rework takes a folder", usage));
     }
     let mut folder = [0u8; PATH_MAX];
-    let n = args::path(rt, 2, &mut folder);
-    if n == 0 {
-        return words::usage(rt, b"STORE is empty or too long", b"rework STORE");
+    let mut books = Books::empty();
+    let folder = opened::folder(rt, &mut folder, usage)?;
+    lock::take(rt, folder)?;
+    let changed = rework_stored(rt, folder, &mut books);
+    lock::release(rt, folder);
+    match changed {
+        Ok(n) => print(rt, n, &books),
+        Err(ReworkError::Damaged) => opened::damaged(rt, folder),
+        Err(ReworkError::Failed(failure)) => Err(failure),
     }
-    rework_in(rt, &folder[..n])
 }

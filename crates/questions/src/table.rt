@@ -7,35 +7,28 @@ use fields::number::{Digits, Number};
 use store::numbers::lines;
 
 // How many lines there are, and at most as many as the table takes.
+#[tactic(auto, unfolding(crate::specs::Shown::lines_shown))]
 pub fn count(table: &[u8]) -> usize
     ensures { result ≡ lines_shown table.now }
 {
     if table.len() < 2 {
         return 0;
     }
-    let n = lines::line_count(table);
-    if lines::NUMBERS < n {
-        return lines::NUMBERS;
-    }
-    n
+    lines::line_count(table).min(lines::NUMBERS)
 }
 
 // The number of a line; one of no digits where there is none.
+#[tactic(auto, unfolding(crate::specs::Shown::number_shown))]
 pub fn number_at(table: &[u8], i: usize) -> Number
     ensures { result ≡ number_shown table.now i }
 {
-    let none = Number {
-        first: Digits::EMPTY,
-        last: Digits::EMPTY,
-    };
-    if lines::NUMBERS <= i {
-        return none;
+    if lines::NUMBERS <= i || table.len() < lines::TABLE_LENGTH {
+        return Number {
+            first: Digits::EMPTY,
+            last: Digits::EMPTY,
+        };
     }
-    if table.len() < lines::TABLE_LENGTH {
-        return none;
-    }
-    let l = lines::line_at(table, i);
-    l.number
+    lines::line_at(table, i).number
 }
 
 // The entry of no line.
@@ -47,13 +40,11 @@ pub(crate) fn no_entry() -> Entry
 }
 
 // The stored entry of a line.
+#[tactic(auto, unfolding(crate::specs::Shown::entry_shown))]
 pub fn entry_at(entries: &[u8], i: usize) -> Entry
     ensures { result ≡ entry_shown entries.now i }
 {
-    if lines::NUMBERS <= i {
-        return no_entry();
-    }
-    if entries.len() < store::readable::ENTRIES_LENGTH {
+    if lines::NUMBERS <= i || entries.len() < store::readable::ENTRIES_LENGTH {
         return no_entry();
     }
     store::entry_slots::entry::entry_at(entries, i)

@@ -5,28 +5,35 @@ ghost use Rattle.reasons.specs.Named.{why_named};
 
 use asking::looks::NotSeen;
 use asking::pairs::{Pair, Stored};
+use disk::Books;
 use fields::number::Number;
 use store::journals::records::{Journal, REPORTS, record_bytes};
 
 // Why a number stands where it does.
-pub fn why<'a>(
-    lines: &[u8],
-    files: &'a [u8],
-    regular: &'a [u8],
-    corrections: &'a [u8],
-    number: Option<Number>,
-) -> Result<Option<Pair>, NotSeen>
-    ensures { result ≡ why_named lines.now files.now regular.now corrections.now number }
+pub fn why(books: &Books, number: Option<Number>) -> Result<Option<Pair>, NotSeen>
+    ensures { result ≡ why_named books.now number }
 {
-    match number {
-        Some(x) => asking::why::look(lines, files, regular, corrections, x),
-        None => Err(NotSeen::UnknownNumber),
-    }
+    let Some(number) = number else {
+        return Err(NotSeen::UnknownNumber);
+    };
+    asking::why::look(
+        &books.table,
+        &books.files,
+        &books.regular,
+        &books.corrections,
+        number,
+    )
 }
 
 // The bytes of a report of a pair.
-pub fn report<'a>(regular: &'a [u8], corrections: &'a [u8], s: Stored) -> &'a [u8]
-    ensures { result.now ≡ part_at regular.now s.place }
+pub fn report(books: &Books, s: Stored) -> &[u8]
+    ensures { result.now ≡ part_at books.now.regular s.place }
 {
-    record_bytes(regular, corrections, Journal::Regular, REPORTS, s.place)
+    record_bytes(
+        &books.regular,
+        &books.corrections,
+        Journal::Regular,
+        REPORTS,
+        s.place,
+    )
 }

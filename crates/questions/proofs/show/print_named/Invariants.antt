@@ -1,6 +1,0 @@
--- `questions::show::print_named` is safe and ends. The measure is what is left to do. Assumes nothing.
-use Rattle.std.proofs.Common.{◌-◌}
-use Rattle.questions.proofs.show.print_named.Given as goal
-
-abbrev pub decreases-loop-k : goal.decreases-loop-k
-decreases-loop-k g l = l.end - l.k
