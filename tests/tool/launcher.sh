@@ -115,7 +115,7 @@ launch --version again
 expect 2 '^usage: dagskimra --version$'
 [ ! -e "$books/target" ] || fault 'target/ is made'
 # the words that the launcher takes are those that the program takes, and those that help explains
-sed -n 's/.*args::is(rt, 1, b"\([a-z]*\)").*/\1/p' "$here/../../crates/dagskimra/src/main.rt" | sort >takes
+sed -n 's/.*Ok(b"\([a-z]*\)") => .*/\1/p' "$here/../../crates/dagskimra/src/main.rt" | sort >takes
 sed -n 's/^\(start |.*\)) ;;$/\1/p' "$here/../../bin/dagskimra" | tr -d ' ' | tr '|' '\n' | sort >passed
 diff takes passed || fault 'the launcher passes on other commands than the program has'
 sed -n 's/^    \([a-z]*\))$/\1/p' "$here/../../bin/help.sh" | grep -v -x -e demo -e help | sort | diff - takes || fault 'help explains other commands'
