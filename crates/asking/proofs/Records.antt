@@ -1,5 +1,5 @@
 -- The record at a place of a journal is the one of its file. Assumes nothing.
-use Rattle.std.specs.Prelude.{Option, Some, None}
+use Rattle.std.specs.Prelude.{Option, Some, None, Ok, Err}
 use mathlib.Core.Path.{◌≡◌, refl, sym, ap, ◌∙◌}
 use mathlib.Core.Bool.{Bool, true, false, cond}
 use mathlib.Core.List.{List, [], ◌∷◌, ◌++◌, flat_map}
@@ -29,8 +29,8 @@ use Rattle.store.specs.numbers.Find.{found_line}
 use Rattle.store.specs.Reads.{table_line}
 use Rattle.working.specs.Working.{record_in}
 use Rattle.working.proofs.SlipLaws.{records-more, own-records, records-grow}
-use Rattle.asking.specs.declared.record.Asked.{Asked}
-use Rattle.asking.specs.declared.looks.LookedRecord.{LookedRecord}
+use Rattle.asking.specs.declared.looks.RecordNotSeen.{RecordNotSeen}
+use Rattle.asking.specs.declared.record.ShownRecord.{ShownRecord}
 use Rattle.asking.specs.declared.record.AskedRecord.{AskedRecord}
 use Rattle.asking.specs.declared.record.Said.{Said}
 use Rattle.asking.specs.Items.{item_at}
@@ -172,8 +172,8 @@ module _ (t f r c : List ℕ) (files : List Filed) (k at : ℕ) (room : 2 + line
       ap (λ (m : Option (TableLine Number)). shown_with (said_by (record_in f r c k at)) (point_verdict files (record_in f r c k at) (record_of (record_in f r c k at)) m))
       (sym e ∙ ap (λ (u : Said). line_of rules (lines_in t) u.number) said)
 
-  pub asked-unknown : None ≡ found_line t s.number → shown_with s Verdict.UnknownNumber ≡ asked_as (lines_in t) files (record_in f r c k at)
-  asked-unknown q = ap (λ (u : Said). shown_with u Verdict.UnknownNumber) said ∙ as-asked None (no_line t s.number room q)
+  pub asked_unknown : None ≡ found_line t s.number → shown_with s Verdict.UnknownNumber ≡ asked_as (lines_in t) files (record_in f r c k at)
+  asked_unknown q = ap (λ (u : Said). shown_with u Verdict.UnknownNumber) said ∙ as-asked None (no_line t s.number room q)
 
   pub asked_here : (i : ℕ) → Some i ≡ found_line t s.number → (v : Verdict) → v ≡ point_verdict files (record_in f r c k at) s.rec (Some (table_line (line_at t i)))
       → shown_with s v ≡ asked_as (lines_in t) files (record_in f r c k at)
@@ -182,29 +182,33 @@ module _ (t f r c : List ℕ) (files : List Filed) (k at : ℕ) (room : 2 + line
       ∙ as-asked (Some (table_line (line_at t i))) (found-line t s.number room i q)
 
 module _ (t f r c : List ℕ) (which : Journal) (place : ℕ) where
-  pub record-unshowable : is_showable t f r c ≡ false → LookedRecord.Unshowable ≡ record_looked t f r c which place
+  pub record_unshowable : is_showable t f r c ≡ false → Err RecordNotSeen.Unshowable ≡ record_looked t f r c which place
   unfolding record_looked
-  record-unshowable e = rw e
+  record_unshowable e = rw e
 
   module _ (yes : is_showable t f r c ≡ true) (n : ℕ) (en : n ≡ file_count f) where
+    -- what is shown of a record at this place
+    abbrev at-place : AskedRecord → ShownRecord
+    at-place a = record { journal = which; place = place; shown = a }
+
     all-files : first_files n f r c ≡ read_files f r c
     all-files = ap (λ (k : ℕ). first_files k f r c) en
 
-    pub asked-beyond : records_of (kind_of which) (table n (file_at f)) ≤ place → LookedRecord.Beyond ≡ record_looked t f r c which place
+    pub asked_beyond : records_of (kind_of which) (table n (file_at f)) ≤ place → Err RecordNotSeen.Beyond ≡ record_looked t f r c which place
     unfolding record_looked asked_in
-    asked-beyond h =
+    asked_beyond h =
         rw yes
         (ap record_look
         (sym (ap (λ (fs : List Filed). asked_of (lines_in t) (read_files f r c) which place (item_at (journal_of (kind_of which) fs) place)) (sym all-files)
         ∙ ap (asked_of (lines_in t) (read_files f r c) which place) (record-beyond f r c n (kind_of which) place h))))
 
-    pub asked-record : (k at : ℕ) (a : AskedRecord) → InFileAt (file_at f) n (kind_of which) place k at → a ≡ asked_as (lines_in t) (take n (read_files f r c)) (record_in f r c k at)
-        → LookedRecord.Record which place a ≡ record_looked t f r c which place
+    pub asked_record : (k at : ℕ) (a : AskedRecord) → InFileAt (file_at f) n (kind_of which) place k at → a ≡ asked_as (lines_in t) (take n (read_files f r c)) (record_in f r c k at)
+        → Ok (at-place a) ≡ record_looked t f r c which place
     unfolding record_looked asked_in
-    asked-record k at a w ea =
+    asked_record k at a w ea =
         rw yes
         (ap record_look
-        (ap (Asked.Record which place) ea
-        ∙ ap (λ (fs : List Filed). Asked.Record which place (asked_as (lines_in t) fs (record_in f r c k at))) (take_all n (read_files f r c) (omega (arith, length-first (file_count f) f r c)))
+        (ap (λ (b : AskedRecord). Ok (at-place b)) ea
+        ∙ ap (λ (fs : List Filed). Ok (at-place (asked_as (lines_in t) fs (record_in f r c k at)))) (take_all n (read_files f r c) (omega (arith, length-first (file_count f) f r c)))
         ∙ sym (ap (λ (fs : List Filed). asked_of (lines_in t) (read_files f r c) which place (item_at (journal_of (kind_of which) fs) place)) (sym all-files)
         ∙ ap (asked_of (lines_in t) (read_files f r c) which place) (record-located f r c n (kind_of which) place k at w))))

@@ -1,10 +1,10 @@
 -- What the cheap test of the buffers gives, and that a store that reads passes it. Assumes nothing.
 use mathlib.Core.Path.{◌≡◌, sym, ap, ◌∙◌}
-use mathlib.Core.Bool.{Bool, true, false, ◌&&◌}
+use mathlib.Core.Bool.{Bool, true, ◌&&◌}
 use mathlib.Core.List.{List}
-use Prim.Native.Nat.{ℕ, ◌≤◌, ◌<◌}
+use Prim.Native.Nat.{ℕ, ◌≤◌}
 use native.Mathlib.Omega.{arith}
-use borrow.Author.Tests.{leb-true, le-leb, lt-leb}
+use borrow.Author.Tests.{leb-true, le-leb}
 use lib.Dec.{leb}
 use lib.ListN.{length}
 use Rattle.laws.specs.Lists.{table, all}
@@ -103,53 +103,7 @@ sound t f r c n s h = record {
   correction_room = s.long-corrections;
 }
 
--- ---- the tests, one after the other, as the code makes them
-module _ (f : List ℕ) (n : ℕ) (e : n ≡ file_count f) where
-  pub range-many : 1024 < n → false ≡ files_in_range f
-  unfolding files_in_range
-  range-many h = rw (← e, lt-leb n 1024 h)
-
-  pub range-bad : n ≤ 1024 → all good_file (table n (file_at f)) ≡ false → false ≡ files_in_range f
-  unfolding files_in_range files_of
-  range-bad h g = rw (← e, le-leb n 1024 h, g)
-
-  pub range-reports : n ≤ 1024 → all good_file (table n (file_at f)) ≡ true → 8192 < records_of 0 (table n (file_at f)) → false ≡ files_in_range f
-  unfolding files_in_range files_of
-  range-reports h g r = rw (← e, le-leb n 1024 h, g, lt-leb (records_of 0 (table n (file_at f))) 8192 r)
-
-  pub range-corrections : n ≤ 1024 → all good_file (table n (file_at f)) ≡ true → records_of 0 (table n (file_at f)) ≤ 8192 → leb (records_of 1 (table n (file_at f))) 2048 ≡ files_in_range f
-  unfolding files_in_range files_of
-  range-corrections h g r = rw (← e, le-leb n 1024 h, g, le-leb (records_of 0 (table n (file_at f))) 8192 r)
-
-module _ (t f r c : List ℕ) where
-  pub show-short-table : length t < 14338 → false ≡ is_showable t f r c
-  unfolding is_showable
-  show-short-table h = rw (lt-leb 14338 (length t) h)
-
-  pub show-short-files : 14338 ≤ length t → length f < 8194 → false ≡ is_showable t f r c
-  unfolding is_showable
-  show-short-files h i = rw (le-leb 14338 (length t) h, lt-leb 8194 (length f) i)
-
-  pub show-short-regular : 14338 ≤ length t → 8194 ≤ length f → length r < 368640 → false ≡ is_showable t f r c
-  unfolding is_showable
-  show-short-regular h i j = rw (le-leb 14338 (length t) h, le-leb 8194 (length f) i, lt-leb 368640 (length r) j)
-
-  module _ (h : 14338 ≤ length t) (i : 8194 ≤ length f) (j : 368640 ≤ length r) where
-    pub show-short-corrections : length c < 200704 → false ≡ is_showable t f r c
-    unfolding is_showable
-    show-short-corrections k = rw (le-leb 14338 (length t) h, le-leb 8194 (length f) i, le-leb 368640 (length r) j, lt-leb 200704 (length c) k)
-
-    pub show-many : 200704 ≤ length c → (n : ℕ) → n ≡ line_count t → 1024 < n → false ≡ is_showable t f r c
-    unfolding is_showable
-    show-many k n e m =
-        rw (le-leb 14338 (length t) h, le-leb 8194 (length f) i, le-leb 368640 (length r) j, le-leb 200704 (length c) k, ← e, lt-leb n 1024 m)
-
-    pub show-files : 200704 ≤ length c → (n : ℕ) → n ≡ line_count t → n ≤ 1024 → files_in_range f ≡ is_showable t f r c
-    unfolding is_showable
-    show-files k n e m =
-        rw (le-leb 14338 (length t) h, le-leb 8194 (length f) i, le-leb 368640 (length r) j, le-leb 200704 (length c) k, ← e, le-leb n 1024 m)
-
 -- the reports of all files, counted by the code
-pub reports-first : (f : List ℕ) (n : ℕ) → InRange f → n ≡ file_count f → records_of 0 (table n (file_at f)) ≤ 8192
+pub reports_first : (f : List ℕ) (n : ℕ) → InRange f → n ≡ file_count f → records_of 0 (table n (file_at f)) ≤ 8192
 unfolding files_of
-reports-first f n r e = let m : records_of 0 (table (file_count f) (file_at f)) ≤ 8192 = r.reports in rw e m
+reports_first f n r e = let m : records_of 0 (table (file_count f) (file_at f)) ≤ 8192 = r.reports in rw e m

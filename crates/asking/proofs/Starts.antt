@@ -11,7 +11,7 @@ use Rattle.verdict.specs.declared.step.Why.{Why}
 use Rattle.store.specs.journals.Files.{file_at, records_in, records_of}
 use Rattle.store.specs.journals.Reads.{filed_after, filed_in, first_files, records_at}
 use Rattle.store.specs.declared.journals.files.File.{File}
-use Rattle.asking.specs.declared.pairs.WhyAnswer.{WhyAnswer}
+use Rattle.std.specs.Prelude.{Some}
 use Rattle.asking.specs.pairs.Pairs.{is_listed_of, start_by, listed_as, listed_pair}
 use Rattle.asking.specs.Why.{is_file_of, reports_in, start_in, stored_as, pair_of}
 
@@ -40,7 +40,7 @@ module _ (r : ℕ → ℕ → List ℕ) where
 
   pair_same : (fs : List File) (w : Why) → listed_pair fs w ≡ pair_of (filed_in r [] fs) w
   pair_same fs Why.Nothing = refl
-  pair_same fs (Why.Pair a b) = λ j. WhyAnswer.Pair (stored_same fs a j) (stored_same fs b j)
+  pair_same fs (Why.Pair a b) = λ j. Some (record { first = stored_same fs a j; second = stored_same fs b j })
 
 pub pair-files : (n : ℕ) (files regular corrections : List ℕ) (w : Why) → listed_pair (table n (file_at files)) w ≡ pair_of (first_files n files regular corrections) w
 unfolding first_files

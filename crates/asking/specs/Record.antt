@@ -1,6 +1,5 @@
 -- A filed record by journal and place (paper 01, "Verdicts on reports", the last paragraph). Assumes nothing: these are definitions.
-use Rattle.std.specs.Prelude.{None}
-use Rattle.std.specs.Prelude.{Option, Some}
+use Rattle.std.specs.Prelude.{Option, Some, None, Result, Ok, Err}
 use Rattle.std.specs.Prelude.{◌≡◌, List, ℕ, ◌+◌, ◌≤◌, ◌<◌}
 use Rattle.laws.specs.Lists.{table}
 use Rattle.fields.specs.declared.number.Number.{Number}
@@ -16,9 +15,9 @@ use Rattle.store.specs.declared.journals.files.File.{File}
 use Rattle.store.specs.declared.journals.records.Journal.{Journal}
 use Rattle.store.specs.declared.journals.records.Journal.TheVariants.{Regular, Correction}
 use Rattle.rules.specs.Rules.{rules, record_of, line_by}
-use Rattle.asking.specs.declared.record.Asked.{Asked}
+use Rattle.asking.specs.declared.answer.NoRecord.{NoRecord}
 use Rattle.asking.specs.declared.record.AskedRecord.{AskedRecord}
-use Rattle.asking.specs.declared.record.Located.{Located}
+use Rattle.asking.specs.declared.record.ShownRecord.{ShownRecord}
 use Rattle.asking.specs.declared.record.Said.{Said}
 use Rattle.asking.specs.Items.{item_at}
 
@@ -46,28 +45,26 @@ asked_as lines files e = record {
   verdict = point_verdict files e (record_of e) (line_of rules lines (number_of rules e));
 }
 
-abbrev pub asked_of : List (TableLine Number) → List Filed → Journal → ℕ → Option Event → Asked
-asked_of lines files which place None = Asked.Beyond
-asked_of lines files which place (Some e) = Asked.Record which place (asked_as lines files e)
+abbrev pub asked_of : List (TableLine Number) → List Filed → Journal → ℕ → Option Event → Result ShownRecord NoRecord
+asked_of lines files which place None = Err NoRecord.Beyond
+asked_of lines files which place (Some e) = Ok (record { journal = which; place = place; shown = asked_as lines files e })
 
 -- the one at a place of a journal
-unfoldable pub asked_in : List (TableLine Number) → List Filed → Journal → ℕ → Asked
+unfoldable pub asked_in : List (TableLine Number) → List Filed → Journal → ℕ → Result ShownRecord NoRecord
 asked_in lines files which place = asked_of lines files which place (item_at (journal_of (kind_of which) files) place)
 
 -- ---- its bytes
 -- the journal and the place that an answer shows; where it shows no record, the place is beyond all records
-abbrev pub journal_shown : Asked → Journal
-journal_shown (Asked.Record which place a) = which
-journal_shown Asked.Beyond = Regular
-journal_shown Asked.Unreadable = Regular
+abbrev pub journal_shown : Result ShownRecord NoRecord → Journal
+journal_shown (Ok s) = s.journal
+journal_shown (Err e) = Regular
 
-abbrev pub place_shown : Asked → ℕ
-place_shown (Asked.Record which place a) = place
-place_shown Asked.Beyond = 8192
-place_shown Asked.Unreadable = 8192
+abbrev pub place_shown : Result ShownRecord NoRecord → ℕ
+place_shown (Ok s) = s.place
+place_shown (Err e) = 8192
 
 -- the part of that journal at that place; beyond all records it is empty
-abbrev pub part_shown : List ℕ → List ℕ → Asked → List ℕ
+abbrev pub part_shown : List ℕ → List ℕ → Result ShownRecord NoRecord → List ℕ
 part_shown regular corrections answer = shown_in (journal_shown answer) regular corrections 8192 (place_shown answer)
 
 -- ---- where a record stands: in the file k, of that kind, at a place of it; those of the files before it come before it in the journal
@@ -77,6 +74,6 @@ pub record InFileAt (file : ℕ → File) (n kind place k at : ℕ) : Type 0 whe
   pub within : at < (file k).count
   pub sum : records_of kind (table k file) + at ≡ place
 
-abbrev pub Locates : (ℕ → File) → ℕ → ℕ → ℕ → Located → Type 0
-Locates file n kind place (Located.In k at) = InFileAt file n kind place k at
-Locates file n kind place Located.Nowhere = records_of kind (table n file) ≤ place
+abbrev pub Locates : (ℕ → File) → ℕ → ℕ → ℕ → Option (ℕ × ℕ) → Type 0
+Locates file n kind place (Some at) = InFileAt file n kind place at.0 at.1
+Locates file n kind place None = records_of kind (table n file) ≤ place

@@ -1,5 +1,5 @@
 -- Why a number stands where it does (paper 01, "Verdicts on reports", the last paragraph). Assumes nothing: these are definitions.
-use Rattle.std.specs.Prelude.{Option, Some, None}
+use Rattle.std.specs.Prelude.{Option, Some, None, Result, Ok, Err}
 use Rattle.std.specs.Prelude.{Bool, cond, ◌&&◌, List, [], ◌∷◌, ℕ, ◌+◌, eqb, length}
 use Rattle.fields.specs.declared.number.Number.{Number}
 use Rattle.entries.specs.declared.entry.Place.{Place}
@@ -10,8 +10,8 @@ use Rattle.model.specs.Model.{Filed, entry_over, line_of}
 use Rattle.store.specs.journals.Records.{record_in}
 use Rattle.rules.specs.Rules.{rules, standings}
 use Rattle.asking.specs.declared.pairs.Stored.{Stored}
-use Rattle.asking.specs.declared.pairs.WhyAnswer.{WhyAnswer}
-use Rattle.asking.specs.declared.pairs.WhyAnswer.TheVariants.{UnknownNumber}
+use Rattle.asking.specs.declared.answer.NotShown.{NotShown}
+use Rattle.asking.specs.declared.pairs.Pair.{Pair}
 
 -- ---- over the model's files
 -- the default file of a publisher and a day
@@ -36,30 +36,33 @@ stored_as files p = record {
 }
 
 -- the pair that confirmed last, the report processed first coming first
-abbrev pub pair_of : List Filed → Why → WhyAnswer
-pair_of files Why.Nothing = WhyAnswer.Nothing
-pair_of files (Why.Pair a b) = WhyAnswer.Pair (stored_as files a) (stored_as files b)
+abbrev pub pair_of : List Filed → Why → Option Pair
+pair_of files Why.Nothing = None
+pair_of files (Why.Pair a b) = Some (record { first = stored_as files a; second = stored_as files b })
 
-abbrev pub why_on : List Filed → Option (TableLine Number) → WhyAnswer
-why_on files None = UnknownNumber
-why_on files (Some line) = pair_of files (entry_over standings files line).why
+abbrev pub why_on : List Filed → Option (TableLine Number) → Result (Option Pair) NotShown
+why_on files None = Err NotShown.UnknownNumber
+why_on files (Some line) = Ok (pair_of files (entry_over standings files line).why)
 
-unfoldable pub why_in : List (TableLine Number) → List Filed → Number → WhyAnswer
+unfoldable pub why_in : List (TableLine Number) → List Filed → Number → Result (Option Pair) NotShown
 why_in lines files number = why_on files (line_of rules lines number)
 
 -- ---- the two reports
--- the places of the pair; where an answer shows no pair, each is beyond all reports
-abbrev pub first_place : WhyAnswer → ℕ
-first_place (WhyAnswer.Pair a b) = a.place
-first_place WhyAnswer.Nothing = 8192
-first_place WhyAnswer.UnknownNumber = 8192
-first_place WhyAnswer.Unreadable = 8192
+-- the place of a report that is shown; where none is, one beyond all reports
+abbrev pub place_of : Option Stored → ℕ
+place_of (Some s) = s.place
+place_of None = 8192
 
-abbrev pub second_place : WhyAnswer → ℕ
-second_place (WhyAnswer.Pair a b) = b.place
-second_place WhyAnswer.Nothing = 8192
-second_place WhyAnswer.UnknownNumber = 8192
-second_place WhyAnswer.Unreadable = 8192
+-- the places of the pair; where an answer shows no pair, each is beyond all reports
+abbrev pub first_place : Result (Option Pair) NotShown → ℕ
+first_place (Ok (Some p)) = p.first.place
+first_place (Ok None) = 8192
+first_place (Err e) = 8192
+
+abbrev pub second_place : Result (Option Pair) NotShown → ℕ
+second_place (Ok (Some p)) = p.second.place
+second_place (Ok None) = 8192
+second_place (Err e) = 8192
 
 -- the part of the regular journal at a place; beyond all reports it is empty
 abbrev pub part_at : List ℕ → ℕ → List ℕ

@@ -3,9 +3,7 @@ ghost use Rattle.std.specs.Prelude.{◌≡◌, ◌+◌, ◌*◌, ◌≤◌, ◌<
 ghost use Rattle.laws.specs.Lists.{table as tabled};
 ghost use Rattle.store.specs.journals.Files.{file_at, records_of};
 ghost use Rattle.asking.specs.pairs.Pairs.{is_listed_of, start_by, listed_as, listed_pair};
-ghost use Rattle.asking.specs.Looks.{why_look};
 
-use crate::looks::LookedWhy;
 use calendar::dates::CalendarDays;
 use entries::entry::Place;
 use entries::report;
@@ -22,17 +20,15 @@ pub struct Stored {
     pub day: CalendarDays,
 }
 
-// The pair that confirmed last, the report processed first coming first; that there is none; the number is not in the table;
-// the buffers do not read.
+// The two reports of a pair, the one processed first coming first.
 #[derive(Clone, Copy)]
-pub enum WhyAnswer {
-    Pair(Stored, Stored),
-    Nothing,
-    UnknownNumber,
-    Unreadable,
+pub struct Pair {
+    pub first: Stored,
+    pub second: Stored,
 }
 
 // Whether a file is the default file of a publisher and a day.
+#[tactic(auto, unfolding(crate::specs::pairs::Pairs::is_listed_of))]
 fn is_listed_of(f: File, publisher: Code, day: CalendarDays) -> bool
     ensures { result ≡ is_listed_of publisher.0 day.0 f }
 {
@@ -45,47 +41,43 @@ fn start_of(files: &[u8], n: usize, publisher: Code, day: CalendarDays) -> usize
     ensures { result ≡ start_by publisher.0 day.0 (tabled n (file_at files.now)) }
 {
     let mut start = 0;
-    let mut k = 0;
-    while k < n {
+    for k in 0..n {
         let f = files::file_at(files, k);
         if is_listed_of(f, publisher, day) {
             return start;
         }
         start += sums::records_in(f, 0);
-        k += 1;
     }
     start
 }
 
 // The stored report of a place: its file is that of the report's publisher on its publication day.
+#[tactic(auto, using(crate::proofs::pairs::Starts::start_below))]
 fn stored_of(files: &[u8], n: usize, p: Place) -> Stored
     requires n_in_bounds { (2 + n * 8 ≤ length files.now) × (n < 65536) }
     requires files_bound { records_of 0 (tabled n (file_at files.now)) ≤ 8192 }
     ensures { result ≡ listed_as (tabled n (file_at files.now)) p }
 {
-    let r = p.report;
-    let publisher = report::publisher(r);
-    let day = p.day;
-    let start = start_of(files, n, publisher, day);
+    let publisher = report::publisher(p.report);
+    let start = start_of(files, n, publisher, p.day);
     Stored {
         place: start + p.at as usize,
-        publisher: publisher,
-        day: day,
+        publisher,
+        day: p.day,
     }
 }
 
-// The stored reports of a pair, as a look shows them.
-pub(crate) fn pair_in(files: &[u8], n: usize, w: Why) -> LookedWhy
+// The stored reports of a pair.
+pub(crate) fn pair_in(files: &[u8], n: usize, w: Why) -> Option<Pair>
     requires n_in_bounds { (2 + n * 8 ≤ length files.now) × (n < 65536) }
     requires files_bound { records_of 0 (tabled n (file_at files.now)) ≤ 8192 }
-    ensures { result ≡ why_look (listed_pair (tabled n (file_at files.now)) w) }
+    ensures { result ≡ listed_pair (tabled n (file_at files.now)) w }
 {
     match w {
-        Why::Nothing => LookedWhy::Nothing,
-        Why::Pair(a, b) => {
-            let first = stored_of(files, n, a);
-            let second = stored_of(files, n, b);
-            LookedWhy::Pair(first, second)
-        }
+        Why::Nothing => None,
+        Why::Pair(a, b) => Some(Pair {
+            first: stored_of(files, n, a),
+            second: stored_of(files, n, b),
+        }),
     }
 }

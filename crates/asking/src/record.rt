@@ -7,10 +7,11 @@ ghost use Rattle.store.specs.numbers.Lines.{line_count, line_at};
 ghost use Rattle.store.specs.Reads.{table_line};
 ghost use Rattle.working.specs.Working.{Sound, record_in};
 ghost use Rattle.asking.specs.Standing.{lines_in};
-ghost use Rattle.asking.specs.Record.{kind_of, Locates, said_by, point_verdict, asked_as, journal_shown, place_shown, part_shown};
+ghost use Rattle.asking.specs.Record.{kind_of, Locates, said_by, point_verdict, asked_as, part_shown};
 ghost use Rattle.asking.specs.Looks.{record_looked};
 
-use crate::looks::LookedRecord;
+use crate::answer::NoRecord;
+use crate::looks::RecordNotSeen;
 use crate::showable;
 use calendar::dates::CalendarDays;
 use entries::entry::Line;
@@ -33,19 +34,12 @@ pub struct AskedRecord {
     pub verdict: Verdict,
 }
 
-// The record, with its journal and its place there; its place is beyond the journal's records; the buffers do not read.
+// A record that is shown: its journal, its place there, and what is shown of it.
 #[derive(Clone, Copy)]
-pub enum Asked {
-    Record(Journal, usize, AskedRecord),
-    Beyond,
-    Unreadable,
-}
-
-// Where a record of a journal stands: in which file, and at which place of it.
-#[derive(Drop)]
-pub enum Located {
-    In(usize, usize),
-    Nowhere,
+pub struct ShownRecord {
+    pub journal: Journal,
+    pub place: usize,
+    pub shown: AskedRecord,
 }
 
 // What a record says: the number that it names, and what the verdicts take.
@@ -65,23 +59,21 @@ fn kind_of(which: Journal) -> u8
     }
 }
 
-// The file, among the first n, of the record at a place of the journal of a kind.
-fn locate(files: &[u8], n: usize, kind: u8, place: usize) -> Located
+// The file, among the first n, of the record at a place of the journal of a kind, and the record's place in that file.
+fn locate(files: &[u8], n: usize, kind: u8, place: usize) -> Option<(usize, usize)>
     requires { (2 + n * 8 ≤ length files.now) × (n < 65536) }
     ensures { Locates (file_at files.now) n kind place result }
 {
     let mut at = place;
-    let mut k = 0;
-    while k < n {
+    for k in 0..n {
         let f = files::file_at(files, k);
         let count = sums::records_in(f, kind);
         if at < count {
-            return Located::In(k, at);
+            return Some((k, at));
         }
         at -= count;
-        k += 1;
     }
-    Located::Nowhere
+    None
 }
 
 // What the record at a place of the file k says.
@@ -102,17 +94,14 @@ fn said_at<'a>(
     let bytes = gather::record_at(regular, corrections, f.kind, start + at);
     let number = rules::records::number_in(f.kind, bytes);
     let says = rules::records::says_in(f.kind, bytes);
-    let publisher = Code(f.publisher);
-    let day = CalendarDays(f.day);
-    let rec = Record {
-        publisher: publisher,
-        day: day,
-        at: at as u32,
-        says: says,
-    };
     Said {
-        number: number,
-        rec: rec,
+        number,
+        rec: Record {
+            publisher: Code(f.publisher),
+            day: CalendarDays(f.day),
+            at: at as u32,
+            says,
+        },
     }
 }
 
@@ -135,32 +124,16 @@ fn verdict_at<'a>(
     ensures { result ≡ point_verdict (take n (read_files files.now regular.now corrections.now)) (record_in files.now regular.now corrections.now k at) rec (Some (table_line (line_at table.now i))) }
 {
     let l = lines::line_at(table, i);
-    let number = l.number;
-    let owner = l.owner;
-    let setup = l.setup;
     let line = Line {
-        owner: owner,
-        setup: setup,
+        owner: l.owner,
+        setup: l.setup,
     };
-    let e = before::entry_before(files, n, regular, corrections, number, line, k, at);
+    let e = before::entry_before(files, n, regular, corrections, l.number, line, k, at);
     step::verdict(Some(line), e, rec)
 }
 
-// A record with its verdict.
-fn with_verdict(rec: Record, at: usize, v: Verdict) -> AskedRecord
-    ensures { result ≡ record { publisher = rec.publisher; day = rec.day; place = at; verdict = v } }
-{
-    let publisher = rec.publisher;
-    let day = rec.day;
-    AskedRecord {
-        publisher: publisher,
-        day: day,
-        place: at,
-        verdict: v,
-    }
-}
-
 // The record at a place of the file k, with its verdict; 12 where its number has no line.
+#[tactic(auto, using(crate::proofs::Lines::found_below, crate::proofs::Records::asked_unknown, crate::proofs::Records::asked_here))]
 fn asked_at<'a>(
     table: &[u8],
     files: &'a [u8],
@@ -176,19 +149,20 @@ fn asked_at<'a>(
     ensures { result ≡ asked_as (lines_in table.now) (take n (read_files files.now regular.now corrections.now)) (record_in files.now regular.now corrections.now k at) }
 {
     let s = said_at(files, n, regular, corrections, k, at);
-    let number = s.number;
-    let rec = s.rec;
-    let found = find::find_line(table, number);
-    match found {
-        Some(i) => {
-            let v = verdict_at(table, files, n, regular, corrections, k, at, i, rec);
-            with_verdict(rec, at, v)
-        }
-        None => with_verdict(rec, at, Verdict::UnknownNumber),
+    let verdict = match find::find_line(table, s.number) {
+        Some(i) => verdict_at(table, files, n, regular, corrections, k, at, i, s.rec),
+        None => Verdict::UnknownNumber,
+    };
+    AskedRecord {
+        publisher: s.rec.publisher,
+        day: s.rec.day,
+        place: at,
+        verdict,
     }
 }
 
 // The record at a place of a journal: a look.
+#[tactic(auto, using(crate::proofs::Showing::showable, crate::proofs::Showing::sound, crate::proofs::Records::record_unshowable, crate::proofs::Records::asked_beyond))]
 pub fn look<'a>(
     table: &[u8],
     files: &'a [u8],
@@ -196,50 +170,33 @@ pub fn look<'a>(
     corrections: &'a [u8],
     which: Journal,
     place: usize,
-) -> LookedRecord
+) -> Result<ShownRecord, RecordNotSeen>
     ensures { result ≡ record_looked table.now files.now regular.now corrections.now which place }
 {
     if !showable::showable(table, files, regular, corrections) {
-        return LookedRecord::Unshowable;
+        return Err(RecordNotSeen::Unshowable);
     }
     let n = files::file_count(files);
-    let found = locate(files, n, kind_of(which), place);
-    match found {
-        Located::In(k, at) => {
-            let r = asked_at(table, files, n, regular, corrections, k, at);
-            LookedRecord::Record(which, place, r)
-        }
-        Located::Nowhere => LookedRecord::Beyond,
-    }
-}
-
-// The journal of the record that an answer shows; where it shows none, the regular one.
-fn journal_shown(answer: Asked) -> Journal
-    ensures { result ≡ journal_shown answer }
-{
-    match answer {
-        Asked::Record(which, _, _) => which,
-        Asked::Beyond => Journal::Regular,
-        Asked::Unreadable => Journal::Regular,
-    }
-}
-
-// Its place there; where the answer shows no record, one beyond all records.
-fn place_shown(answer: Asked) -> usize
-    ensures { result ≡ place_shown answer }
-{
-    match answer {
-        Asked::Record(_, place, _) => place,
-        Asked::Beyond => REPORTS,
-        Asked::Unreadable => REPORTS,
-    }
+    let Some((k, at)) = locate(files, n, kind_of(which), place) else {
+        return Err(RecordNotSeen::Beyond);
+    };
+    Ok(ShownRecord {
+        journal: which,
+        place,
+        shown: asked_at(table, files, n, regular, corrections, k, at),
+    })
 }
 
 // The bytes of the record that an answer shows, a part of its journal; empty where it shows none.
-pub fn part<'a>(regular: &'a [u8], corrections: &'a [u8], answer: Asked) -> &'a [u8]
+pub fn part<'a>(
+    regular: &'a [u8],
+    corrections: &'a [u8],
+    answer: Result<ShownRecord, NoRecord>,
+) -> &'a [u8]
     ensures { result.now ≡ part_shown regular.now corrections.now answer }
 {
-    let which = journal_shown(answer);
-    let place = place_shown(answer);
-    records::record_bytes(regular, corrections, which, REPORTS, place)
+    match answer {
+        Ok(s) => records::record_bytes(regular, corrections, s.journal, REPORTS, s.place),
+        Err(_) => records::record_bytes(regular, corrections, Journal::Regular, REPORTS, REPORTS),
+    }
 }

@@ -9,41 +9,27 @@ use store::journals::{files, sums};
 use store::numbers::lines;
 
 // Whether the list of files is in range.
+#[tactic(auto, unfolding(crate::specs::Showable::files_in_range, store::specs::journals::Files::files_of))]
 fn files_in_range(files: &[u8]) -> bool
     requires { 8194 ≤ length files.now }
     ensures { result ≡ files_in_range files.now }
 {
     let n = files::file_count(files);
-    if files::FILES < n {
-        return false;
-    }
-    if !files::good_files(files, n) {
-        return false;
-    }
-    if REPORTS < sums::records_of(files, n, 0) {
-        return false;
-    }
-    sums::records_of(files, n, 1) <= CORRECTIONS
+    n <= files::FILES
+        && files::good_files(files, n)
+        && sums::records_of(files, n, 0) <= REPORTS
+        && sums::records_of(files, n, 1) <= CORRECTIONS
 }
 
 // Whether the buffers can be shown from.
+#[tactic(auto, unfolding(crate::specs::Showable::is_showable))]
 pub fn showable(table: &[u8], files: &[u8], regular: &[u8], corrections: &[u8]) -> bool
     ensures { result ≡ is_showable table.now files.now regular.now corrections.now }
 {
-    if table.len() < lines::TABLE_LENGTH {
-        return false;
-    }
-    if files.len() < files::FILES_LENGTH {
-        return false;
-    }
-    if regular.len() < REGULAR_LENGTH {
-        return false;
-    }
-    if corrections.len() < CORRECTIONS_LENGTH {
-        return false;
-    }
-    if lines::NUMBERS < lines::line_count(table) {
-        return false;
-    }
-    files_in_range(files)
+    lines::TABLE_LENGTH <= table.len()
+        && files::FILES_LENGTH <= files.len()
+        && REGULAR_LENGTH <= regular.len()
+        && CORRECTIONS_LENGTH <= corrections.len()
+        && lines::line_count(table) <= lines::NUMBERS
+        && files_in_range(files)
 }

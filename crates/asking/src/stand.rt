@@ -7,40 +7,22 @@ ghost use Rattle.store.specs.numbers.Lines.{line_at};
 ghost use Rattle.store.specs.Reads.{table_line};
 ghost use Rattle.rules.specs.Rules.{standings};
 ghost use Rattle.working.specs.Working.{Sound};
-ghost use Rattle.asking.specs.Looks.{not_stood, standing_looked};
+ghost use Rattle.asking.specs.Looks.{standing_looked};
 
-use crate::looks::{Look, LookedStanding};
+use crate::looks::NotSeen;
 use crate::showable;
-use entries::entry;
 use entries::entry::Line;
 use store::journals::files;
 use store::numbers::lines;
-use verdict::step;
 use verdict::step::Standing;
 use working::work;
-
-// Nothing is shown.
-fn not_stood(look: Look) -> LookedStanding
-    ensures { result ≡ not_stood look }
-{
-    let none = entry::line_in(None);
-    let s = step::first(none);
-    LookedStanding {
-        look: look,
-        standing: s,
-    }
-}
 
 // How many files the first n are.
 pub fn files_among(files: &[u8], n: usize) -> usize
     requires { 2 ≤ length files.now }
     ensures { result ≡ cond (ltb n (file_count files.now)) n (file_count files.now) }
 {
-    let count = files::file_count(files);
-    if n < count {
-        return n;
-    }
-    count
+    n.min(files::file_count(files))
 }
 
 // Where the line i stands over the first n files.
@@ -57,18 +39,16 @@ pub(crate) fn standing_at<'a>(
     ensures { result ≡ entry_over standings (take n (read_files files.now regular.now corrections.now)) (table_line (line_at table.now i)) }
 {
     let l = lines::line_at(table, i);
-    let number = l.number;
-    let owner = l.owner;
-    let setup = l.setup;
     let line = Line {
-        owner: owner,
-        setup: setup,
+        owner: l.owner,
+        setup: l.setup,
     };
-    let w = work::work_out(files, n, regular, corrections, number, line);
+    let w = work::work_out(files, n, regular, corrections, l.number, line);
     w.standing
 }
 
 // Where the line i stands over the first n files: a look.
+#[tactic(auto, using(crate::proofs::Showing::showable, crate::proofs::Standings::stood_unshowable, crate::proofs::Standings::stood_beyond, crate::proofs::Standings::stood_here))]
 pub fn look<'a>(
     table: &[u8],
     files: &'a [u8],
@@ -76,19 +56,15 @@ pub fn look<'a>(
     regular: &'a [u8],
     corrections: &'a [u8],
     i: usize,
-) -> LookedStanding
+) -> Result<Standing, NotSeen>
     ensures { result ≡ standing_looked table.now files.now regular.now corrections.now n i }
 {
     if !showable::showable(table, files, regular, corrections) {
-        return not_stood(Look::Unshowable);
+        return Err(NotSeen::Unshowable);
     }
     if lines::line_count(table) <= i {
-        return not_stood(Look::UnknownNumber);
+        return Err(NotSeen::UnknownNumber);
     }
     let m = files_among(files, n);
-    let s = standing_at(table, files, m, regular, corrections, i);
-    LookedStanding {
-        look: Look::Shown,
-        standing: s,
-    }
+    Ok(standing_at(table, files, m, regular, corrections, i))
 }

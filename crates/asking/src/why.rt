@@ -1,77 +1,67 @@
 // Why a number stands where it does: the two stored reports of its last confirmed pair.
 ghost use Rattle.std.specs.Prelude.{◌≡◌};
-ghost use Rattle.asking.specs.Why.{first_place, second_place, part_at};
+ghost use Rattle.asking.specs.Why.{place_of, first_place, second_place, part_at};
 ghost use Rattle.asking.specs.Looks.{why_looked};
 
-use crate::looks::LookedWhy;
-use crate::pairs::WhyAnswer;
+use crate::answer::NotShown;
+use crate::looks::NotSeen;
+use crate::pairs::{Pair, Stored, pair_in};
 use crate::{showable, stand};
 use fields::number::Number;
 use store::journals::records::{Journal, REPORTS};
 use store::journals::{files, records};
 use store::numbers::find;
 
-// Why a number stands where it does: a look.
+// Why a number stands where it does: a look. It shows the pair that confirmed last, or that there is none.
+#[tactic(auto, using(crate::proofs::Showing::showable, crate::proofs::Showing::sound, crate::proofs::Showing::reports_first, crate::proofs::Lines::found_below, crate::proofs::Whys::why_unshowable, crate::proofs::Whys::why_unknown))]
 pub fn look<'a>(
     table: &[u8],
     files: &'a [u8],
     regular: &'a [u8],
     corrections: &'a [u8],
     number: Number,
-) -> LookedWhy
+) -> Result<Option<Pair>, NotSeen>
     ensures { result ≡ why_looked table.now files.now regular.now corrections.now number }
 {
     if !showable::showable(table, files, regular, corrections) {
-        return LookedWhy::Unshowable;
+        return Err(NotSeen::Unshowable);
     }
-    let found = find::find_line(table, number);
-    match found {
-        Some(i) => {
-            let n = files::file_count(files);
-            let s = stand::standing_at(table, files, n, regular, corrections, i);
-            let w = s.why;
-            crate::pairs::pair_in(files, n, w)
-        }
-        None => LookedWhy::UnknownNumber,
-    }
+    let Some(i) = find::find_line(table, number) else {
+        return Err(NotSeen::UnknownNumber);
+    };
+    let n = files::file_count(files);
+    let s = stand::standing_at(table, files, n, regular, corrections, i);
+    Ok(pair_in(files, n, s.why))
 }
 
-// The place of the pair's first report; where no pair is shown, one beyond all reports.
-fn first_place(answer: WhyAnswer) -> usize
-    ensures { result ≡ first_place answer }
+// The bytes of a report that is shown, a part of the regular journal; empty where none is.
+fn part<'a>(regular: &'a [u8], corrections: &'a [u8], report: Option<Stored>) -> &'a [u8]
+    ensures { result.now ≡ part_at regular.now (place_of report) }
 {
-    match answer {
-        WhyAnswer::Pair(a, _) => a.place,
-        WhyAnswer::Nothing => REPORTS,
-        WhyAnswer::UnknownNumber => REPORTS,
-        WhyAnswer::Unreadable => REPORTS,
-    }
-}
-
-// The place of its second report.
-fn second_place(answer: WhyAnswer) -> usize
-    ensures { result ≡ second_place answer }
-{
-    match answer {
-        WhyAnswer::Pair(_, b) => b.place,
-        WhyAnswer::Nothing => REPORTS,
-        WhyAnswer::UnknownNumber => REPORTS,
-        WhyAnswer::Unreadable => REPORTS,
-    }
+    let place = report.map_or(REPORTS, |s| s.place);
+    records::record_bytes(regular, corrections, Journal::Regular, REPORTS, place)
 }
 
 // The bytes of the pair's first report, a part of the regular journal; empty where no pair is shown.
-pub fn first_part<'a>(regular: &'a [u8], corrections: &'a [u8], answer: WhyAnswer) -> &'a [u8]
+pub fn first_part<'a>(
+    regular: &'a [u8],
+    corrections: &'a [u8],
+    answer: Result<Option<Pair>, NotShown>,
+) -> &'a [u8]
     ensures { result.now ≡ part_at regular.now (first_place answer) }
 {
-    let first = first_place(answer);
-    records::record_bytes(regular, corrections, Journal::Regular, REPORTS, first)
+    let pair = answer.ok().flatten();
+    part(regular, corrections, pair.map(|p| p.first))
 }
 
 // The bytes of its second report.
-pub fn second_part<'a>(regular: &'a [u8], corrections: &'a [u8], answer: WhyAnswer) -> &'a [u8]
+pub fn second_part<'a>(
+    regular: &'a [u8],
+    corrections: &'a [u8],
+    answer: Result<Option<Pair>, NotShown>,
+) -> &'a [u8]
     ensures { result.now ≡ part_at regular.now (second_place answer) }
 {
-    let second = second_place(answer);
-    records::record_bytes(regular, corrections, Journal::Regular, REPORTS, second)
+    let pair = answer.ok().flatten();
+    part(regular, corrections, pair.map(|p| p.second))
 }

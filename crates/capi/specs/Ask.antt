@@ -1,12 +1,15 @@
 -- What asking tells other languages. Assumes nothing: these are definitions.
+use Rattle.std.specs.Prelude.{Option, Result}
 use Rattle.std.specs.Prelude.{◌≡◌, cond, ℕ, eqb}
 use Rattle.laws.specs.Told.{value_or, value_at}
 use Rattle.store.specs.declared.journals.records.Journal.{Journal}
 use Rattle.store.specs.declared.journals.records.Journal.TheVariants.{Regular, Correction}
-use Rattle.asking.specs.declared.record.Asked.{Asked}
-use Rattle.asking.specs.declared.pairs.WhyAnswer.{WhyAnswer}
+use Rattle.asking.specs.declared.answer.NotShown.{NotShown}
+use Rattle.asking.specs.declared.answer.NoRecord.{NoRecord}
+use Rattle.asking.specs.declared.pairs.Pair.{Pair}
+use Rattle.asking.specs.declared.record.ShownRecord.{ShownRecord}
 use Rattle.asking.specs.Numbers.{why_told, asked_told}
-use Rattle.asking.specs.declared.answering.figure.FigureAnswer.{FigureAnswer}
+use Rattle.asking.specs.declared.answer.Unreadable.{Unreadable}
 use Rattle.asking.specs.answering.Figure.{figure_told}
 
 -- the journals by number: 0 the regular one, any other the correction journal
@@ -17,13 +20,13 @@ journal_by n = cond (eqb n 0) Regular Correction
 abbrev pub nowhere : ℕ
 nowhere = 8192
 
-pub record TellsWhy (right : WhyAnswer) (answer one two : ℕ) : Type 0 where
+pub record TellsWhy (right : Result (Option Pair) NotShown) (answer one two : ℕ) : Type 0 where
   pub answers : answer ≡ (why_told right).number
   pub first : one ≡ value_or nowhere 0 (why_told right)
   pub second : two ≡ value_or nowhere 1 (why_told right)
 
 -- ---- a record: 0 for each part where none is shown
-pub record TellsRecord (right : Asked) (answer publisher day place verdict : ℕ) : Type 0 where
+pub record TellsRecord (right : Result ShownRecord NoRecord) (answer publisher day place verdict : ℕ) : Type 0 where
   pub answers : answer ≡ (asked_told right).number
   pub by : publisher ≡ value_at 0 (asked_told right)
   pub on : day ≡ value_at 1 (asked_told right)
@@ -31,6 +34,6 @@ pub record TellsRecord (right : Asked) (answer publisher day place verdict : ℕ
   pub gets : verdict ≡ value_at 3 (asked_told right)
 
 -- ---- the figure
-pub record TellsFigure (right : FigureAnswer) (answer more : ℕ) : Type 0 where
+pub record TellsFigure (right : Result ℕ Unreadable) (answer more : ℕ) : Type 0 where
   pub answers : answer ≡ (figure_told right).number
   pub differ : more ≡ value_at 0 (figure_told right)

@@ -7,15 +7,16 @@ ghost use Rattle.capi.specs.Again.{ReworksAs};
 
 use crate::told;
 use crate::told::Numbers;
+use asking::answer::Unreadable;
 use reworking::rework;
-use reworking::rework::{ALL_FILES, Reworked};
+use reworking::rework::ALL_FILES;
 
-fn tell(r: Reworked) -> Numbers
+fn tell(r: Result<usize, Unreadable>) -> Numbers
     ensures { result ≡ in_numbers 0 (reworked_told r) }
 {
     match r {
-        Reworked::Changed(n) => told::with(0, n),
-        Reworked::Unreadable => told::alone(44),
+        Ok(n) => told::with(0, n),
+        Err(_) => told::alone(44),
     }
 }
 

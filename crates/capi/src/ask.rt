@@ -8,12 +8,12 @@ ghost use Rattle.asking.specs.answering.Figure.{figure_asked, figure_told};
 ghost use Rattle.capi.specs.Told.{in_numbers};
 ghost use Rattle.capi.specs.Ask.{journal_by, nowhere, TellsWhy, TellsRecord, TellsFigure};
 
-use crate::told;
 use crate::told::Numbers;
-use asking::answering::figure::FigureAnswer;
+use crate::{show, told};
+use asking::answer::{NoRecord, NotShown, Unreadable};
 use asking::answering::{figure, whole};
-use asking::pairs::{Stored, WhyAnswer};
-use asking::record::{Asked, AskedRecord};
+use asking::pairs::Pair;
+use asking::record::{AskedRecord, ShownRecord};
 use store::journals::records::Journal;
 
 // ---- answers as numbers
@@ -21,13 +21,13 @@ use store::journals::records::Journal;
 pub const NOWHERE: u64 = 8192;
 
 // 0, and the places of a pair.
-fn pair(a: Stored, b: Stored) -> Numbers
-    ensures { result ≡ in_numbers nowhere (told 0 (a.place ∷ b.place ∷ [])) }
+fn pair(p: Pair) -> Numbers
+    ensures { result ≡ in_numbers nowhere (told 0 (p.first.place ∷ p.second.place ∷ [])) }
 {
     Numbers {
         number: 0,
-        first: a.place as u64,
-        second: b.place as u64,
+        first: p.first.place as u64,
+        second: p.second.place as u64,
         third: NOWHERE,
         fourth: NOWHERE,
     }
@@ -46,14 +46,13 @@ fn no_pair(number: u8) -> Numbers
     }
 }
 
-fn tell_why(w: WhyAnswer) -> Numbers
+fn tell_why(w: Result<Option<Pair>, NotShown>) -> Numbers
     ensures { result ≡ in_numbers nowhere (why_told w) }
 {
     match w {
-        WhyAnswer::Pair(a, b) => pair(a, b),
-        WhyAnswer::Nothing => no_pair(0),
-        WhyAnswer::UnknownNumber => no_pair(12),
-        WhyAnswer::Unreadable => no_pair(44),
+        Ok(Some(p)) => pair(p),
+        Ok(None) => no_pair(0),
+        Err(e) => no_pair(show::number(e)),
     }
 }
 
@@ -80,22 +79,22 @@ fn record_told(x: AskedRecord) -> Numbers
     }
 }
 
-fn tell_record(r: Asked) -> Numbers
+fn tell_record(r: Result<ShownRecord, NoRecord>) -> Numbers
     ensures { result ≡ in_numbers 0 (asked_told r) }
 {
     match r {
-        Asked::Record(_, _, x) => record_told(x),
-        Asked::Beyond => told::alone(7),
-        Asked::Unreadable => told::alone(44),
+        Ok(s) => record_told(s.shown),
+        Err(NoRecord::Beyond) => told::alone(7),
+        Err(NoRecord::Unreadable) => told::alone(44),
     }
 }
 
-fn tell_figure(f: FigureAnswer) -> Numbers
+fn tell_figure(f: Result<usize, Unreadable>) -> Numbers
     ensures { result ≡ in_numbers 0 (figure_told f) }
 {
     match f {
-        FigureAnswer::Differ(n) => told::with(0, n),
-        FigureAnswer::Unreadable => told::alone(44),
+        Ok(n) => told::with(0, n),
+        Err(_) => told::alone(44),
     }
 }
 

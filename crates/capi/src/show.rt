@@ -1,39 +1,37 @@
 // The entry of a number in 100 bytes: holder and last confirmed date, then eight places.
-ghost use Rattle.std.specs.Prelude.{◌≡◌, []};
+ghost use Rattle.std.specs.Prelude.{◌≡◌};
 ghost use Rattle.store.specs.Reads.{lent, reads};
-ghost use Rattle.asking.specs.Numbers.{shown_told};
+ghost use Rattle.asking.specs.Numbers.{not_shown_told};
 ghost use Rattle.asking.specs.answering.Whole.{number_given, entry_asked, before_asked};
 ghost use Rattle.capi.specs.Show.{ShowsEntry};
 
-use asking::answer::Answer;
+use asking::answer::NotShown;
 use asking::answering::whole;
-use asking::entry::EntryAnswer;
+use entries::entry::Entry;
 use store::entry_slots::entry;
 
-fn number(a: Answer) -> u8
-    ensures { result ≡ (shown_told a []).number }
+// The number of an answer that shows nothing.
+pub(crate) fn number(a: NotShown) -> u8
+    ensures { result ≡ (not_shown_told a).number }
 {
     match a {
-        Answer::Shown => 0,
-        Answer::UnknownNumber => 12,
-        Answer::Unreadable => 44,
+        NotShown::UnknownNumber => 12,
+        NotShown::Unreadable => 44,
     }
 }
 
 // Writes the entry that an answer shows; 41 where there is no room for it.
-fn put(a: EntryAnswer, out: &mut [u8]) -> u8
+fn put(a: Result<Entry, NotShown>, out: &mut [u8]) -> u8
     ensures { ShowsEntry a out.old result out.new }
 {
-    let answer = a.answer;
-    let n = number(answer);
-    if n != 0 {
-        return n;
-    }
+    let shown = match a {
+        Ok(e) => e,
+        Err(e) => return number(e),
+    };
     if out.len() < entry::WIDTH {
         return 41;
     }
-    let e = a.entry;
-    entry::put_entry(out, 0, e);
+    entry::put_entry(out, 0, shown);
     0
 }
 

@@ -1,6 +1,6 @@
 -- What a store in use answers, from asking's promises about a store that the model reaches: all citations of these stand here. Assumes nothing.
 use Rattle.std.specs.Option.{option_map}
-use Rattle.std.specs.Prelude.{Option, Some, None}
+use Rattle.std.specs.Prelude.{Option, Some, None, Result, Ok}
 use mathlib.Core.Path.{◌≡◌, refl, sym, ap, ◌∙◌}
 use mathlib.Core.Logic.{◌⊎◌, inl, inr, ⊎_elim}
 use mathlib.Core.Bool.{true}
@@ -26,8 +26,8 @@ use Rattle.store.specs.entry_slots.Entries.{entry_at}
 use Rattle.store.specs.Reads.{Buffers, Held, held, is_readable, reads}
 use Rattle.store.proofs.Checks.{reads-some}
 use Rattle.filing.specs.Effect.{store_of}
-use Rattle.asking.specs.declared.pairs.WhyAnswer.{WhyAnswer}
-use Rattle.asking.specs.declared.answering.figure.FigureAnswer.{FigureAnswer}
+use Rattle.asking.specs.declared.answer.NotShown.{NotShown}
+use Rattle.asking.specs.declared.pairs.Pair.{Pair}
 use Rattle.asking.specs.Items.{item_at}
 use Rattle.asking.specs.Standing.{held_as, entry_in, entry_before}
 use Rattle.asking.specs.Why.{stored_as, pair_of, why_on, why_in, first_place, second_place, part_at}
@@ -84,7 +84,7 @@ module _ {b : Buffers} (u : InUse b) where
 
     pair-said : PairShown (store_of (held b)) x line → ShowsPair b x line
     pair-said w =
-        let shown : why_of b x ≡ WhyAnswer.Pair (stored_as (held b).files w.first) (stored_as (held b).files w.second) = why-is x ∙ w.shown in record {
+        let shown : why_of b x ≡ Ok (Some (record { first = stored_as (held b).files w.first; second = stored_as (held b).files w.second })) = why-is x ∙ w.shown in record {
           first = w.first;
           second = w.second;
           shown = shown;
@@ -94,8 +94,8 @@ module _ {b : Buffers} (u : InUse b) where
           first-record = w.first-record;
           second-record = w.second-record;
           in_order = w.in_order;
-          first_part = ap (λ (a : WhyAnswer). part_at b.regular (first_place a)) shown ∙ part-is Regular (stored_as (held b).files w.first).place w.first-record.event w.first-stored;
-          second-part = ap (λ (a : WhyAnswer). part_at b.regular (second_place a)) shown ∙ part-is Regular (stored_as (held b).files w.second).place w.second-record.event w.second-stored;
+          first_part = ap (λ (a : Result (Option Pair) NotShown). part_at b.regular (first_place a)) shown ∙ part-is Regular (stored_as (held b).files w.first).place w.first-record.event w.first-stored;
+          second-part = ap (λ (a : Result (Option Pair) NotShown). part_at b.regular (second_place a)) shown ∙ part-is Regular (stored_as (held b).files w.second).place w.second-record.event w.second-stored;
           first-publisher = sym (ap (λ (c : Code). c.0) w.first-record.publisher);
           second-publisher = sym (ap (λ (c : Code). c.0) w.second-record.publisher);
           first-day = ap (λ (p : Place). p.day.0) w.first-record.placed;
@@ -109,14 +109,14 @@ module _ {b : Buffers} (u : InUse b) where
     pub why-says : SaysNone b x line ⊎ ShowsPair b x line
     why-says = ⊎_elim (λ w. inl (none_said w)) (λ w. inr (pair-said w)) (why-promise reached x line listed)
 
-    pub none-said-exactly : (why_of b x ≡ WhyAnswer.Nothing → NoneConfirmed b line) × (NoneConfirmed b line → why_of b x ≡ WhyAnswer.Nothing)
+    pub none-said-exactly : (why_of b x ≡ Ok None → NoneConfirmed b line) × (NoneConfirmed b line → why_of b x ≡ Ok None)
     none-said-exactly = let w = none-exactly reached x line listed in (λ e. w.0 (sym (why-is x) ∙ e), λ h. why-is x ∙ w.1 h)
 
   pub unknown-said-exactly : (x : Number) → (why_said (why_of b x) ≡ 12 → line_of rules (held b).lines x ≡ None) × (line_of rules (held b).lines x ≡ None → why_said (why_of b x) ≡ 12)
   unfolding why_in
   unknown-said-exactly x = go (line_of rules (held b).lines x) refl
     where
-      never : (w : Why) → why_said (pair_of (held b).files w) ≡ 12 → ⊥
+      never : (w : Why) → why_said (Ok (pair_of (held b).files w)) ≡ 12 → ⊥
       never Why.Nothing e = omega (arith, e)
       never (Why.Pair p q) e = omega (arith, e)
 
@@ -159,16 +159,16 @@ module _ {b : Buffers} (u : InUse b) where
           ap held_as ((λ i. option_map (entry_over rules (sym files i)) (line_of rules (sym lines i) x)) ∙ sym (entry-worked-afresh (in-use-reached v).1 x))
 
   -- ---- the figure
-  pub figure-nought : figure_asked (reads b) ≡ FigureAnswer.Differ 0
-  figure-nought = ap figure_asked in-use-reads ∙ ap FigureAnswer.Differ (figure-nothing reached)
+  pub figure-nought : figure_asked (reads b) ≡ Ok 0
+  figure-nought = ap figure_asked in-use-reads ∙ ap Ok (figure-nothing reached)
 
   pub figure-counts : (entries : List ℕ) → is_readable (with_entries b entries) ≡ true
-      → figure_asked (reads (with_entries b entries)) ≡ FigureAnswer.Differ (how_many (table (line_count b.table) (reads_otherwise entries b.entries)))
+      → figure_asked (reads (with_entries b entries)) ≡ Ok (how_many (table (line_count b.table) (reads_otherwise entries b.entries)))
   unfolding held
   figure-counts entries other =
       ap figure_asked (reads-some (with_entries b entries) other)
       ∙ figure-promise (held (with_entries b entries)) reached refl refl
-      ∙ ap (λ (l : List _). FigureAnswer.Differ (how_many l)) (zip-table unlike (line_count b.table) (entry_at b.entries) (entry_at entries))
+      ∙ ap (λ (l : List _). Ok (how_many l)) (zip-table unlike (line_count b.table) (entry_at b.entries) (entry_at entries))
 
 -- ---- what one number depends on
 pub depends : {b c : Buffers} → InUse b → InUse c → (x : Number) → line_of rules (held b).lines x ≡ line_of rules (held c).lines x

@@ -74,13 +74,11 @@ use Rattle.starting.proofs.Readable.{started-reads}
 use Rattle.filing.specs.declared.entering.kind.Filable.{Filable}
 use Rattle.filing.specs.declared.checking.answer.Answer.{Answer}
 use Rattle.filing.specs.Effect.{Files, Came}
-use Rattle.asking.specs.declared.pairs.WhyAnswer.{WhyAnswer}
-use Rattle.asking.specs.declared.answering.figure.FigureAnswer.{FigureAnswer}
+use Rattle.std.specs.Prelude.{Ok}
 use Rattle.asking.specs.Items.{item_at}
 use Rattle.asking.specs.Record.{kind_of}
 use Rattle.asking.specs.answering.Figure.{how_many, figure_asked}
 use Rattle.asking.specs.answering.Whole.{entry_asked, before_asked, record_asked}
-use Rattle.reworking.specs.declared.rework.Reworked.TheVariants.{Changed}
 use Rattle.reworking.specs.Reworking.{Reworks}
 use Rattle.reworking.specs.Listed.{reads_otherwise, Listed}
 use Rattle.reworking.specs.resuming.Resumed.{Resumed}
@@ -189,7 +187,7 @@ pub why-is-the-last-confirmed-pair : {b : Buffers} → InUse b → (x : Number) 
 why-is-the-last-confirmed-pair u = why-says u
 
 pub none-exactly-if-none-confirmed : {b : Buffers} → InUse b → (x : Number) (line : TableLine Number) → line_of rules (held b).lines x ≡ Some line
-    → (why_of b x ≡ WhyAnswer.Nothing → NoneConfirmed b line) × (NoneConfirmed b line → why_of b x ≡ WhyAnswer.Nothing)
+    → (why_of b x ≡ Ok None → NoneConfirmed b line) × (NoneConfirmed b line → why_of b x ≡ Ok None)
 none-exactly-if-none-confirmed u = none-said-exactly u
 
 -- "a number not in the table answers 12"
@@ -225,21 +223,21 @@ pub there-was-such-a-store : {b : Buffers} → Came b → (n : ℕ) → (c : Buf
 there-was-such-a-store c n = had-first c n
 
 -- the figure: how many stored entries differ from those worked out from the journals
-pub figure-is-0 : {b : Buffers} → InUse b → figure_asked (reads b) ≡ FigureAnswer.Differ 0
+pub figure-is-0 : {b : Buffers} → InUse b → figure_asked (reads b) ≡ Ok 0
 figure-is-0 = figure-nought
 
 -- and if the entries were overwritten by any bytes that still read, how many lines have an entry that reads otherwise
 pub figure-counts-what-differs : {b : Buffers} → InUse b → (entries : List ℕ) → is_readable (with_entries b entries) ≡ true
-    → figure_asked (reads (with_entries b entries)) ≡ FigureAnswer.Differ (how_many (table (line_count b.table) (reads_otherwise entries b.entries)))
+    → figure_asked (reads (with_entries b entries)) ≡ Ok (how_many (table (line_count b.table) (reads_otherwise entries b.entries)))
 figure-counts-what-differs = figure-counts
 
 -- what answer 0 of reworking leaves reads as the same lines and files, and every entry is the one that the first n files lead to
-pub reworked-as-worked-out : {b : Buffers} {n count : ℕ} {list entries listed : List ℕ} → Reworks b n list (Changed count) entries listed
+pub reworked-as-worked-out : {b : Buffers} {n count : ℕ} {list entries listed : List ℕ} → Reworks b n list (Ok count) entries listed
     → reads (with_entries b entries) ≡ Some (record { lines = (held b).lines; files = (held b).files; entries = map (entry_over rules (take n (held b).files)) (held b).lines })
 reworked-as-worked-out s = reworked-entries s
 
 -- "the numbers whose entry changes are listed once"
-pub rework-lists-once : {b : Buffers} {n count : ℕ} {list entries listed : List ℕ} → Reworks b n list (Changed count) entries listed → Listed b count entries listed
+pub rework-lists-once : {b : Buffers} {n count : ℕ} {list entries listed : List ℕ} → Reworks b n list (Ok count) entries listed → Listed b count entries listed
 rework-lists-once s = listed-once s
 
 pub rework-lists-once-c : {b : Buffers} {more : ℕ} {list entries listed : List ℕ} → ReworksAs b list 0 more entries listed → Listed b more entries listed

@@ -4,7 +4,6 @@ use mathlib.Core.Path.{◌≡◌, sym, ap, ◌∙◌}
 use mathlib.Core.List.{List, map}
 use Prim.Native.Nat.{ℕ, ◌<◌}
 use lib.ListN.{get_or, take}
-use Rattle.laws.specs.Lists.{table}
 use Rattle.laws.proofs.Tables.{get_or-table, map-table}
 use Rattle.fields.specs.declared.number.Number.{Number}
 use Rattle.entries.specs.declared.entry.Entry.{Entry}
@@ -15,7 +14,7 @@ use Rattle.rules.proofs.Promises.{entries-worked-afresh}
 use Rattle.store.specs.numbers.Lines.{line_count, line_at, lines_of}
 use Rattle.store.specs.entry_slots.Entries.{entry_at}
 use Rattle.store.specs.Reads.{Buffers, Held, table_line, held, reads}
-use Rattle.reworking.specs.declared.rework.Reworked.{Reworked}
+use Rattle.std.specs.Prelude.{Ok}
 use Rattle.reworking.specs.Reworking.{entries_after, Reworks}
 use Rattle.reworking.proofs.Listing.{accepted}
 use Rattle.reworking.proofs.Promises.{reworked-reads}
@@ -37,7 +36,7 @@ module _ {b : Buffers} (u : InUse b) where
       ∙ get_or-table m k (λ (j : ℕ). work (table_line (line_at b.table j))) d h
 
 -- after reworking over the first n files
-pub reworked-entries : {b : Buffers} {n count : ℕ} {list entries listed : List ℕ} → Reworks b n list (Reworked.Changed count) entries listed
+pub reworked-entries : {b : Buffers} {n count : ℕ} {list entries listed : List ℕ} → Reworks b n list (Ok count) entries listed
     → reads (with_entries b entries) ≡ Some (record { lines = (held b).lines; files = (held b).files; entries = map (entry_over rules (take n (held b).files)) (held b).lines })
 unfolding held
 reworked-entries {b} {n} {count} {list} {entries} s =

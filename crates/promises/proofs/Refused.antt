@@ -12,7 +12,6 @@ use Rattle.records.specs.declared.names.written.Written.{Written}
 use Rattle.records.specs.names.Written.{after_writing}
 use Rattle.store.specs.Reads.{Buffers, Held, held, long_enough}
 use Rattle.store.specs.declared.numbers.lines.Line.{Line}
-use Rattle.store.specs.entry_slots.Entries.{entry_slot}
 use Rattle.starting.specs.declared.start.Started.{Started}
 use Rattle.starting.specs.tables.Given.{table_of}
 use Rattle.starting.specs.Start.{answer_of, start_answer, Starts}
@@ -21,8 +20,11 @@ use Rattle.filing.specs.declared.entering.kind.Filable.{Filable}
 use Rattle.filing.specs.declared.checking.answer.Answer.{Answer}
 use Rattle.filing.specs.checking.Filing.{Decision, Refuse, Accept, decide}
 use Rattle.filing.specs.Effect.{answer_to, buffers_after, Files}
-use Rattle.asking.specs.declared.entry.EntryAnswer.{EntryAnswer}
-use Rattle.reworking.specs.declared.rework.Reworked.{Reworked}
+use Rattle.entries.specs.declared.entry.Entry.{Entry}
+use Rattle.asking.specs.Numbers.{entry_told}
+use Rattle.asking.specs.declared.answer.NotShown.{NotShown}
+use Rattle.asking.specs.declared.answer.Unreadable.{Unreadable}
+use Rattle.std.specs.Prelude.{Result}
 use Rattle.reworking.specs.Reworking.{all_files, rework_answer, entries_after, list_after, with_room, Reworks}
 use Rattle.capi.specs.Starting.{StartsAs}
 use Rattle.capi.specs.Offer.{filable_by, day_for, answered, FilesAs}
@@ -68,7 +70,7 @@ file-stays {b} {after} {kind} {publisher} {day} {text} {answer} s not-0 = go (de
     go (Accept f) q l = absurd (not-0 (ap filed_number q))
 
 -- ---- reworking
-pub rework-stays : {b : Buffers} {n : ℕ} {list : List ℕ} {answer : Reworked} {entries listed : List ℕ} → Reworks b n list answer entries listed
+pub rework-stays : {b : Buffers} {n : ℕ} {list : List ℕ} {answer : Result ℕ Unreadable} {entries listed : List ℕ} → Reworks b n list answer entries listed
     → (reworked_number answer ≡ 0 → ⊥) → (entries ≡ b.entries) × (listed ≡ list)
 rework-stays {b} {n} {list} {answer} {entries} {listed} s not-0 = go (with_room list b) s.answers s.leaves s.lists
   where
@@ -83,11 +85,11 @@ written-stays (Written.Fault place) text before after e not-0 = e
 written-stays Written.Long text before after e not-0 = e
 
 -- ---- showing
-shown-stays : {a : EntryAnswer} {before after : List ℕ} {answer : ℕ} → ShowsEntry a before answer after → (answer ≡ 0 → ⊥) → after ≡ before
+shown-stays : {a : Result Entry NotShown} {before after : List ℕ} {answer : ℕ} → ShowsEntry a before answer after → (answer ≡ 0 → ⊥) → after ≡ before
 unfolding shown_into
 shown-stays {a} {before} {after} {answer} s not-0 =
     s.leaves
-    ∙ ap (λ (t : Bool). cond t (overlay before 0 (entry_slot a.entry)) before) (ne_eqb (shown_number a (length before)) 0 (λ e. not-0 (s.answers ∙ e)))
+    ∙ ap (λ (t : Bool). cond t (overlay before 0 (entry_told a).values) before) (ne_eqb (shown_number a (length before)) 0 (λ e. not-0 (s.answers ∙ e)))
 
 -- ---- every call
 pub refused : {number : ℕ} {before after : List (List ℕ)} → Call number before after → (number ≡ 0 → ⊥) → after ≡ before

@@ -17,7 +17,8 @@ use Rattle.starting.specs.Start.{start_answer, Starts}
 use Rattle.filing.specs.Effect.{Came, store_of}
 use Rattle.filing.proofs.Promises.{came-reached}
 use Rattle.asking.proofs.Standings.{length-first}
-use Rattle.reworking.specs.declared.rework.Reworked.{Reworked}
+use Rattle.std.specs.Prelude.{Result, Ok, Err}
+use Rattle.asking.specs.declared.answer.Unreadable.{Unreadable}
 use Rattle.reworking.specs.Reworking.{all_files, with_room, Reworks}
 use Rattle.reworking.specs.resuming.Resumed.{Resumed}
 use Rattle.reworking.proofs.Listing.{accepted}
@@ -42,27 +43,27 @@ done-c {text} {before} {after} {more} s = go (start_answer text before) refl
     go Started.Short e = absurd (let z = s.answers ∙ ap started_number e in omega (arith, z))
     go Started.BadTable e = absurd (let z = s.answers ∙ ap started_number e in omega (arith, z))
 
-pub changed-c : {b : Buffers} {more : ℕ} {list entries listed : List ℕ} → ReworksAs b list 0 more entries listed → Reworks b all_files list (Reworked.Changed more) entries listed
+pub changed-c : {b : Buffers} {more : ℕ} {list entries listed : List ℕ} → ReworksAs b list 0 more entries listed → Reworks b all_files list (Ok more) entries listed
 changed-c {b} {more} {list} {entries} {listed} s = go (rework_of (with_room list b)) refl
   where
-    go : (a : Reworked) → rework_of (with_room list b) ≡ a → Reworks b all_files list (Reworked.Changed more) entries listed
-    go (Reworked.Changed n) e = record { answers = ap Reworked.Changed (s.tells ∙ ap reworked_count e) ∙ sym e; leaves = s.leaves; lists = s.lists }
-    go Reworked.Unreadable e = absurd (let z = s.answers ∙ ap reworked_number e in omega (arith, z))
+    go : (a : Result ℕ Unreadable) → rework_of (with_room list b) ≡ a → Reworks b all_files list (Ok more) entries listed
+    go (Ok n) e = record { answers = ap Ok (s.tells ∙ ap reworked_count e) ∙ sym e; leaves = s.leaves; lists = s.lists }
+    go (Err x) e = absurd (let z = s.answers ∙ ap reworked_number e in omega (arith, z))
 
 -- ---- reworking
 -- a store that is accepted has no more files than all
 none-left-out : (b : Buffers) → is_readable b ≡ true → file_count b.files ≤ all_files
 none-left-out b whole = few-files b.files (whole-files b whole)
 
-resumed : {b : Buffers} {n count : ℕ} {list entries listed : List ℕ} → (is_readable b ≡ true → file_count b.files ≤ n) → Reworks b n list (Reworked.Changed count) entries listed → Resumed (with_entries b entries)
+resumed : {b : Buffers} {n count : ℕ} {list entries listed : List ℕ} → (is_readable b ≡ true → file_count b.files ≤ n) → Reworks b n list (Ok count) entries listed → Resumed (with_entries b entries)
 resumed {b} {n} {count} {list} all s =
     let few : length (held b).files ≤ n = omega (arith, all (accepted b n count list s.answers).0, all-counted b) in
     Resumed.rework few s
 
-reworked : {b : Buffers} {n : ℕ} {list : List ℕ} (answer : Reworked) {entries listed : List ℕ} → Came b ⊎ Resumed b → (is_readable b ≡ true → file_count b.files ≤ n) → Reworks b n list answer entries listed
+reworked : {b : Buffers} {n : ℕ} {list : List ℕ} (answer : Result ℕ Unreadable) {entries listed : List ℕ} → Came b ⊎ Resumed b → (is_readable b ≡ true → file_count b.files ≤ n) → Reworks b n list answer entries listed
     → Came (with_entries b entries) ⊎ Resumed (with_entries b entries)
-reworked (Reworked.Changed count) c all s = inr (resumed all s)
-reworked {b} Reworked.Unreadable c all s =
+reworked (Ok count) c all s = inr (resumed all s)
+reworked {b} (Err x) c all s =
     let same = (rework-stays s (λ e. absurd (omega (arith, e)))).0 in
     subst (λ (e : List ℕ). Came (with_entries b e) ⊎ Resumed (with_entries b e)) (sym same) c
 

@@ -1,6 +1,6 @@
 -- What a store in use answers when it is asked why, and for a record: paper 01, "Verdicts on reports", the last paragraph. Assumes nothing: these are
 -- definitions. `Latest` (the last record of a history that got 11) and `Root` (a report of an entry is a record of the history) are asking's.
-use Rattle.std.specs.Prelude.{Some, None}
+use Rattle.std.specs.Prelude.{Option, Some, None, Result, Ok}
 use Rattle.std.specs.Prelude.{◌≡◌, true, List, ℕ}
 use Rattle.fields.specs.declared.number.Number.{Number}
 use Rattle.entries.specs.declared.entry.Place.{Place}
@@ -14,8 +14,8 @@ use Rattle.model.specs.Model.{history, number_of, line_of, judged}
 use Rattle.rules.specs.Rules.{rules, record_of, line_by}
 use Rattle.store.specs.declared.journals.records.Journal.{Journal}
 use Rattle.store.specs.Reads.{Buffers, held, reads}
-use Rattle.asking.specs.declared.answer.Answer.{Answer}
-use Rattle.asking.specs.declared.pairs.WhyAnswer.{WhyAnswer}
+use Rattle.asking.specs.declared.answer.NotShown.{NotShown}
+use Rattle.asking.specs.declared.pairs.Pair.{Pair}
 use Rattle.asking.specs.Why.{stored_as, first_place, second_place, part_at}
 use Rattle.asking.specs.Record.{part_shown}
 use Rattle.asking.specs.answering.Confirmed.{processed_before, none_confirms}
@@ -33,15 +33,15 @@ abbrev pub NoneConfirmed : Buffers → TableLine Number → Type 0
 NoneConfirmed b line = none_confirms (line_by line) (first_entry (line_by line)) (records_on b line) ≡ true
 
 -- what is asked
-abbrev pub why_of : Buffers → Number → WhyAnswer
+abbrev pub why_of : Buffers → Number → Result (Option Pair) NotShown
 why_of b x = why_asked (reads b) (Some x)
 
 abbrev pub entry_shown : Buffers → Number → Entry → Type 0
-entry_shown b x entry = entry_asked (reads b) (Some x) ≡ record { answer = Answer.Shown; entry = entry }
+entry_shown b x entry = entry_asked (reads b) (Some x) ≡ Ok entry
 
 -- ---- why: none
 pub record SaysNone (b : Buffers) (x : Number) (line : TableLine Number) : Type 0 where
-  pub shown : why_of b x ≡ WhyAnswer.Nothing
+  pub shown : why_of b x ≡ Ok None
   pub none-confirmed : NoneConfirmed b line
   -- the number is its owner's still
   pub entry : Entry
@@ -53,7 +53,7 @@ pub record SaysNone (b : Buffers) (x : Number) (line : TableLine Number) : Type 
 pub record ShowsPair (b : Buffers) (x : Number) (line : TableLine Number) : Type 0 where
   pub first : Place
   pub second : Place
-  pub shown : why_of b x ≡ WhyAnswer.Pair (stored_as (held b).files first) (stored_as (held b).files second)
+  pub shown : why_of b x ≡ Ok (Some (record { first = stored_as (held b).files first; second = stored_as (held b).files second }))
   -- it is the pair of the last record of the history that was confirmed, and the two match
   pub last-confirmed : Latest (line_by line) (first_standing (line_by line)) (records_on b line)
   pub its-pair : (stand_on (line_by line) (standing (line_by line) (first_standing (line_by line)) last-confirmed.earlier) (record_of last-confirmed.event)).why ≡ Why.Pair first second

@@ -9,8 +9,10 @@ use Rattle.starting.specs.Start.{Starts}
 use Rattle.filing.specs.declared.entering.kind.Filable.{Filable}
 use Rattle.filing.specs.declared.checking.answer.Answer.{Answer}
 use Rattle.filing.specs.Effect.{Files}
-use Rattle.asking.specs.declared.entry.EntryAnswer.{EntryAnswer}
-use Rattle.reworking.specs.declared.rework.Reworked.{Reworked}
+use Rattle.entries.specs.declared.entry.Entry.{Entry}
+use Rattle.asking.specs.declared.answer.NotShown.{NotShown}
+use Rattle.asking.specs.declared.answer.Unreadable.{Unreadable}
+use Rattle.std.specs.Prelude.{Result}
 use Rattle.reworking.specs.Reworking.{Reworks}
 use Rattle.capi.specs.Starting.{StartsAs}
 use Rattle.capi.specs.Offer.{FilesAs}
@@ -32,11 +34,11 @@ pub data Call : ℕ → List (List ℕ) → List (List ℕ) → Type 0 where
   file-c : {b after : Buffers} {kind : ℕ} {publisher : List ℕ} {day : ℕ} {text : List ℕ} {answer more field cause : ℕ}
       → FilesAs b kind publisher day text answer more field cause after → Call answer (bytes_of b) (bytes_of after)
   -- reworking is lent the entries and the list
-  rework : {b : Buffers} {n : ℕ} {list : List ℕ} {answer : Reworked} {entries listed : List ℕ}
+  rework : {b : Buffers} {n : ℕ} {list : List ℕ} {answer : Result ℕ Unreadable} {entries listed : List ℕ}
       → Reworks b n list answer entries listed → Call (reworked_number answer) (b.entries ∷ list ∷ []) (entries ∷ listed ∷ [])
   rework-c : {b : Buffers} {list : List ℕ} {answer more : ℕ} {entries listed : List ℕ}
       → ReworksAs b list answer more entries listed → Call answer (b.entries ∷ list ∷ []) (entries ∷ listed ∷ [])
   -- a file or the name of one is written, and an entry shown, into a lent buffer
   write : {right answer : Written} {text before after : List ℕ} → Wrote right text before after answer → Call (wrote_number answer) (before ∷ []) (after ∷ [])
   write-c : {right : Written} {text before after : List ℕ} {answer more : ℕ} → Writes right text before after answer more → Call answer (before ∷ []) (after ∷ [])
-  show-c : {a : EntryAnswer} {before after : List ℕ} {answer : ℕ} → ShowsEntry a before answer after → Call answer (before ∷ []) (after ∷ [])
+  show-c : {a : Result Entry NotShown} {before after : List ℕ} {answer : ℕ} → ShowsEntry a before answer after → Call answer (before ∷ []) (after ∷ [])

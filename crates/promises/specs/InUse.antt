@@ -7,8 +7,8 @@ use Rattle.starting.specs.Start.{Starts}
 use Rattle.filing.specs.declared.entering.kind.Filable.{Filable}
 use Rattle.filing.specs.declared.checking.answer.Answer.{Answer}
 use Rattle.filing.specs.Effect.{Files}
-use Rattle.reworking.specs.declared.rework.Reworked.{Reworked}
-use Rattle.reworking.specs.declared.rework.Reworked.TheVariants.{Changed}
+use Rattle.asking.specs.declared.answer.Unreadable.{Unreadable}
+use Rattle.std.specs.Prelude.{Result, Ok}
 use Rattle.reworking.specs.Reworking.{Reworks}
 use Rattle.capi.specs.Starting.{StartsAs}
 use Rattle.capi.specs.Offer.{FilesAs}
@@ -29,11 +29,11 @@ pub data InUse : Buffers → Type 0 where
   file-c : {b after : Buffers} → InUse b → {kind : ℕ} {publisher : List ℕ} {day : ℕ} {text : List ℕ} {answer more field cause : ℕ}
       → FilesAs b kind publisher day text answer more field cause after → InUse after
   -- its entries were worked out again over all its files, whatever was answered
-  rework : {b : Buffers} → InUse b → {n : ℕ} {list : List ℕ} {answer : Reworked} {entries listed : List ℕ} → file_count b.files ≤ n
+  rework : {b : Buffers} → InUse b → {n : ℕ} {list : List ℕ} {answer : Result ℕ Unreadable} {entries listed : List ℕ} → file_count b.files ≤ n
       → Reworks b n list answer entries listed → InUse (with_entries b entries)
   rework-c : {b : Buffers} → InUse b → {list : List ℕ} {answer more : ℕ} {entries listed : List ℕ}
       → ReworksAs b list answer more entries listed → InUse (with_entries b entries)
   -- or it was taken up again, from any bytes that reworking over all files accepts: their entries may have come from another holiday list
   resume : {b : Buffers} {n count : ℕ} {list entries listed : List ℕ} → file_count b.files ≤ n
-      → Reworks b n list (Changed count) entries listed → InUse (with_entries b entries)
+      → Reworks b n list (Ok count) entries listed → InUse (with_entries b entries)
   resume-c : {b : Buffers} {more : ℕ} {list entries listed : List ℕ} → ReworksAs b list 0 more entries listed → InUse (with_entries b entries)

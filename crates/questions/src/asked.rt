@@ -2,12 +2,15 @@
 ghost use Rattle.std.specs.Prelude.{◌≡◌};
 ghost use Rattle.store.specs.Reads.{lent};
 ghost use Rattle.asking.specs.Looks.{standing_looked};
+ghost use Rattle.questions.specs.Shown.{entry_seen};
 ghost use Rattle.reworking.specs.Reworking.{all_files, Reworks};
 
+use crate::table;
+use asking::answer::Unreadable;
 use asking::stand;
 use entries::entry::Entry;
 use reworking::rework;
-use reworking::rework::{ALL_FILES, Reworked};
+use reworking::rework::ALL_FILES;
 
 // The entry of a line over the first n files.
 pub fn before<'a>(
@@ -18,11 +21,12 @@ pub fn before<'a>(
     corrections: &'a [u8],
     i: usize,
 ) -> Entry
-    ensures { result ≡ (standing_looked lines.now files.now regular.now corrections.now n i).standing.entry }
+    ensures { result ≡ entry_seen (standing_looked lines.now files.now regular.now corrections.now n i) }
 {
-    let s = stand::look(lines, files, n, regular, corrections, i);
-    let t = s.standing;
-    t.entry
+    match stand::look(lines, files, n, regular, corrections, i) {
+        Ok(s) => s.entry,
+        Err(_) => table::no_entry(),
+    }
 }
 
 // Every entry worked out over all files and written, and the places of the lines whose entry was another one.
@@ -33,7 +37,7 @@ pub fn reworked<'a>(
     corrections: &'a [u8],
     entries: &mut [u8],
     list: &mut [u16],
-) -> Reworked
+) -> Result<usize, Unreadable>
     ensures { Reworks (lent lines.now files.now regular.now corrections.now entries.old) all_files list.old result entries.new list.new }
 {
     rework::rework(lines, files, regular, corrections, entries, ALL_FILES, list)

@@ -1,13 +1,11 @@
 // figure STORE: how many stored entries differ from those that the journals lead to.
 use crate::{asked, compared, table};
 use asking::answering::figure;
-use asking::answering::figure::FigureAnswer;
 use commands::{end, opened};
 use desk::place::PATH_MAX;
 use desk::{Host, args, copy_in, page};
 use disk::{CORRECTIONS, ENTRIES, FILES, REGULAR, TABLE};
 use page::{Page, ROOM};
-use reworking::rework::Reworked;
 use store::numbers::lines::NUMBERS;
 
 fn entries_are(rt: &impl Host, n: usize) {
@@ -50,10 +48,8 @@ fn print_differing<'a>(
     let mut list = [0u16; NUMBERS];
     copy_in(&mut worked, 0, entries);
     match asked::reworked(lines, files, regular, corrections, &mut worked, &mut list) {
-        Reworked::Unreadable => first,
-        Reworked::Changed(n) => compared::listed(
-            rt, first, room, &list, n, lines, entries, &worked,
-        ),
+        Err(_) => first,
+        Ok(n) => compared::listed(rt, first, room, &list, n, lines, entries, &worked),
     }
 }
 
@@ -105,17 +101,8 @@ fn print_figure<'a>(
     entries: &[u8; ENTRIES],
 ) -> u8 {
     match figure::figure(lines, files, regular, corrections, entries) {
-        FigureAnswer::Unreadable => opened::damaged(rt, folder),
-        FigureAnswer::Differ(n) => print(
-            rt,
-            folder,
-            lines,
-            files,
-            regular,
-            corrections,
-            entries,
-            n,
-        ),
+        Err(_) => opened::damaged(rt, folder),
+        Ok(n) => print(rt, folder, lines, files, regular, corrections, entries, n),
     }
 }
 

@@ -2,6 +2,7 @@
 ghost use Rattle.std.specs.Prelude.{◌≡◌};
 ghost use Rattle.questions.specs.Shown.{line_named};
 
+use fields::number::Number;
 use store::numbers::find;
 
 // None for what is no number.

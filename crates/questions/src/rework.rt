@@ -7,7 +7,6 @@ use desk::{Host, args, copy_in, page};
 use disk::saved::Loaded;
 use disk::{CORRECTIONS, ENTRIES, FILES, REGULAR, TABLE, lock, saved};
 use page::ROOM;
-use reworking::rework::Reworked;
 use store::numbers::lines::NUMBERS;
 
 // How it ended.
@@ -120,8 +119,8 @@ fn rework_loaded<'a>(
     let mut list = [0u16; NUMBERS];
     copy_in(&mut before, 0, entries);
     match asked::reworked(lines, files, regular, corrections, entries, &mut list) {
-        Reworked::Unreadable => Ended::Damaged,
-        Reworked::Changed(n) => settle(
+        Err(_) => Ended::Damaged,
+        Ok(n) => settle(
             rt,
             folder,
             lines,

@@ -1,7 +1,6 @@
 // Lines of the number table and their entries, for any place of any bytes.
 ghost use Rattle.std.specs.Prelude.{◌≡◌};
-ghost use Rattle.asking.specs.Standing.{no_entry};
-ghost use Rattle.questions.specs.Shown.{lines_shown, number_shown, entry_shown};
+ghost use Rattle.questions.specs.Shown.{no_entry, lines_shown, number_shown, entry_shown};
 
 use entries::entry::Entry;
 use fields::number::{Digits, Number};
@@ -40,7 +39,7 @@ pub fn number_at(table: &[u8], i: usize) -> Number
 }
 
 // The entry of no line.
-fn no_entry() -> Entry
+pub(crate) fn no_entry() -> Entry
     ensures { result ≡ no_entry }
 {
     let none = entries::entry::line_in(None);

@@ -3,8 +3,9 @@ ghost use Rattle.std.specs.Prelude.{◌≡◌};
 ghost use Rattle.asking.specs.Why.{part_at};
 ghost use Rattle.reasons.specs.Named.{why_named};
 
-use asking::looks::LookedWhy;
-use asking::pairs::Stored;
+use asking::looks::NotSeen;
+use asking::pairs::{Pair, Stored};
+use fields::number::Number;
 use store::journals::records::{Journal, REPORTS, record_bytes};
 
 // Why a number stands where it does.
@@ -14,12 +15,12 @@ pub fn why<'a>(
     regular: &'a [u8],
     corrections: &'a [u8],
     number: Option<Number>,
-) -> LookedWhy
+) -> Result<Option<Pair>, NotSeen>
     ensures { result ≡ why_named lines.now files.now regular.now corrections.now number }
 {
     match number {
         Some(x) => asking::why::look(lines, files, regular, corrections, x),
-        None => LookedWhy::UnknownNumber,
+        None => Err(NotSeen::UnknownNumber),
     }
 }
 

@@ -1,7 +1,6 @@
 // verdicts STORE: every filed record with its verdict, the regular journal first.
-use asking::looks::LookedRecord;
 use asking::record;
-use asking::record::{Asked, AskedRecord};
+use asking::record::{AskedRecord, ShownRecord};
 use commands::{end, opened};
 use desk::place::PATH_MAX;
 use desk::{Host, args, page};
@@ -45,15 +44,12 @@ fn line<'a>(
     rt: &impl Host,
     first: Page,
     room: &mut [u8; ROOM],
-    which: Journal,
-    place: usize,
-    r: AskedRecord,
+    r: ShownRecord,
     regular: &'a [u8],
     corrections: &'a [u8],
 ) -> Page {
-    let p = heading(rt, first, room, which, place, r);
-    let shown = Asked::Record(which, place, r);
-    let q = page::text(rt, p, room, record::part(regular, corrections, shown));
+    let p = heading(rt, first, room, r.journal, r.place, r.shown);
+    let q = page::text(rt, p, room, record::part(regular, corrections, Ok(r)));
     page::line_end(rt, q, room)
 }
 
@@ -86,10 +82,9 @@ fn print_one<'a>(
 ) -> Walk {
     let p = w.page;
     match record::look(lines, files, regular, corrections, which, place) {
-        LookedRecord::Beyond => end_of(p),
-        LookedRecord::Unshowable => end_of(p),
-        LookedRecord::Record(j, at, r) => Walk {
-            page: line(rt, p, room, j, at, r, regular, corrections),
+        Err(_) => end_of(p),
+        Ok(r) => Walk {
+            page: line(rt, p, room, r, regular, corrections),
             more: true,
         },
     }

@@ -1,6 +1,5 @@
 // why STORE NUMBER...: the two reports under which a number moved last.
 use crate::asked;
-use asking::looks::LookedWhy;
 use asking::pairs::Stored;
 use commands::{end, opened};
 use desk::place::PATH_MAX;
@@ -59,13 +58,12 @@ fn print_word<'a>(
     let p = page::text(rt, t.page, room, word);
     let number = shown::number::read(word);
     match asked::why(lines, files, regular, corrections, number) {
-        LookedWhy::UnknownNumber => unknown(rt, p, room, word),
-        LookedWhy::Unshowable => unknown(rt, p, room, word),
-        LookedWhy::Nothing => with(known, page::text(rt, p, room, b"\tnone\n")),
-        LookedWhy::Pair(first, second) => {
+        Err(_) => unknown(rt, p, room, word),
+        Ok(None) => with(known, page::text(rt, p, room, b"\tnone\n")),
+        Ok(Some(pair)) => {
             let q = page::text(rt, p, room, b"\tpair");
-            let r = report(rt, q, room, regular, corrections, first);
-            let s = report(rt, r, room, regular, corrections, second);
+            let r = report(rt, q, room, regular, corrections, pair.first);
+            let s = report(rt, r, room, regular, corrections, pair.second);
             with(known, page::line_end(rt, s, room))
         }
     }

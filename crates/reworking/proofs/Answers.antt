@@ -23,10 +23,10 @@ use Rattle.store.specs.Reads.{Buffers, Held, table_line, held, is_readable, read
 use Rattle.store.proofs.Checks.{reads-some, reads_none}
 use Rattle.store.proofs.entry_slots.Back.{length-entry}
 use Rattle.filing.proofs.fitting.Worked.{worked-fits}
-use Rattle.asking.proofs.Standings.{among-files}
+use Rattle.asking.proofs.Standings.{among_files}
 use Rattle.asking.specs.answering.Figure.{differs}
 use Rattle.asking.proofs.answering.Figures.{zip-table}
-use Rattle.reworking.specs.declared.rework.Reworked.{Reworked}
+use Rattle.std.specs.Prelude.{Ok, Err}
 use Rattle.reworking.specs.Reworking.{worked_slot, reworked_entries, places, changed_lines, rework_answer, entries_after, list_after, with_room, Reworks, line_of, changes, changes_to, Fitting, LinesReworked}
 
 -- ---- the places listed line by line are those of the lines and entries side by side
@@ -47,7 +47,7 @@ store-fitting b whole n m e k below = length-entry _ (worked-fits b whole k (ome
 
 -- ---- the answers
 module _ (b : Buffers) (n : ℕ) (list : List ℕ) where
-  pub rework-short : length list < 1024 → Reworks b n list Reworked.Unreadable b.entries list
+  pub rework-short : length list < 1024 → Reworks b n list (Err (record {})) b.entries list
   unfolding with_room
   rework-short h = record { answers = rw (lt-leb _ _ h); leaves = rw (lt-leb _ _ h); lists = rw (lt-leb _ _ h) }
 
@@ -56,23 +56,23 @@ module _ (b : Buffers) (n : ℕ) (list : List ℕ) where
     unfolding with_room
     with-room = rw (le-leb 1024 (length list) room)
 
-    pub rework-unread : is_readable b ≡ false → Reworks b n list Reworked.Unreadable b.entries list
+    pub rework-unread : is_readable b ≡ false → Reworks b n list (Err (record {})) b.entries list
     rework-unread h =
         let e : with_room list b ≡ None = with-room ∙ reads_none b h in
         record { answers = ap (rework_answer n) (sym e); leaves = ap (λ (s : Option Held). entries_after n s b.entries) (sym e); lists = ap (λ (s : Option Held). list_after n s list) (sym e) }
 
     pub rework-done : is_readable b ≡ true → (k m count : ℕ) (after listed : List ℕ) → k ≡ cond (ltb n (file_count b.files)) n (file_count b.files) → m ≡ line_count b.table
-        → LinesReworked (take k (read_files b.files b.regular b.corrections)) b.table m b.entries after list listed count → Reworks b n list (Reworked.Changed count) after listed
+        → LinesReworked (take k (read_files b.files b.regular b.corrections)) b.table m b.entries after list listed count → Reworks b n list (Ok count) after listed
     unfolding held lines_of reworked_entries
     rework-done h k m count after listed ek em done =
         let e : with_room list b ≡ Some (held b) = with-room ∙ reads-some b h in
         let fs = read_files b.files b.regular b.corrections in
-        let files : take k fs ≡ take n fs = among-files b.files b.regular b.corrections n k ek in
+        let files : take k fs ≡ take n fs = among_files b.files b.regular b.corrections n k ek in
         let lines : table m (line_of b.table) ≡ map table_line (lines_of b.table) = ap (λ (j : ℕ). table j (line_of b.table)) em ∙ sym (map-table table_line (line_count b.table) (line_at b.table)) in
         let listed-lines : changes_to (take k fs) b.table b.entries m ≡ changed_lines (take n fs) (map table_line (lines_of b.table)) (table (line_count b.table) (entry_at b.entries)) =
         changes-listed (take k fs) b.table b.entries m
         ∙ (λ i. changed_lines (files i) (lines i) (table (em i) (entry_at b.entries))) in record {
-          answers = ap Reworked.Changed (done.counted ∙ ap length listed-lines) ∙ ap (rework_answer n) (sym e);
+          answers = ap Ok (done.counted ∙ ap length listed-lines) ∙ ap (rework_answer n) (sym e);
           leaves = done.written ∙ ap₂ (λ (f : List Filed) (l : List (TableLine Number)). overlay b.entries 0 (flat_map (worked_slot f) l)) files lines ∙ ap (λ (s : Option Held). entries_after n s b.entries) (sym e);
           lists = done.laid ∙ ap (overlay list 0) listed-lines ∙ ap (λ (s : Option Held). list_after n s list) (sym e);
         }

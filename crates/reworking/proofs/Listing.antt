@@ -31,18 +31,18 @@ use Rattle.store.specs.Reads.{Buffers, Held, table_line, held, is_readable, read
 use Rattle.store.proofs.Checks.{few-lines}
 use Rattle.store.proofs.Whole.{whole-table}
 use Rattle.asking.specs.answering.Figure.{differs}
-use Rattle.reworking.specs.declared.rework.Reworked.{Reworked}
+use Rattle.std.specs.Prelude.{Ok}
 use Rattle.reworking.specs.Reworking.{reworked_entries, changed_lines, rework_answer, entries_after, list_after, with_room, Reworks, changes, changes_to}
 use Rattle.reworking.specs.Listed.{reads_otherwise, Listed}
 use Rattle.reworking.proofs.Answers.{changes-listed}
 use Rattle.reworking.proofs.Promises.{below-mem, reworked-entry}
 
 -- ---- what is not 44 was asked of a store, with room for the list
-pub accepted : (b : Buffers) (n count : ℕ) (list : List ℕ) → Reworked.Changed count ≡ rework_answer n (with_room list b) → (is_readable b ≡ true) × (with_room list b ≡ Some (held b)) × (1024 ≤ length list)
+pub accepted : (b : Buffers) (n count : ℕ) (list : List ℕ) → Ok count ≡ rework_answer n (with_room list b) → (is_readable b ≡ true) × (with_room list b ≡ Some (held b)) × (1024 ≤ length list)
 unfolding with_room reads
 accepted b n count list q = go (leb 1024 (length list)) (is_readable b) refl q
   where
-    go : (r t : Bool) → leb 1024 (length list) ≡ r → Reworked.Changed count ≡ rework_answer n (cond r (cond t (Some (held b)) None) None)
+    go : (r t : Bool) → leb 1024 (length list) ≡ r → Ok count ≡ rework_answer n (cond r (cond t (Some (held b)) None) None)
         → (t ≡ true) × (cond r (cond t (Some (held b)) None) None ≡ Some (held b)) × (1024 ≤ length list)
     go true true e q = (refl, refl, leb-true 1024 (length list) e)
     go true false e q = absurd (let z : ◌≡◌ {A = ℕ} 0 1 = cc in omega arith)
@@ -68,7 +68,7 @@ places-rise p (suc n) = go (p n) refl (places-rise p n)
     go false e ih = ap rising (keep-end-no p (table n (λ (i : ℕ). i)) n e) ∙ ih
 
 -- ---- the list
-module _ {b : Buffers} {n count : ℕ} {list entries listed : List ℕ} (s : Reworks b n list (Reworked.Changed count) entries listed) where
+module _ {b : Buffers} {n count : ℕ} {list entries listed : List ℕ} (s : Reworks b n list (Ok count) entries listed) where
   abbrev files : List Filed
   files = take n (read_files b.files b.regular b.corrections)
 
@@ -93,7 +93,7 @@ module _ {b : Buffers} {n count : ℕ} {list entries listed : List ℕ} (s : Rew
 
   counted : count ≡ length lines
   counted =
-      let e : Reworked.Changed count ≡ rework_answer n (Some (held b)) = s.answers ∙ ap (rework_answer n) found.1 in
+      let e : Ok count ≡ rework_answer n (Some (held b)) = s.answers ∙ ap (rework_answer n) found.1 in
       let same : count ≡ length (changed_lines (take n (held b).files) (held b).lines (held b).entries) = cc in
       same ∙ ap length all_lines
 

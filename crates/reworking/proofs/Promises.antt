@@ -43,7 +43,7 @@ use Rattle.filing.proofs.fitting.Worked.{worked-fits}
 use Rattle.asking.specs.answering.Figure.{differs, how_many, figure_of}
 use Rattle.asking.proofs.Standings.{length-first}
 use Rattle.reworking.specs.Reworking.{worked_slot, reworked_entries, places, changed_lines, all_files, rework_answer, with_room, line_of}
-use Rattle.reworking.specs.declared.rework.Reworked.{Reworked}
+use Rattle.std.specs.Prelude.{Ok}
 use Rattle.reworking.proofs.Answers.{with-room}
 
 -- ---- the store after reworking
@@ -201,8 +201,8 @@ none-changed files lines =
     ap places same ∙ keep-none (λ (i : ℕ). get_or (map (λ (l : TableLine Number). false) lines) i false) (table (length (map (λ (l : TableLine Number). false) lines)) (λ (i : ℕ). i)) (λ i m. never-holds lines i)
 
 pub none-again : (b : Buffers) (whole : is_readable b ≡ true) (n : ℕ) (list : List ℕ) → 1024 ≤ length list
-    → rework_answer n (with_room list (with b whole n)) ≡ Reworked.Changed 0
-none-again b whole n list room = ap (rework_answer n) (with-room (with b whole n) n list room ∙ reworked-reads b whole n) ∙ ap (λ (l : List ℕ). Reworked.Changed (length l)) (none-changed _ _)
+    → rework_answer n (with_room list (with b whole n)) ≡ Ok 0
+none-again b whole n list room = ap (rework_answer n) (with-room (with b whole n) n list room ∙ reworked-reads b whole n) ∙ ap (λ (l : List ℕ). Ok (length l)) (none-changed _ _)
 
 pub none-in-a-reached : {s : Store rules} → Reached rules s → changed_lines s.files s.lines s.entries ≡ []
 none-in-a-reached {s} r = ap (changed_lines s.files s.lines) (entries-worked-afresh r) ∙ none-changed s.files s.lines

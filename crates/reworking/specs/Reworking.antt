@@ -1,5 +1,5 @@
 -- All lines of the table worked out afresh: what the entries are then, and which of them were others before. Assumes nothing: these are definitions.
-use Rattle.std.specs.Prelude.{Option, Some, None}
+use Rattle.std.specs.Prelude.{Option, Some, None, Result, Ok, Err}
 use Rattle.std.specs.Prelude.{◌≡◌, Bool, false, cond, ℕ, ◌+◌, ◌*◌, ◌<◌, leb, length, get_or, take}
 use mathlib.Core.List.{List, [], ◌∷◌, flat_map, zip_with}
 use Rattle.laws.specs.Lists.{table, keep}
@@ -14,7 +14,7 @@ use Rattle.store.specs.numbers.Lines.{line_at}
 use Rattle.store.specs.entry_slots.Entries.{entry_slot, entry_at}
 use Rattle.store.specs.Reads.{Buffers, Held, table_line, reads}
 use Rattle.asking.specs.answering.Figure.{differs}
-use Rattle.reworking.specs.declared.rework.Reworked.{Reworked}
+use Rattle.asking.specs.declared.answer.Unreadable.{Unreadable}
 
 -- the slot of a line: the entry worked out afresh over these files
 unfoldable pub worked_slot : List Filed → TableLine Number → List ℕ
@@ -39,16 +39,16 @@ all_files = 1024
 -- ---- what reworking over the first n files answers, and what it leaves: over a store, or over none
 
 -- what an answer tells: 0 with the count of the entries that were others, or 44
-abbrev pub reworked_told : Reworked → Told
-reworked_told (Reworked.Changed n) = told 0 (n ∷ [])
-reworked_told Reworked.Unreadable = told 44 []
+abbrev pub reworked_told : Result ℕ Unreadable → Told
+reworked_told (Ok n) = told 0 (n ∷ [])
+reworked_told (Err e) = told 44 []
 
-abbrev pub rework_number : Reworked → ℕ
+abbrev pub rework_number : Result ℕ Unreadable → ℕ
 rework_number r = (reworked_told r).number
 
-abbrev pub rework_answer : ℕ → Option Held → Reworked
-rework_answer n None = Reworked.Unreadable
-rework_answer n (Some h) = Reworked.Changed (length (changed_lines (take n h.files) h.lines h.entries))
+abbrev pub rework_answer : ℕ → Option Held → Result ℕ Unreadable
+rework_answer n None = Err (record {})
+rework_answer n (Some h) = Ok (length (changed_lines (take n h.files) h.lines h.entries))
 
 abbrev pub entries_after : ℕ → Option Held → List ℕ → List ℕ
 entries_after n None entries = entries
@@ -63,7 +63,7 @@ list_after n (Some h) list = overlay list 0 (changed_lines (take n h.files) h.li
 unfoldable pub with_room : List ℕ → Buffers → Option Held
 with_room list b = cond (leb 1024 (length list)) (reads b) None
 
-pub record Reworks (b : Buffers) (n : ℕ) (list : List ℕ) (answer : Reworked) (entries listed : List ℕ) : Type 0 where
+pub record Reworks (b : Buffers) (n : ℕ) (list : List ℕ) (answer : Result ℕ Unreadable) (entries listed : List ℕ) : Type 0 where
   pub answers : answer ≡ rework_answer n (with_room list b)
   pub leaves : entries ≡ entries_after n (with_room list b) b.entries
   pub lists : listed ≡ list_after n (with_room list b) list

@@ -6,6 +6,7 @@ ghost use Rattle.working.specs.Working.{Sound};
 ghost use Rattle.working.specs.indexing.Index.{Wanted, Indexed};
 ghost use Rattle.reworking.specs.Reworking.{Fitting, LineReworked, Noted, LinesReworked, Reworks};
 
+use asking::answer::Unreadable;
 use asking::stand;
 use store::entry_slots::entry;
 use store::numbers::lines;
@@ -14,13 +15,6 @@ use working::indexing::index;
 
 // As many files as a store takes: over the first so many of them is over all.
 pub const ALL_FILES: usize = store::journals::files::FILES;
-
-// How many entries changed, or that the buffers do not read or the list has no room.
-#[derive(Drop)]
-pub enum Reworked {
-    Changed(usize),
-    Unreadable,
-}
 
 // Writes the entry of the line i, worked out over the first n files from their index, and answers whether the stored one was another.
 fn rework_line<'a>(
@@ -174,7 +168,7 @@ fn rework_all<'a>(
 }
 
 // Works out every line of a store over the first n files: 44 before all else, also where the list has no room for every line; else every
-// entry is the one worked out, and the list begins with the places of those lines whose stored entry was another.
+// entry is the one worked out, and the list begins with the places of those lines whose stored entry was another: so many are answered.
 pub fn rework<'a>(
     table: &[u8],
     files: &'a [u8],
@@ -183,17 +177,16 @@ pub fn rework<'a>(
     entries: &mut [u8],
     n: usize,
     list: &mut [u16],
-) -> Reworked
+) -> Result<usize, Unreadable>
     ensures { Reworks (lent table.now files.now regular.now corrections.now entries.old) n list.old result entries.new list.new }
 {
     if list.len() < lines::NUMBERS {
-        return Reworked::Unreadable;
+        return Err(Unreadable);
     }
     if !readable::readable(table, files, regular, corrections, entries) {
-        return Reworked::Unreadable;
+        return Err(Unreadable);
     }
     let k = stand::files_among(files, n);
     let m = lines::line_count(table);
-    let count = rework_all(table, files, k, regular, corrections, entries, m, list);
-    Reworked::Changed(count)
+    Ok(rework_all(table, files, k, regular, corrections, entries, m, list))
 }

@@ -1,12 +1,11 @@
 // What the store answers: where a number stands and why, a record with its verdict, the figure.
 use crate::{line, print};
 use asking::answering::figure;
-use asking::answering::figure::FigureAnswer;
-use asking::looks::{LookedRecord, LookedWhy};
-use asking::pairs::{Stored, WhyAnswer};
-use asking::record::Asked;
+use asking::looks::NotSeen;
+use asking::pairs::Stored;
 use asking::{record, stand, why};
 use desk::Host;
+use entries::entry;
 use fields::number::Number;
 use reworking::rework::ALL_FILES;
 use store::journals::records::Journal;
@@ -33,16 +32,16 @@ fn why<'a>(
     number: Number,
 ) {
     match why::look(t, f, r, c, number) {
-        LookedWhy::Pair(one, two) => {
-            let a = WhyAnswer::Pair(one, two);
+        Ok(Some(pair)) => {
+            let shown = Ok(Some(pair));
             print::word(rt, w, print::PAIR);
-            stored(rt, w, why::first_part(r, c, a), one);
+            stored(rt, w, why::first_part(r, c, shown), pair.first);
             print::word(rt, w, print::AND);
-            stored(rt, w, why::second_part(r, c, a), two);
+            stored(rt, w, why::second_part(r, c, shown), pair.second);
         }
-        LookedWhy::Nothing => print::word(rt, w, print::NO_PAIR),
-        LookedWhy::UnknownNumber => print::word(rt, w, print::NO_NUMBER),
-        LookedWhy::Unshowable => print::word(rt, w, print::NO_STORE),
+        Ok(None) => print::word(rt, w, print::NO_PAIR),
+        Err(NotSeen::UnknownNumber) => print::word(rt, w, print::NO_NUMBER),
+        Err(NotSeen::Unshowable) => print::word(rt, w, print::NO_STORE),
     }
 }
 
@@ -57,12 +56,12 @@ fn standing<'a>(
     c: &'a [u8],
     i: usize,
 ) {
-    let s = stand::look(t, f, n, r, c, i);
-    let st = s.standing;
-    let e = st.entry;
-    let last = e.last;
+    let e = match stand::look(t, f, n, r, c, i) {
+        Ok(s) => s.entry,
+        Err(_) => entry::first(entry::line_in(None)),
+    };
     print::count(rt, w, print::HELD_BY, e.holder.0 as usize);
-    match last {
+    match e.last {
         None => print::word(rt, w, print::NEVER),
         Some(d) => print::count(rt, w, print::ON, d.0 as usize),
     }
@@ -112,16 +111,21 @@ pub fn record<'a>(
     c: &'a [u8],
 ) {
     let place = line::number(line, 1);
-    let LookedRecord::Record(which, at, x) = record::look(t, f, r, c, j, place) else {
+    let Ok(found) = record::look(t, f, r, c, j, place) else {
         return;
     };
-    let v = x.verdict;
-    print::number(rt, at);
+    let x = found.shown;
+    print::number(rt, found.place);
     from(rt, w, x.publisher.0, x.day.0);
     print::count(rt, w, print::AT, x.place);
-    print::count(rt, w, print::GETS, verdict::verdicts::number(v) as usize);
+    print::count(
+        rt,
+        w,
+        print::GETS,
+        verdict::verdicts::number(x.verdict) as usize,
+    );
     print::word(rt, w, print::SAYING);
-    print::text(rt, record::part(r, c, Asked::Record(which, at, x)));
+    print::text(rt, record::part(r, c, Ok(found)));
     print::end(rt);
 }
 
@@ -137,8 +141,8 @@ pub fn figure<'a>(
 ) {
     let d = figure::figure(t, f, r, c, e);
     match d {
-        FigureAnswer::Differ(n) => print::count(rt, w, print::DIFFER, n),
-        FigureAnswer::Unreadable => print::word(rt, w, print::UNREADABLE),
+        Ok(n) => print::count(rt, w, print::DIFFER, n),
+        Err(_) => print::word(rt, w, print::UNREADABLE),
     }
     print::end(rt);
 }

@@ -2,6 +2,7 @@
 --     figure-of-changes     where the entries of a reached store were replaced by any others, the figure is the number of places at which they differ
 --     figure-nothing        in a reached store it is 0
 --     changed-at            a place counts exactly if the two entries there are not equal
+use Rattle.std.specs.Prelude.{Ok, Err}
 use mathlib.Core.Path.{◌≡◌, refl, sym, ap, ◌∙◌}
 use mathlib.Core.Bool.{Bool, true, false, cond, not, true≢false}
 use mathlib.Core.List.{List, [], ◌∷◌, ◌++◌, map, zip_with}
@@ -29,7 +30,6 @@ use Rattle.store.specs.Reads.{table_line, lent, held, is_readable, reads}
 use Rattle.store.proofs.Checks.{reads-some, reads_none}
 use Rattle.asking.specs.Standing.{lines_in}
 use Rattle.asking.proofs.Standings.{length-first}
-use Rattle.asking.specs.declared.answering.figure.FigureAnswer.{FigureAnswer}
 use Rattle.asking.specs.answering.Figure.{differs, how_many, figure_of, figure_asked, differing}
 
 -- ---- one entry
@@ -60,13 +60,13 @@ module _ (files : List Filed) (t e : List ℕ) where
   abbrev here : ℕ → Bool
   here i = differs files (table_line (line_at t i)) (entry_at e i)
 
-  pub differing-none : 0 ≡ differing files t e 0
+  pub differing_none : 0 ≡ differing files t e 0
   unfolding differing table keep
-  differing-none = refl
+  differing_none = refl
 
-  pub differing-more : (i count m : ℕ) (d : Bool) → d ≡ here i → m ≡ cond d 1 0 → count ≡ differing files t e i → count + m ≡ differing files t e (i + 1)
+  pub differing_more : (i count m : ℕ) (d : Bool) → d ≡ here i → m ≡ cond d 1 0 → count ≡ differing files t e i → count + m ≡ differing files t e (i + 1)
   unfolding differing
-  differing-more i count m d ed em ec =
+  differing_more i count m d ed em ec =
       (λ j. ec j + (em ∙ ap (λ (u : Bool). cond u 1 0) ed) j)
       ∙ sym (ap how_many (table_more i here) ∙ length-keep-end (λ (u : Bool). u) (table i here) (here i))
 
@@ -79,14 +79,14 @@ module _ (files : List Filed) (t e : List ℕ) where
 
 -- ---- the answers
 module _ (t f r c e : List ℕ) where
-  pub figure-unread : is_readable (lent t f r c e) ≡ false → FigureAnswer.Unreadable ≡ figure_asked (reads (lent t f r c e))
-  figure-unread h = ap figure_asked (sym (reads_none (lent t f r c e) h))
+  pub figure_unread : is_readable (lent t f r c e) ≡ false → Err (record {}) ≡ figure_asked (reads (lent t f r c e))
+  figure_unread h = ap figure_asked (sym (reads_none (lent t f r c e) h))
 
-  pub figure-answer : is_readable (lent t f r c e) ≡ true → (n m count : ℕ) → n ≡ file_count f → m ≡ line_count t → count ≡ differing (take n (read_files f r c)) t e m
-      → FigureAnswer.Differ count ≡ figure_asked (reads (lent t f r c e))
+  pub figure_answer : is_readable (lent t f r c e) ≡ true → (n m count : ℕ) → n ≡ file_count f → m ≡ line_count t → count ≡ differing (take n (read_files f r c)) t e m
+      → Ok count ≡ figure_asked (reads (lent t f r c e))
   unfolding held
-  figure-answer h n m count en em ec =
-      ap FigureAnswer.Differ
+  figure_answer h n m count en em ec =
+      ap Ok
       (ec ∙ ap (λ (k : ℕ). differing (take n (read_files f r c)) t e k) em
       ∙ ap (λ (fs : List Filed). differing fs t e (line_count t)) (take_all n (read_files f r c) (omega (arith, length-first (file_count f) f r c)))
       ∙ figure-counted (read_files f r c) t e)

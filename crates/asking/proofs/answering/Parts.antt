@@ -2,7 +2,7 @@
 --     part_bytes        the part at a place of a journal is the bytes of the record there
 --     record-promise    the part that an answer shows is the bytes of the record whose verdict it shows
 use Rattle.std.proofs.lemmas.Option.{none-some, same_Some}
-use Rattle.std.specs.Prelude.{Option, Some, None}
+use Rattle.std.specs.Prelude.{Option, Some, None, Result, Ok}
 use mathlib.Core.Path.{◌≡◌, refl, sym, ap, ◌∙◌}
 use mathlib.Core.Logic.{⊎_elim}
 use mathlib.Core.Bool.{Bool, true, false}
@@ -26,7 +26,8 @@ use Rattle.working.specs.Working.{record_in}
 use Rattle.working.proofs.SlipLaws.{records-more}
 use Rattle.asking.specs.Items.{item_at}
 use Rattle.asking.specs.Showable.{is_showable}
-use Rattle.asking.specs.declared.record.Asked.{Asked}
+use Rattle.asking.specs.declared.answer.NoRecord.{NoRecord}
+use Rattle.asking.specs.declared.record.ShownRecord.{ShownRecord}
 use Rattle.asking.specs.Numbers.{asked_told}
 use Rattle.asking.specs.Record.{kind_of, InFileAt, asked_as, asked_of, asked_in, part_shown}
 use Rattle.asking.specs.answering.Whole.{record_asked}
@@ -76,10 +77,10 @@ module _ (t f r c : List ℕ) (yes : is_showable t f r c ≡ true) where
       (le-or-lt (records_of (kind_of which) (table (file_count f) (file_at f))) place)
 
 -- ---- what an answer shows of a record: the record at that place of that journal, its verdict, its bytes
-pub record RecordShown (b : Buffers) (which : Journal) (place : ℕ) (answer : Asked) : Type 0 where
+pub record RecordShown (b : Buffers) (which : Journal) (place : ℕ) (answer : Result ShownRecord NoRecord) : Type 0 where
   pub event : Event
   pub stored : item_at (journal_of (kind_of which) (held b).files) place ≡ Some event
-  pub shown : answer ≡ Asked.Record which place (asked_as (held b).lines (held b).files event)
+  pub shown : answer ≡ Ok (record { journal = which; place = place; shown = asked_as (held b).lines (held b).files event })
   pub part : part_shown b.regular b.corrections answer ≡ event.bytes
 
 module _ (t f r c e : List ℕ) (which : Journal) (place : ℕ) where
@@ -87,7 +88,7 @@ module _ (t f r c e : List ℕ) (which : Journal) (place : ℕ) where
   abbrev b : Buffers
   b = lent t f r c e
 
-  abbrev answer : Asked
+  abbrev answer : Result ShownRecord NoRecord
   answer = record_asked (reads b) which place
 
   answer-by : is_readable b ≡ true → (o : Option Event) → item_at (journal_of (kind_of which) (held b).files) place ≡ o → answer ≡ asked_of (held b).lines (held b).files which place o
@@ -95,7 +96,7 @@ module _ (t f r c e : List ℕ) (which : Journal) (place : ℕ) where
   answer-by whole o q = ap (λ (h : Option Held). record_asked h which place) (reads-some b whole) ∙ ap (asked_of (held b).lines (held b).files which place) q
 
   record-at : is_readable b ≡ true → (asked_told answer).number ≡ 0 → (o : Option Event) → item_at (journal_of (kind_of which) (held b).files) place ≡ o → RecordShown b which place answer
-  record-at whole h None q = absurd (omega (arith, sym (ap (λ (a : Asked). (asked_told a).number) (answer-by whole None q)) ∙ h))
+  record-at whole h None q = absurd (omega (arith, sym (ap (λ (a : Result ShownRecord NoRecord). (asked_told a).number) (answer-by whole None q)) ∙ h))
   record-at whole h (Some d) q = record {
     event = d;
     stored = q;

@@ -7,7 +7,7 @@
 --     figure-promise         whatever was written over the entries, the figure is the number of those that were changed
 --     figure-of-changes, figure-nothing, changed-at (`Figures`), part-bytes, record-promise (`Parts`)
 use Rattle.std.specs.Option.{option_map}
-use Rattle.std.specs.Prelude.{Option, Some, None}
+use Rattle.std.specs.Prelude.{Option, Some, None, Result, Ok}
 use mathlib.Core.Path.{◌≡◌, refl, sym, ap, subst, ◌∙◌}
 use mathlib.Core.Logic.{◌⊎◌, inl, inr, ⊎_elim}
 use mathlib.Core.Bool.{true, false, not, true≢false}
@@ -34,13 +34,12 @@ use Rattle.model.specs.Model as model
 use Rattle.model.proofs.Stores.{reached-once}
 use Rattle.rules.specs.Rules.{rules, standings, record_of, line_by}
 use Rattle.rules.proofs.Promises.{entry-worked-afresh, same-history, standing-entry}
-use Rattle.asking.specs.declared.pairs.Stored.{Stored}
-use Rattle.asking.specs.declared.pairs.WhyAnswer.{WhyAnswer}
+use Rattle.asking.specs.declared.answer.NotShown.{NotShown}
+use Rattle.asking.specs.declared.pairs.Pair.{Pair}
 use Rattle.asking.specs.Items.{item_at}
 use Rattle.asking.specs.Why.{stored_as, pair_of, why_on, why_in}
 use Rattle.asking.specs.Record.{point_verdict, asked_as}
 use Rattle.store.specs.Reads.{Held}
-use Rattle.asking.specs.declared.answering.figure.FigureAnswer.{FigureAnswer}
 use Rattle.asking.specs.answering.Confirmed.{processed_before, confirms, none_confirms}
 use Rattle.asking.specs.answering.Figure.{figure_of, figure_asked}
 use Rattle.asking.proofs.answering.Figures.{changes, figure-of-changes}
@@ -57,7 +56,7 @@ records_on s line = history rules s.files line.number
 pub record PairShown (s : Store rules) (number : Number) (line : TableLine Number) : Type 0 where
   pub first : Place
   pub second : Place
-  pub shown : why_in s.lines s.files number ≡ WhyAnswer.Pair (stored_as s.files first) (stored_as s.files second)
+  pub shown : why_in s.lines s.files number ≡ Ok (Some (record { first = stored_as s.files first; second = stored_as s.files second }))
   -- it is the pair of the last record of the history that was confirmed
   pub last-confirmed : Latest (line_by line) (first_standing (line_by line)) (records_on s line)
   pub its-pair : (stand_on (line_by line) (standing (line_by line) (first_standing (line_by line)) last-confirmed.earlier) (record_of last-confirmed.event)).why ≡ Why.Pair first second
@@ -78,7 +77,7 @@ pub record PairShown (s : Store rules) (number : Number) (line : TableLine Numbe
 
 -- none is shown
 pub record NoneShown (s : Store rules) (number : Number) (line : TableLine Number) : Type 0 where
-  pub shown : why_in s.lines s.files number ≡ WhyAnswer.Nothing
+  pub shown : why_in s.lines s.files number ≡ Ok None
   pub none-confirmed : none_confirms (line_by line) (first_entry (line_by line)) (records_on s line) ≡ true
   pub entry : Entry
   pub held : entry_of rules s.lines s.entries number ≡ Some entry
@@ -109,9 +108,9 @@ module _ {s : Store rules} (reached : Reached rules s) (number : Number) (line :
   abbrev stand : Standing
   stand = standing own (first_standing own) es
 
-  shows : (w : Why) → stand.why ≡ w → why_in s.lines s.files number ≡ pair_of s.files w
+  shows : (w : Why) → stand.why ≡ w → why_in s.lines s.files number ≡ Ok (pair_of s.files w)
   unfolding why_in
-  shows w e = ap (why_on s.files) listed ∙ ap (pair_of s.files) (ap (λ (t : Standing). t.why) (stands-over s.files line) ∙ e)
+  shows w e = ap (why_on s.files) listed ∙ ap (λ (v : Why). Ok (pair_of s.files v)) (ap (λ (t : Standing). t.why) (stands-over s.files line) ∙ e)
 
   abbrev worked : Entry
   worked = entry_over rules s.files line
@@ -173,15 +172,15 @@ module _ {s : Store rules} (reached : Reached rules s) (number : Number) (line :
       go Why.Nothing e = inl (no-pair e)
       go (Why.Pair a b) e = inr (a_pair a b e)
 
-  pub none-exactly : (why_in s.lines s.files number ≡ WhyAnswer.Nothing → none_confirms own (first_entry own) es ≡ true) × (none_confirms own (first_entry own) es ≡ true → why_in s.lines s.files number ≡ WhyAnswer.Nothing)
+  pub none-exactly : (why_in s.lines s.files number ≡ Ok None → none_confirms own (first_entry own) es ≡ true) × (none_confirms own (first_entry own) es ≡ true → why_in s.lines s.files number ≡ Ok None)
   none-exactly = (
-    (λ e. ⊎_elim (λ w. w.none-confirmed) (λ w. absurd (apart (stored_as s.files w.first) (stored_as s.files w.second) (sym w.shown ∙ e))) why-promise),
+    (λ e. ⊎_elim (λ w. w.none-confirmed) (λ w. absurd (apart (record { first = stored_as s.files w.first; second = stored_as s.files w.second }) (sym w.shown ∙ e))) why-promise),
     (λ h. ⊎_elim (λ w. w.shown) (λ w. absurd (true≢false (sym w.last-confirmed.confirmed ∙ none-at own (first_standing own) w.last-confirmed.earlier w.last-confirmed.event w.last-confirmed.later
         (ap (none_confirms own (first_entry own)) (sym w.last-confirmed.split) ∙ h)))) why-promise),
   )
     where
-      apart : (a b : Stored) → WhyAnswer.Pair a b ≡ WhyAnswer.Nothing → ⊥
-      apart a b q = let z : ◌≡◌ {A = ℕ} 0 1 = cc in absurd (omega arith)
+      apart : (p : Pair) → ◌≡◌ {A = Result (Option Pair) NotShown} (Ok (Some p)) (Ok None) → ⊥
+      apart p q = let z : ◌≡◌ {A = ℕ} 0 1 = cc in absurd (omega arith)
 
 -- ---- verdicts
 verdict-by : (files : List Filed) (e : Event) (l : Option (TableLine Number)) → number_of (point_verdict files e (record_of e) l) ≡ judged rules files e l
@@ -194,5 +193,5 @@ unfolding verdict_of
 verdict-promise s e = verdict-by s.files e (line_of rules s.lines (model.number_of rules e))
 
 -- ---- the figure of buffers whose table and files are those of a reached store, whatever was written over the entries
-pub figure-promise : (h : Held) {s : Store rules} → Reached rules s → h.lines ≡ s.lines → h.files ≡ s.files → figure_asked (Some h) ≡ FigureAnswer.Differ (changes s.entries h.entries)
-figure-promise h {s} r el ef = ap FigureAnswer.Differ ((λ j. figure_of (el j) (ef j) h.entries) ∙ figure-of-changes r h.entries)
+pub figure-promise : (h : Held) {s : Store rules} → Reached rules s → h.lines ≡ s.lines → h.files ≡ s.files → figure_asked (Some h) ≡ Ok (changes s.entries h.entries)
+figure-promise h {s} r el ef = ap Ok ((λ j. figure_of (el j) (ef j) h.entries) ∙ figure-of-changes r h.entries)

@@ -33,10 +33,10 @@ start-end publisher day n k start file h inv =
     omega (arith, here, inv)
 
 -- ---- no file begins behind the last report
-pub start-below : (publisher day : ℕ) (fs : List File) → start_by publisher day fs ≤ records_of 0 fs
+pub start_below : (publisher day : ℕ) (fs : List File) → start_by publisher day fs ≤ records_of 0 fs
 unfolding start_by records_of total
-start-below publisher day [] = omega arith
-start-below publisher day (f ∷ fs) = go (is_listed_of publisher day f) (start-below publisher day fs)
+start_below publisher day [] = omega arith
+start_below publisher day (f ∷ fs) = go (is_listed_of publisher day f) (start_below publisher day fs)
   where
     go : (b : Bool) → start_by publisher day fs ≤ records_of 0 fs → cond b 0 (records_in 0 f + start_by publisher day fs) ≤ records_in 0 f + total (records_in 0) fs
     go true ih = omega arith

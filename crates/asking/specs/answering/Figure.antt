@@ -1,5 +1,5 @@
 -- The figure: how many stored entries differ from those worked out from the journals. Assumes nothing: these are definitions.
-use Rattle.std.specs.Prelude.{Option, Some, None}
+use Rattle.std.specs.Prelude.{Option, Some, None, Result, Ok, Err}
 use Rattle.std.specs.Prelude.{Bool, not, ℕ, length}
 use mathlib.Core.List.{List, [], ◌∷◌, zip_with}
 use Rattle.laws.specs.Lists.{table, keep}
@@ -13,7 +13,7 @@ use Rattle.rules.specs.Rules.{rules}
 use Rattle.store.specs.numbers.Lines.{line_at}
 use Rattle.store.specs.entry_slots.Entries.{entry_at}
 use Rattle.store.specs.Reads.{Held, table_line}
-use Rattle.asking.specs.declared.answering.figure.FigureAnswer.{FigureAnswer}
+use Rattle.asking.specs.declared.answer.Unreadable.{Unreadable}
 
 -- an entry differs from the one that the line's records lead to
 unfoldable pub differs : List Filed → TableLine Number → Entry → Bool
@@ -28,13 +28,13 @@ unfoldable pub figure_of : List (TableLine Number) → List Filed → List Entry
 figure_of lines files entries = how_many (zip_with (differs files) lines entries)
 
 -- what its answer tells: 0 with the figure, or 44
-abbrev pub figure_told : FigureAnswer → Told
-figure_told (FigureAnswer.Differ n) = told 0 (n ∷ [])
-figure_told FigureAnswer.Unreadable = told 44 []
+abbrev pub figure_told : Result ℕ Unreadable → Told
+figure_told (Ok n) = told 0 (n ∷ [])
+figure_told (Err e) = told 44 []
 
-abbrev pub figure_asked : Option Held → FigureAnswer
-figure_asked None = FigureAnswer.Unreadable
-figure_asked (Some h) = FigureAnswer.Differ (figure_of h.lines h.files h.entries)
+abbrev pub figure_asked : Option Held → Result ℕ Unreadable
+figure_asked None = Err (record {})
+figure_asked (Some h) = Ok (figure_of h.lines h.files h.entries)
 
 -- ---- as it is counted: how many of the first m entries differ
 unfoldable pub differing : List Filed → List ℕ → List ℕ → ℕ → ℕ

@@ -1,4 +1,5 @@
 -- Where the two reports of a pair stand, over the list of files. Assumes nothing: these are definitions.
+use Rattle.std.specs.Prelude.{Option, Some, None}
 use Rattle.std.specs.Prelude.{Bool, cond, ◌&&◌, List, [], ◌∷◌, ℕ, ◌+◌, eqb}
 use Rattle.entries.specs.declared.entry.Place.{Place}
 use Rattle.entries.specs.Report.{publisher_of}
@@ -6,7 +7,7 @@ use Rattle.verdict.specs.declared.step.Why.{Why}
 use Rattle.store.specs.journals.Files.{records_in}
 use Rattle.store.specs.declared.journals.files.File.{File}
 use Rattle.asking.specs.declared.pairs.Stored.{Stored}
-use Rattle.asking.specs.declared.pairs.WhyAnswer.{WhyAnswer}
+use Rattle.asking.specs.declared.pairs.Pair.{Pair}
 
 -- the default file of a publisher and a day
 unfoldable pub is_listed_of : ℕ → ℕ → File → Bool
@@ -26,6 +27,6 @@ listed_as files p = record {
 }
 
 -- the pair, the report processed first coming first
-abbrev pub listed_pair : List File → Why → WhyAnswer
-listed_pair files Why.Nothing = WhyAnswer.Nothing
-listed_pair files (Why.Pair a b) = WhyAnswer.Pair (listed_as files a) (listed_as files b)
+abbrev pub listed_pair : List File → Why → Option Pair
+listed_pair files Why.Nothing = None
+listed_pair files (Why.Pair a b) = Some (record { first = listed_as files a; second = listed_as files b })

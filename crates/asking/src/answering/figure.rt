@@ -8,37 +8,24 @@ ghost use Rattle.entries.specs.comparing.Same.{same_entry};
 ghost use Rattle.working.specs.indexing.Index.{Wanted, Indexed};
 ghost use Rattle.asking.specs.answering.Figure.{differing, figure_asked};
 
+use crate::answer::Unreadable;
 use store::journals::files;
 use store::numbers::lines;
 use store::readable;
 use verdict::step::Standing;
 use working::indexing::index;
 
-// How many entries differ, or that the buffers do not read.
-#[derive(Drop)]
-pub enum FigureAnswer {
-    Differ(usize),
-    Unreadable,
-}
-
 // Whether the entry of the line i is another one than a standing has.
 fn is_other(entries: &[u8], i: usize, s: Standing) -> bool
     requires { i * 100 + 100 ≤ length entries.now }
     ensures { result ≡ not (same_entry (entry_at entries.now i) s.entry) }
 {
-    let worked = s.entry;
     let stored = store::entry_slots::entry::entry_at(entries, i);
-    !entries::comparing::same_entry(stored, worked)
-}
-
-// What an entry adds to the figure.
-fn counts(b: bool) -> usize
-    ensures { (result ≡ cond b 1 0) × (result ≤ 1) }
-{
-    if b { 1 } else { 0 }
+    !entries::comparing::same_entry(stored, s.entry)
 }
 
 // How many of the first m entries differ, each line worked out from the index.
+#[tactic(auto, using(crate::proofs::answering::Figures::other_differs, crate::proofs::answering::Figures::differing_none, crate::proofs::answering::Figures::differing_more))]
 fn differing_by<'a>(
     table: &[u8],
     files: &'a [u8],
@@ -60,8 +47,7 @@ fn differing_by<'a>(
     ensures { result ≡ differing (take n (read_files files.now regular.now corrections.now)) table.now entries.now m }
 {
     let mut count = 0;
-    let mut i = 0;
-    while i < m {
+    for i in 0..m {
         let s = working::overview::lines::line_standing(
             table,
             files,
@@ -76,8 +62,7 @@ fn differing_by<'a>(
             i,
             room,
         );
-        count += counts(is_other(entries, i, s));
-        i += 1;
+        count += usize::from(is_other(entries, i, s));
     }
     count
 }
@@ -128,20 +113,20 @@ fn differing_among<'a>(
 }
 
 // The figure of a store; 44 before all else.
+#[tactic(auto, using(crate::proofs::answering::Readables::readable_showable, crate::proofs::answering::Readables::lines_room, crate::proofs::Showing::sound, crate::proofs::answering::Figures::figure_unread, crate::proofs::answering::Figures::figure_answer))]
 pub fn figure<'a>(
     table: &[u8],
     files: &'a [u8],
     regular: &'a [u8],
     corrections: &'a [u8],
     entries: &[u8],
-) -> FigureAnswer
+) -> Result<usize, Unreadable>
     ensures { result ≡ figure_asked (reads (lent table.now files.now regular.now corrections.now entries.now)) }
 {
     if !readable::readable(table, files, regular, corrections, entries) {
-        return FigureAnswer::Unreadable;
+        return Err(Unreadable);
     }
     let n = files::file_count(files);
     let m = lines::line_count(table);
-    let count = differing_among(table, files, n, regular, corrections, entries, m);
-    FigureAnswer::Differ(count)
+    Ok(differing_among(table, files, n, regular, corrections, entries, m))
 }

@@ -2,14 +2,12 @@
 ghost use Rattle.std.specs.Prelude.{◌≡◌};
 ghost use Rattle.store.specs.Reads.{lent, reads};
 ghost use Rattle.asking.specs.answering.Whole.{number_given, entry_asked, before_asked, why_asked, record_asked};
-ghost use Rattle.asking.specs.Looks.{answer_by, entry_answer, why_answer, record_answer};
 
-use crate::answer::Answer;
-use crate::entry::EntryAnswer;
-use crate::looks::{Look, LookedEntry, LookedRecord, LookedWhy};
-use crate::pairs::WhyAnswer;
-use crate::record::Asked;
+use crate::answer::{NoRecord, NotShown};
+use crate::pairs::Pair;
+use crate::record::ShownRecord;
 use crate::{entry, record, why};
+use entries::entry::Entry;
 use fields::number::{Digits, Number};
 use store::journals::records::Journal;
 use store::readable;
@@ -18,58 +16,10 @@ use store::readable;
 pub fn given(first: &[u8], last: &[u8]) -> Option<Number>
     ensures { result ≡ number_given first.now last.now }
 {
-    let read = Digits::read(first);
-    match read {
-        Some(d) => Number::read(d, last),
-        None => None,
-    }
+    let digits = Digits::read(first)?;
+    Number::read(digits, last)
 }
 
-// ---- a look at a store that reads, turned into its answer
-fn answer_by(look: Look) -> Answer
-    ensures { result ≡ answer_by look }
-{
-    match look {
-        Look::Shown => Answer::Shown,
-        Look::UnknownNumber => Answer::UnknownNumber,
-        Look::Unshowable => Answer::Unreadable,
-    }
-}
-
-fn entry_answer(looked: LookedEntry) -> EntryAnswer
-    ensures { result ≡ entry_answer looked }
-{
-    let look = looked.look;
-    let entry = looked.entry;
-    let answer = answer_by(look);
-    EntryAnswer {
-        answer: answer,
-        entry: entry,
-    }
-}
-
-fn why_answer(looked: LookedWhy) -> WhyAnswer
-    ensures { result ≡ why_answer looked }
-{
-    match looked {
-        LookedWhy::Pair(first, second) => WhyAnswer::Pair(first, second),
-        LookedWhy::Nothing => WhyAnswer::Nothing,
-        LookedWhy::UnknownNumber => WhyAnswer::UnknownNumber,
-        LookedWhy::Unshowable => WhyAnswer::Unreadable,
-    }
-}
-
-fn record_answer(looked: LookedRecord) -> Asked
-    ensures { result ≡ record_answer looked }
-{
-    match looked {
-        LookedRecord::Record(which, place, shown) => Asked::Record(which, place, shown),
-        LookedRecord::Beyond => Asked::Beyond,
-        LookedRecord::Unshowable => Asked::Unreadable,
-    }
-}
-
-// ---- the questions
 // The stored entry of a number.
 pub fn entry<'a>(
     table: &[u8],
@@ -78,16 +28,16 @@ pub fn entry<'a>(
     corrections: &'a [u8],
     entries: &[u8],
     number: Option<Number>,
-) -> EntryAnswer
+) -> Result<Entry, NotShown>
     ensures { result ≡ entry_asked (reads (lent table.now files.now regular.now corrections.now entries.now)) number }
 {
     if !readable::readable(table, files, regular, corrections, entries) {
-        return entry::not_held(Answer::Unreadable);
+        return Err(NotShown::Unreadable);
     }
-    match number {
-        Some(x) => entry_answer(entry::look(table, entries, x)),
-        None => entry::not_held(Answer::UnknownNumber),
-    }
+    let Some(x) = number else {
+        return Err(NotShown::UnknownNumber);
+    };
+    Ok(entry::look(table, entries, x)?)
 }
 
 // The entry of a number before the file at n arrived.
@@ -99,19 +49,16 @@ pub fn before<'a>(
     entries: &[u8],
     n: usize,
     number: Option<Number>,
-) -> EntryAnswer
+) -> Result<Entry, NotShown>
     ensures { result ≡ before_asked (reads (lent table.now files.now regular.now corrections.now entries.now)) n number }
 {
     if !readable::readable(table, files, regular, corrections, entries) {
-        return entry::not_held(Answer::Unreadable);
+        return Err(NotShown::Unreadable);
     }
-    match number {
-        Some(x) => {
-            let looked = entry::look_before(table, files, n, regular, corrections, x);
-            entry_answer(looked)
-        }
-        None => entry::not_held(Answer::UnknownNumber),
-    }
+    let Some(x) = number else {
+        return Err(NotShown::UnknownNumber);
+    };
+    Ok(entry::look_before(table, files, n, regular, corrections, x)?)
 }
 
 // Why a number stands where it does.
@@ -122,16 +69,16 @@ pub fn why<'a>(
     corrections: &'a [u8],
     entries: &[u8],
     number: Option<Number>,
-) -> WhyAnswer
+) -> Result<Option<Pair>, NotShown>
     ensures { result ≡ why_asked (reads (lent table.now files.now regular.now corrections.now entries.now)) number }
 {
     if !readable::readable(table, files, regular, corrections, entries) {
-        return WhyAnswer::Unreadable;
+        return Err(NotShown::Unreadable);
     }
-    match number {
-        Some(x) => why_answer(why::look(table, files, regular, corrections, x)),
-        None => WhyAnswer::UnknownNumber,
-    }
+    let Some(x) = number else {
+        return Err(NotShown::UnknownNumber);
+    };
+    Ok(why::look(table, files, regular, corrections, x)?)
 }
 
 // The record at a place of a journal.
@@ -143,12 +90,11 @@ pub fn record<'a>(
     entries: &[u8],
     which: Journal,
     place: usize,
-) -> Asked
+) -> Result<ShownRecord, NoRecord>
     ensures { result ≡ record_asked (reads (lent table.now files.now regular.now corrections.now entries.now)) which place }
 {
     if !readable::readable(table, files, regular, corrections, entries) {
-        return Asked::Unreadable;
+        return Err(NoRecord::Unreadable);
     }
-    let looked = record::look(table, files, regular, corrections, which, place);
-    record_answer(looked)
+    Ok(record::look(table, files, regular, corrections, which, place)?)
 }

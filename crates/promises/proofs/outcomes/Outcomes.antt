@@ -2,9 +2,9 @@
 -- that is one equation between the answer, a part lent back or a lent buffer and a definition is settled by `equation-settles`, several of
 -- them by `pair_settles` and so on; those that are a record of a crate's own stand below, each by name. tests/outcomes.sh goes through all public
 -- functions and holds each to one of these. Assumes nothing.
-use mathlib.Core.Path.{◌≡◌, sym, ap, ◌∙◌}
+use mathlib.Core.Path.{◌≡◌, sym, ◌∙◌}
 use mathlib.Core.List.{List}
-use Prim.Native.Nat.{ℕ, ◌+◌}
+use Prim.Native.Nat.{ℕ}
 use native.Mathlib.Omega.{arith}
 use Rattle.laws.specs.Overlay.{Laid}
 use Rattle.laws.specs.Told.{Told}
@@ -23,14 +23,16 @@ use Rattle.model.specs.Model.{Filed}
 use Rattle.verdict.specs.declared.step.Standing.{Standing}
 use Rattle.store.specs.numbers.Lines.{line_count}
 use Rattle.working.specs.Working.{WorkedAfresh}
-use Rattle.filing.specs.renewing.Turns.{count_to, RecordRenewed}
+use Rattle.filing.specs.renewing.Turns.{RecordRenewed}
 use Rattle.filing.specs.entering.Entering.{Joined}
 use Rattle.filing.proofs.entering.Joining.{joined-one}
-use Rattle.asking.specs.declared.entry.EntryAnswer.{EntryAnswer}
-use Rattle.asking.specs.declared.pairs.WhyAnswer.{WhyAnswer}
-use Rattle.asking.specs.declared.record.Asked.{Asked}
-use Rattle.asking.specs.declared.answering.figure.FigureAnswer.{FigureAnswer}
-use Rattle.reworking.specs.declared.rework.Reworked.{Reworked}
+use Rattle.std.specs.Prelude.{Option, Result}
+use Rattle.entries.specs.declared.entry.Entry.{Entry}
+use Rattle.asking.specs.declared.answer.NotShown.{NotShown}
+use Rattle.asking.specs.declared.answer.NoRecord.{NoRecord}
+use Rattle.asking.specs.declared.answer.Unreadable.{Unreadable}
+use Rattle.asking.specs.declared.pairs.Pair.{Pair}
+use Rattle.asking.specs.declared.record.ShownRecord.{ShownRecord}
 use Rattle.reworking.specs.Reworking.{Reworks}
 use Rattle.capi.specs.Again.{ReworksAs}
 use Rattle.capi.specs.Ask.{TellsWhy, TellsRecord, TellsFigure}
@@ -89,17 +91,17 @@ renewing-settles all f j lines before x y p q =
     λ i. (entries i, count i)
 
 -- reworking: the answer, the entries and the list
-pub reworking-settles : (b : Buffers) (n : ℕ) (list : List ℕ) → Settles (λ (o : Reworked × List ℕ × List ℕ). Reworks b n list o.0 o.1 o.2)
+pub reworking-settles : (b : Buffers) (n : ℕ) (list : List ℕ) → Settles (λ (o : Result ℕ Unreadable × List ℕ × List ℕ). Reworks b n list o.0 o.1 o.2)
 reworking-settles b n list x y p q = three-settle _ _ _ x y (p.answers, p.leaves, p.lists) (q.answers, q.leaves, q.lists)
 
 -- ---- what other languages call: the answer's number, and every number and byte that is lent
-pub why-settles : (right : WhyAnswer) → Settles (λ (o : ℕ × ℕ × ℕ). TellsWhy right o.0 o.1 o.2)
+pub why-settles : (right : Result (Option Pair) NotShown) → Settles (λ (o : ℕ × ℕ × ℕ). TellsWhy right o.0 o.1 o.2)
 why-settles right x y p q = three-settle _ _ _ x y (p.answers, p.first, p.second) (q.answers, q.first, q.second)
 
-pub record-settles : (right : Asked) → Settles (λ (o : ℕ × ℕ × ℕ × ℕ × ℕ). TellsRecord right o.0 o.1 o.2 o.3 o.4)
+pub record-settles : (right : Result ShownRecord NoRecord) → Settles (λ (o : ℕ × ℕ × ℕ × ℕ × ℕ). TellsRecord right o.0 o.1 o.2 o.3 o.4)
 record-settles right x y p q = λ i. ((p.answers ∙ sym q.answers) i, (p.by ∙ sym q.by) i, (p.on ∙ sym q.on) i, (p.at ∙ sym q.at) i, (p.gets ∙ sym q.gets) i)
 
-pub figure-settles : (right : FigureAnswer) → Settles (λ (o : ℕ × ℕ). TellsFigure right o.0 o.1)
+pub figure-settles : (right : Result ℕ Unreadable) → Settles (λ (o : ℕ × ℕ). TellsFigure right o.0 o.1)
 figure-settles right x y p q = pair_settles _ _ x y (p.answers, p.differ) (q.answers, q.differ)
 
 pub rework-settles : (b : Buffers) (list : List ℕ) → Settles (λ (o : ℕ × ℕ × List ℕ × List ℕ). ReworksAs b list o.0 o.1 o.2 o.3)
@@ -108,7 +110,7 @@ rework-settles b list x y p q = λ i. ((p.answers ∙ sym q.answers) i, (p.tells
 pub reading-settles : (right : Told) → Settles (λ (o : ℕ × ℕ × ℕ × ℕ). Tells right o.0 o.1 o.2 o.3)
 reading-settles right x y p q = λ i. ((p.answers ∙ sym q.answers) i, (p.tells ∙ sym q.tells) i, (p.names ∙ sym q.names) i, (p.blames ∙ sym q.blames) i)
 
-pub showing-settles : (a : EntryAnswer) (before : List ℕ) → Settles (λ (o : ℕ × List ℕ). ShowsEntry a before o.0 o.1)
+pub showing-settles : (a : Result Entry NotShown) (before : List ℕ) → Settles (λ (o : ℕ × List ℕ). ShowsEntry a before o.0 o.1)
 showing-settles a before x y p q = pair_settles _ _ x y (p.answers, p.leaves) (q.answers, q.leaves)
 
 pub start-settles : (text : List ℕ) (before : Buffers) → Settles (λ (o : ℕ × ℕ × Buffers). StartsAs text before o.0 o.1 o.2)

@@ -23,8 +23,8 @@ record_at-bytes-requires c =
     let fits = w.within in
     record { kinds = w.kinds; within = omega (arith, fits); regular_room = w.regular_room; correction_room = w.correction_room }
 
-pub overflow_cast-rec : goal.overflow_cast-rec
-overflow_cast-rec c =
+pub overflow_cast-result : goal.overflow_cast-result
+overflow_cast-result c =
     let a = c.args in
     let f = c.file_at-f in
     let m = c.records_of-start in

@@ -32,8 +32,8 @@ line_count-m-requires c =
     let b = lent a.table.now a.files.now a.regular.now a.corrections.now a.entries.now in
     omega (arith, (long b (whole_long b (sym c.readable.ensures ∙ c.if-not-readable.false))).long-table)
 
-pub rework_all-count-requires : goal.rework_all-count-requires
-rework_all-count-requires c =
+pub rework_all-requires : goal.rework_all-requires
+rework_all-requires c =
     let a = c.args in
     let b = lent a.table.now a.files.now a.regular.now a.corrections.now a.entries.now in
     let whole = sym c.readable.ensures ∙ c.if-not-readable.false in
@@ -49,4 +49,4 @@ rework_all-count-requires c =
 pub returns : goal.returns
 returns c =
     let a = c.args in
-    rework-done (lent a.table.now a.files.now a.regular.now a.corrections.now a.entries.now) a.n a.list.now (omega (arith, c.if-list-lt-NUMBERS.false)) (sym c.readable.ensures ∙ c.if-not-readable.false) c.files_among-k.result c.line_count-m.result c.rework_all-count.result _ _ c.files_among-k.ensures c.line_count-m.ensures.0 c.rework_all-count.ensures
+    rework-done (lent a.table.now a.files.now a.regular.now a.corrections.now a.entries.now) a.n a.list.now (omega (arith, c.if-list-lt-NUMBERS.false)) (sym c.readable.ensures ∙ c.if-not-readable.false) c.files_among-k.result c.line_count-m.result c.rework_all.result _ _ c.files_among-k.ensures c.line_count-m.ensures.0 c.rework_all.ensures

@@ -1,20 +1,28 @@
--- `asking::answering::whole::entry` meets its contract. Assumes nothing.
-use mathlib.Core.Path.{sym, ◌∙◌}
-use Rattle.asking.proofs.answering.Readables.{entry-unread, entry-asked, entry-fault}
+-- `asking::answering::whole::entry` meets its contract: what a look at a store that reads shows is its answer (`Readables`). Assumes nothing.
+use mathlib.Core.Path.{sym, ap, ◌∙◌}
+use Rattle.std.proofs.lemmas.Result.{err_from_is_err_and}
+use Rattle.store.proofs.Checks.{reads-some, reads_none}
+use Rattle.asking.specs.Looks.{answer_of}
+use Rattle.asking.proofs.answering.Readables.{entry_answers}
 use Rattle.asking.proofs.answering.whole.entry.Goals as goal
 
 pub returns-then-not-readable : goal.returns-then-not-readable
-returns-then-not-readable c =
-    let a = c.args in
-    c.not_held.ensures ∙ entry-unread a.table.now a.files.now a.regular.now a.corrections.now a.entries.now (sym c.readable.ensures ∙ c.if-not-readable.true) a.number
+returns-then-not-readable c = rw (reads_none _ (sym c.readable.ensures ∙ c.if-not-readable.true))
 
-pub returns-in-Some : goal.returns-in-Some
-returns-in-Some c =
-    let a = c.args in
-    let x = c.in-Some in
-    rw x.is (entry-asked a.table.now a.files.now a.regular.now a.corrections.now a.entries.now (sym c.readable.ensures ∙ c.if-not-readable.false) x.x c.look.result c.entry_answer.result c.look.ensures c.entry_answer.ensures)
+pub returns-in_default : goal.returns-in_default
+returns-in_default c = rw (c.in_default.is, reads-some _ (sym c.readable.ensures ∙ c.if-not-readable.false))
 
-pub returns-in-None : goal.returns-in-None
-returns-in-None c =
+pub returns-in_err-look : goal.returns-in_err-look
+returns-in_err-look c =
     let a = c.args in
-    rw c.in-None.is (c.not_held-in-None.ensures ∙ entry-fault a.table.now a.files.now a.regular.now a.corrections.now a.entries.now (sym c.readable.ensures ∙ c.if-not-readable.false))
+    let p = err_from_is_err_and c.from_residual.result c.from_residual.ensures.1 in
+    rw (c.in-Some.is, p.1, p.2)
+    (ap answer_of (sym c.in_err-look.was ∙ c.look.ensures)
+    ∙ entry_answers a.table.now a.files.now a.regular.now a.corrections.now a.entries.now (sym c.readable.ensures ∙ c.if-not-readable.false) c.in-Some.x)
+
+pub returns : goal.returns
+returns c =
+    let a = c.args in
+    rw c.in-Some.is
+    (ap answer_of (sym c.in_ok-look.was ∙ c.look.ensures)
+    ∙ entry_answers a.table.now a.files.now a.regular.now a.corrections.now a.entries.now (sym c.readable.ensures ∙ c.if-not-readable.false) c.in-Some.x)
