@@ -34,12 +34,7 @@ fn renew_records(
 }
 
 // The turns for the records of a file, from an index of the first files for the numbers that they name.
-fn renew_file(
-    lines: &[u8],
-    filed: &Filed,
-    entries: &mut [u8],
-    records: &FileRecords,
-) -> usize
+fn renew_file(lines: &[u8], filed: &Filed, entries: &mut [u8], records: &FileRecords) -> usize
     requires { let f = filed.now in Workable f.n lines.now f.files.now f.journals.regular.now f.journals.corrections.now entries.old }
     ensures { let f = filed.now in let r = records.now in Staged (read_files f.files.now f.journals.regular.now f.journals.corrections.now) (filed_from (records_at r.journals.regular.now r.journals.corrections.now) r.file r.start) r.file.count lines.now entries.old entries.new result }
 {
