@@ -2,12 +2,11 @@
 use mathlib.Core.Path.{◌≡◌, refl, sym, ap, ◌∙◌}
 use mathlib.Core.Bool.{Bool, true, false, ◌&&◌}
 use mathlib.Core.List.{List, ◌++◌}
-use Prim.Native.Nat.{ℕ, ◌+◌, ◌%◌, ◌≤◌, ◌<◌}
+use Prim.Native.Nat.{ℕ, ◌%◌, ◌≤◌, ◌<◌}
 use native.Mathlib.Omega.{arith}
 use borrow.Author.Tests.{eq-eqb, lt-ltb, le-ltb}
 use lib.Dec.{eqb, ltb}
-use lib.ListN.{length, take, drop, get_or, length-drop}
-use lib.Seq.{get_or-take, get_or-drop, length-take-le}
+use lib.ListN.{length, take, drop, get_or}
 use Rattle.laws.specs.Lists.{table, any}
 use Rattle.laws.specs.Order.{sorted}
 use Rattle.laws.proofs.Lists.{mem_below}
@@ -25,14 +24,6 @@ use Rattle.working.specs.indexing.Index.{front, Wanted}
 use Rattle.working.proofs.indexing.Grouping.{sorted-again}
 use Rattle.filing.specs.renewing.Turns.{number_from, named_to, earlier, front_from, Tagged}
 use Rattle.filing.proofs.renewing.Some.{any-map, any_same, any-kept, any-upto}
-
--- ---- what the loop reads
-module _ (l : List ℕ) (w from m : ℕ) (long : w ≤ length l) (within : from + m ≤ w) where
-  pub part_length : length (take m (drop from (take w l))) ≡ m
-  part_length = length-take-le m (drop from (take w l)) (omega (arith, length-drop from (take w l), length-take-le w l long))
-
-  pub part_at : (i : ℕ) → i < m → get_or (take m (drop from (take w l))) i 0 ≡ get_or l (from + i) 0
-  part_at i h = get_or-take m (drop from (take w l)) i 0 h ∙ get_or-drop from (take w l) i 0 ∙ get_or-take w l (from + i) 0 (omega arith)
 
 -- ---- one place
 module _ (f : Filed) (j : ℕ) (n : Number) (i : ℕ) where

@@ -1,4 +1,5 @@
 -- Whether some element of a list passes a test. Assumes nothing.
+--     any_as_std  in std's word
 --     any-map     of a list to whose elements something is done
 --     any_same    by two tests that agree on the elements
 --     any-kept    of the elements that pass another test
@@ -11,11 +12,17 @@ use native.Mathlib.Decide.{ℕ_discrete}
 use native.Mathlib.Omega.{arith}
 use borrow.Author.Tests.{lt-ltb, le-ltb}
 use lib.Dec.{ltb}
+use Rattle.std.specs.List.{list_any}
 use Rattle.laws.specs.Lists.{table, any, keep}
 use Rattle.laws.proofs.Lists.{mem_below}
 use Rattle.laws.proofs.Tables.{any-more}
 
 module _ {A : Type 0} where
+  pub any_as_std : (p : A → Bool) (l : List A) → list_any p l ≡ any p l
+  unfolding any
+  any_as_std p [] = refl
+  any_as_std p (x ∷ l) = ap (λ (b : Bool). p x || b) (any_as_std p l)
+
   pub any-map : {B : Type 0} (p : B → Bool) (f : A → B) (l : List A) → any p (map f l) ≡ any (λ (x : A). p (f x)) l
   unfolding any
   any-map p f [] = refl

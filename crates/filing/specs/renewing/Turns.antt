@@ -15,7 +15,7 @@ use Rattle.store.specs.entry_slots.Entries.{entry_slot}
 use Rattle.store.specs.Reads.{table_line}
 use Rattle.rules.specs.Rules.{rules}
 use Rattle.working.specs.Working.{Sound}
-use Rattle.working.specs.indexing.Index.{front, Wanted, Indexed}
+use Rattle.working.specs.indexing.Index.{front}
 
 -- a file whose records begin at `start` in its journal, as the model has it
 unfoldable pub filed_from : (ℕ → ℕ → List ℕ) → File → ℕ → Filed
@@ -59,11 +59,6 @@ pub record Workable (n : ℕ) (lines files regular corrections entries : List �
   pub few_lines : line_count lines ≤ 1024
   pub once : none_twice same_number (table (line_count lines) (number_at lines)) ≡ true
   pub entry_room : 102400 ≤ length entries
-
--- what is asked of the index: it is that of the first n files for the first w tags
-pub record Ready (n : ℕ) (files regular corrections wanted : List ℕ) (w : ℕ) (keys places : List ℕ) (c : ℕ) : Type 0 where
-  pub ordered : Wanted wanted w
-  pub indexed : Indexed n files regular corrections (take w wanted) keys places c
 
 -- the entry of the line k, worked out afresh, as its slot
 abbrev pub slot_afresh : List Filed → List ℕ → ℕ → List ℕ

@@ -6,119 +6,54 @@ ghost use Rattle.store.specs.journals.Reads.{records_at, read_files};
 ghost use Rattle.store.specs.numbers.Lines.{lines_of};
 ghost use Rattle.store.specs.Reads.{lent, is_readable, table_line};
 ghost use Rattle.rules.specs.Rules.{rules};
-ghost use Rattle.working.specs.Working.{InFile};
-ghost use Rattle.filing.specs.renewing.Turns.{filed_from, Tagged, Workable, Ready, Staged};
+ghost use Rattle.filing.specs.renewing.Turns.{filed_from, Workable, Staged};
 ghost use Rattle.filing.specs.fitting.Renewing.{last_filed, renewed_entries};
 
+use crate::renewing::named::TaggedFile;
 use crate::renewing::{named, turn};
-use store::journals::files::File;
-use store::journals::{files as file_list, sums};
-use working::indexing::index;
+use store::journals::files as file_list;
+use working::filed::{FileRecords, Filed, Journals};
+use working::indexing::find::Index;
 
 // The turns for the records of a file, one after the other; answers how many records the numbers have that they name.
-fn renew_records<'a>(
-    lines: &'a [u8],
-    files: &'a [u8],
-    n: usize,
-    regular: &'a [u8],
-    corrections: &'a [u8],
-    wanted: &'a [u64; 10240],
-    w: usize,
-    keys: &'a [u64; 10240],
-    places: &'a [u64; 10240],
-    c: usize,
+fn renew_records(
+    lines: &[u8],
+    index: &Index,
     room: &mut [u64; 10240],
     entries: &mut [u8],
-    f: File,
-    start: usize,
+    file: &TaggedFile,
 ) -> usize
-    requires workable { Workable n lines.now files.now regular.now corrections.now entries.old }
-    requires ready { Ready n files.now regular.now corrections.now wanted.now w keys.now places.now c }
-    requires in_file { InFile regular.now corrections.now f start f.count }
-    requires tagged { Tagged (filed_from (records_at regular.now corrections.now) f start) wanted.now w }
-    ensures { Staged (read_files files.now regular.now corrections.now) (filed_from (records_at regular.now corrections.now) f start) f.count lines.now entries.old entries.new result }
+    requires { let f = index.now.filed in Workable f.n lines.now f.files.now f.journals.regular.now f.journals.corrections.now entries.old }
+    ensures { let f = index.now.filed in let r = file.now.records in Staged (read_files f.files.now f.journals.regular.now f.journals.corrections.now) (filed_from (records_at r.journals.regular.now r.journals.corrections.now) r.file r.start) r.file.count lines.now entries.old entries.new result }
 {
-    let count = f.count as usize;
     let mut sum = 0;
-    let mut j = 0;
-    while j < count {
-        sum += turn::renew_record(
-            lines,
-            files,
-            n,
-            regular,
-            corrections,
-            wanted,
-            w,
-            keys,
-            places,
-            c,
-            room,
-            entries,
-            f,
-            start,
-            j,
-        );
-        j += 1;
+    for j in 0..file.records.file.count as usize {
+        sum += turn::renew_record(lines, index, room, entries, file, j);
     }
     sum
 }
 
-// The turns for the records of a file, from an index of the first n files for the numbers that they name.
-fn renew_file<'a>(
-    lines: &'a [u8],
-    files: &'a [u8],
-    n: usize,
-    regular: &'a [u8],
-    corrections: &'a [u8],
-    entries: &mut [u8],
-    f: File,
-    start: usize,
-) -> usize
-    requires workable { Workable n lines.now files.now regular.now corrections.now entries.old }
-    requires in_file { InFile regular.now corrections.now f start f.count }
-    ensures { Staged (read_files files.now regular.now corrections.now) (filed_from (records_at regular.now corrections.now) f start) f.count lines.now entries.old entries.new result }
+// The turns for the records of a file, from an index of the first files for the numbers that they name.
+fn renew_file(lines: &[u8], filed: &Filed, entries: &mut [u8], records: &FileRecords) -> usize
+    requires { let f = filed.now in Workable f.n lines.now f.files.now f.journals.regular.now f.journals.corrections.now entries.old }
+    ensures { let f = filed.now in let r = records.now in Staged (read_files f.files.now f.journals.regular.now f.journals.corrections.now) (filed_from (records_at r.journals.regular.now r.journals.corrections.now) r.file r.start) r.file.count lines.now entries.old entries.new result }
 {
     let mut wanted = [0u64; 10240];
     let mut keys = [0u64; 10240];
     let mut places = [0u64; 10240];
     let mut room = [0u64; 10240];
-    let w = named::tag_file(regular, corrections, f, start, &mut wanted);
-    let c = index::index(
-        files,
-        n,
-        regular,
-        corrections,
-        &wanted,
-        w,
-        &mut keys,
-        &mut places,
-    );
-    renew_records(
-        lines,
-        files,
-        n,
-        regular,
-        corrections,
-        &wanted,
-        w,
-        &keys,
-        &places,
-        c,
-        &mut room,
-        entries,
-        f,
-        start,
-    )
+    let file = named::tag_file(records, &mut wanted);
+    let index = Index::new(*filed, file.tags, &mut keys, &mut places);
+    renew_records(lines, &index, &mut room, entries, &file)
 }
 
 // Works out afresh, over all files, the entries of the numbers that the last file names, and answers how many records these
 // numbers have in both journals.
-pub fn renew<'a>(
-    table: &'a [u8],
-    files: &'a [u8],
-    regular: &'a [u8],
-    corrections: &'a [u8],
+pub fn renew(
+    table: &[u8],
+    files: &[u8],
+    regular: &[u8],
+    corrections: &[u8],
     entries: &mut [u8],
 ) -> usize
     requires entries_value { is_readable (lent table.now files.now regular.now corrections.now entries.old) ≡ true }
@@ -127,8 +62,13 @@ pub fn renew<'a>(
     ensures entries_after { entries.new ≡ renewed_entries (read_files files.now regular.now corrections.now) (last_filed (read_files files.now regular.now corrections.now)) (map table_line (lines_of table.now)) entries.old }
 {
     let n = file_list::file_count(files);
-    let last = n - 1;
-    let f = file_list::file_at(files, last);
-    let start = sums::records_of(files, last, f.kind);
-    renew_file(table, files, n, regular, corrections, entries, f, start)
+    let filed = Filed {
+        files,
+        n,
+        journals: Journals {
+            regular,
+            corrections,
+        },
+    };
+    renew_file(table, &filed, entries, &filed.records(n - 1))
 }

@@ -4,192 +4,81 @@ ghost use Rattle.model.specs.Model.{history};
 ghost use Rattle.store.specs.journals.Reads.{records_at, read_files};
 ghost use Rattle.store.specs.numbers.Lines.{line_count};
 ghost use Rattle.rules.specs.Rules.{rules};
-ghost use Rattle.working.specs.Working.{Sound, InFile};
-ghost use Rattle.filing.specs.renewing.Turns.{filed_from, Tagged, Workable, Ready, LineRenewed, NumberRenewed, RecordRenewed};
+ghost use Rattle.filing.specs.renewing.Turns.{filed_from, Workable, LineRenewed, NumberRenewed, RecordRenewed};
 
 use crate::renewing::named;
+use crate::renewing::named::TaggedFile;
 use entries::entry::Line;
 use fields::number::Number;
 use store::entry_slots::entry;
-use store::journals::files::File;
 use store::numbers::lines;
 use working::indexing::find;
+use working::indexing::find::Index;
 
-// How many records of the first n files name the number: without a line there is nothing to fold, so they are counted as they are gathered.
-fn count_all<'a>(
-    files: &'a [u8],
-    n: usize,
-    regular: &'a [u8],
-    corrections: &'a [u8],
-    wanted: &'a [u64; 10240],
-    w: usize,
-    keys: &'a [u64; 10240],
-    places: &'a [u64; 10240],
-    c: usize,
-    number: Number,
-    room: &mut [u64; 10240],
-) -> usize
-    requires sound { Sound n files.now regular.now corrections.now }
-    requires ready { Ready n files.now regular.now corrections.now wanted.now w keys.now places.now c }
-    ensures { result ≡ length (history rules (take n (read_files files.now regular.now corrections.now)) number) }
+// How many records of the first files name the number: without a line there is nothing to fold, so they are counted as they are gathered.
+fn count_all(index: &Index, number: Number, room: &mut [u64; 10240]) -> usize
+    ensures { let f = index.now.filed in result ≡ length (history rules (take f.n (read_files f.files.now f.journals.regular.now f.journals.corrections.now)) number) }
 {
-    find::gather_indexed(
-        files,
-        n,
-        regular,
-        corrections,
-        wanted,
-        w,
-        keys,
-        places,
-        c,
-        number,
-        room,
-    )
+    find::gather_indexed(index, number, room)
 }
 
-// Works out the entry of the line k over all n files, writes it, and answers how many records name its number.
-fn renew_line<'a>(
-    lines: &'a [u8],
-    files: &'a [u8],
-    n: usize,
-    regular: &'a [u8],
-    corrections: &'a [u8],
-    wanted: &'a [u64; 10240],
-    w: usize,
-    keys: &'a [u64; 10240],
-    places: &'a [u64; 10240],
-    c: usize,
+// Works out the entry of the line k over all files, writes it, and answers how many records name its number.
+fn renew_line(
+    lines: &[u8],
+    index: &Index,
     room: &mut [u64; 10240],
     entries: &mut [u8],
     k: usize,
 ) -> usize
-    requires workable { Workable n lines.now files.now regular.now corrections.now entries.old }
-    requires ready { Ready n files.now regular.now corrections.now wanted.now w keys.now places.now c }
+    requires workable { let f = index.now.filed in Workable f.n lines.now f.files.now f.journals.regular.now f.journals.corrections.now entries.old }
     requires k_bound { k < line_count lines.now }
-    ensures { LineRenewed (read_files files.now regular.now corrections.now) lines.now entries.old entries.new k result }
+    ensures { let f = index.now.filed in LineRenewed (read_files f.files.now f.journals.regular.now f.journals.corrections.now) lines.now entries.old entries.new k result }
 {
     let l = lines::line_at(lines, k);
-    let number = l.number;
-    let owner = l.owner;
-    let setup = l.setup;
-    let line = Line { owner, setup };
-    let worked = find::work_indexed(
-        files,
-        n,
-        regular,
-        corrections,
-        wanted,
-        w,
-        keys,
-        places,
-        c,
-        number,
-        line,
-        room,
-    );
-    let s = worked.standing;
-    let e = s.entry;
-    entry::put_entry(entries, k, e);
+    let line = Line {
+        owner: l.owner,
+        setup: l.setup,
+    };
+    let worked = find::work_indexed(index, l.number, line, room);
+    entry::put_entry(entries, k, worked.standing.entry);
     worked.count
 }
 
-// Works out the number over all n files: writes the entry of its line, where it has one, and answers how many records name it.
-fn renew_number<'a>(
-    lines: &'a [u8],
-    files: &'a [u8],
-    n: usize,
-    regular: &'a [u8],
-    corrections: &'a [u8],
-    wanted: &'a [u64; 10240],
-    w: usize,
-    keys: &'a [u64; 10240],
-    places: &'a [u64; 10240],
-    c: usize,
+// Works out the number over all files: writes the entry of its line, where it has one, and answers how many records name it.
+fn renew_number(
+    lines: &[u8],
+    index: &Index,
     room: &mut [u64; 10240],
     entries: &mut [u8],
     number: Number,
 ) -> usize
-    requires workable { Workable n lines.now files.now regular.now corrections.now entries.old }
-    requires ready { Ready n files.now regular.now corrections.now wanted.now w keys.now places.now c }
-    ensures { NumberRenewed (read_files files.now regular.now corrections.now) number lines.now entries.old entries.new result }
+    requires { let f = index.now.filed in Workable f.n lines.now f.files.now f.journals.regular.now f.journals.corrections.now entries.old }
+    ensures { let f = index.now.filed in NumberRenewed (read_files f.files.now f.journals.regular.now f.journals.corrections.now) number lines.now entries.old entries.new result }
 {
     let count = lines::line_count(lines);
     let k = store::numbers::find::line_of(lines, count, number);
     if k < count {
-        return renew_line(
-            lines,
-            files,
-            n,
-            regular,
-            corrections,
-            wanted,
-            w,
-            keys,
-            places,
-            c,
-            room,
-            entries,
-            k,
-        );
+        return renew_line(lines, index, room, entries, k);
     }
-    count_all(
-        files,
-        n,
-        regular,
-        corrections,
-        wanted,
-        w,
-        keys,
-        places,
-        c,
-        number,
-        room,
-    )
+    count_all(index, number, room)
 }
 
 // The turn for the record at j: nothing where an earlier record of the file names its number.
-pub(crate) fn renew_record<'a>(
-    lines: &'a [u8],
-    files: &'a [u8],
-    n: usize,
-    regular: &'a [u8],
-    corrections: &'a [u8],
-    wanted: &'a [u64; 10240],
-    w: usize,
-    keys: &'a [u64; 10240],
-    places: &'a [u64; 10240],
-    c: usize,
+pub(crate) fn renew_record(
+    lines: &[u8],
+    index: &Index,
     room: &mut [u64; 10240],
     entries: &mut [u8],
-    f: File,
-    start: usize,
+    file: &TaggedFile,
     j: usize,
 ) -> usize
-    requires workable { Workable n lines.now files.now regular.now corrections.now entries.old }
-    requires ready { Ready n files.now regular.now corrections.now wanted.now w keys.now places.now c }
-    requires in_file { InFile regular.now corrections.now f start f.count }
-    requires j_lt_count { j < f.count }
-    requires tagged { Tagged (filed_from (records_at regular.now corrections.now) f start) wanted.now w }
-    ensures { RecordRenewed (read_files files.now regular.now corrections.now) (filed_from (records_at regular.now corrections.now) f start) j lines.now entries.old entries.new result }
+    requires workable { let f = index.now.filed in Workable f.n lines.now f.files.now f.journals.regular.now f.journals.corrections.now entries.old }
+    requires j_lt_count { j < file.now.records.file.count }
+    ensures { let f = index.now.filed in let r = file.now.records in RecordRenewed (read_files f.files.now f.journals.regular.now f.journals.corrections.now) (filed_from (records_at r.journals.regular.now r.journals.corrections.now) r.file r.start) j lines.now entries.old entries.new result }
 {
-    let number = named::number_at(regular, corrections, f, start, j);
-    if named::named_before(regular, corrections, f, start, j, number, wanted, w) {
+    let number = named::number_at(&file.records, j);
+    if named::named_before(file, j, number) {
         return 0;
     }
-    renew_number(
-        lines,
-        files,
-        n,
-        regular,
-        corrections,
-        wanted,
-        w,
-        keys,
-        places,
-        c,
-        room,
-        entries,
-        number,
-    )
+    renew_number(lines, index, room, entries, number)
 }

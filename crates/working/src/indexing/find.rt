@@ -13,31 +13,32 @@ use crate::{gather, work};
 use entries::entry::Line;
 use fields::number::Number;
 
-// An index of the first files for the wanted first fields: the keys of the records that may name one, and their places grouped.
+// An index of the first files for the wanted first fields: the keys of the records that may name one, and their places grouped. It reads
+// the store ('s) and what is wanted ('w), and stands in room of its own ('r).
 #[derive(Clone, Copy)]
-pub struct Index<'a> {
-    pub filed: Filed<'a>,
-    pub wanted: Tags<'a>,
-    pub keys: &'a [u64; 10240],
-    pub places: Tags<'a>,
+pub struct Index<'s, 'w, 'r> {
+    pub filed: Filed<'s>,
+    pub wanted: Tags<'w>,
+    pub keys: &'r [u64; 10240],
+    pub places: Tags<'r>,
     pub ghost indexed: { Indexed filed.n filed.files.now filed.journals.regular.now filed.journals.corrections.now (take wanted.count wanted.words.now) keys.now places.words.now places.count },
 }
 
-impl<'a> Index<'a> {
+impl<'s, 'w, 'r> Index<'s, 'w, 'r> {
     // The index of the first files for the wanted first fields, in the room for its keys and its places.
     pub fn new(
-        filed: &Filed<'a>,
-        wanted: &Tags<'a>,
-        keys: &'a mut [u64; 10240],
-        places: &'a mut [u64; 10240],
-    ) -> Index<'a>
-        ensures filed { result.filed ≡ filed.now }
-        ensures wanted { result.wanted ≡ wanted.now }
+        filed: Filed<'s>,
+        wanted: Tags<'w>,
+        keys: &'r mut [u64; 10240],
+        places: &'r mut [u64; 10240],
+    ) -> Index<'s, 'w, 'r>
+        ensures filed { result.filed ≡ filed.entry }
+        ensures wanted { result.wanted ≡ wanted.entry }
     {
-        let count = index::index(filed, wanted, keys, places);
+        let count = index::index(&filed, &wanted, keys, places);
         Index {
-            filed: *filed,
-            wanted: *wanted,
+            filed,
+            wanted,
             keys,
             places: Tags {
                 words: places,

@@ -1,7 +1,7 @@
--- `filing::renewing::named::lay_tags` meets its contract: the tags of the first i records are laid. Assumes nothing.
+-- `filing::renewing::named::lay_tags` meets its contract: the loop's invariant is the contract over the first i records. Assumes nothing.
 use mathlib.Core.Path.{◌≡◌}
-use Prim.Native.Nat.{ℕ, ◌-◌, ◌≤◌}
-use lib.ListN.{length, take}
+use Prim.Native.Nat.{ℕ}
+use lib.ListN.{take}
 use Rattle.laws.specs.Lists.{table}
 use Rattle.order.specs.groups.Groups.{tag}
 use Rattle.store.specs.journals.Reads.{records_at}
@@ -10,7 +10,5 @@ use Rattle.filing.proofs.renewing.named.lay_tags.Given as goal
 
 abbrev pub invariant-loop-i : goal.invariant-loop-i
 invariant-loop-i l =
-    (l.i ≤ l.count) × (length l.wanted ≡ length l.initial.wanted) × (take l.i l.wanted ≡ table l.i (λ (k : ℕ). tag (front_from (filed_from (records_at l.regular l.corrections) l.f l.start) k) k))
-
-abbrev pub decreases-loop-i : goal.decreases-loop-i
-decreases-loop-i l = l.count - l.i
+    let r = l.records in
+    take l.i l.wanted ≡ table l.i (λ (k : ℕ). tag (front_from (filed_from (records_at r.journals.regular.now r.journals.corrections.now) r.file r.start) k) k)

@@ -2,49 +2,25 @@
 use mathlib.Core.Path.{ap, ◌∙◌}
 use Prim.Native.Nat.{ℕ, ◌%◌, ◌≤◌}
 use native.Mathlib.Omega.{arith}
-use lib.ListN.{take, length-take}
-use Rattle.laws.specs.Lists.{any}
+use borrow.Author.Rules.{rules}
+use borrow.Author.Tests.{tests}
+use Rattle.std.specs.List.{list_any}
+use Rattle.std.proofs.lemmas.Iterator.{YieldsList-from_slice}
+use Rattle.std.proofs.lemmas.Iterator.Search.{any_from_yields_List}
 use Rattle.store.specs.journals.Reads.{records_at}
-use Rattle.working.specs.indexing.Index.{front}
-use Rattle.working.proofs.indexing.Grouping.{group-within, group_at}
 use Rattle.filing.specs.renewing.Turns.{filed_from, earlier}
-use Rattle.filing.proofs.renewing.Repeats.{tagged-ordered, named-group}
+use Rattle.filing.proofs.renewing.Repeats.{named-group}
+use Rattle.filing.proofs.renewing.Some.{any_as_std}
 use Rattle.filing.proofs.renewing.Stages.{all_read}
 use Rattle.filing.proofs.renewing.named.named_before.Goals as goal
 
-pub search-from-requires : goal.search-from-requires
-search-from-requires c =
-    let args = c.args in
-    let t = c.requires.tagged in
-    record { n_bound = t.few; keys_value = tagged-ordered (filed_from (records_at args.regular.now args.corrections.now) args.f args.start) args.wanted.now args.w t }
-
-pub search-to-requires : goal.search-to-requires
-search-to-requires c =
-    let args = c.args in
-    let t = c.requires.tagged in
-    record { n_bound = t.few; keys_value = tagged-ordered (filed_from (records_at args.regular.now args.corrections.now) args.f args.start) args.wanted.now args.w t }
-
-pub overflow_sub-to : goal.overflow_sub-to
-overflow_sub-to c =
-    let args = c.args in
-    let in_order = tagged-ordered (filed_from (records_at args.regular.now args.corrections.now) args.f args.start) args.wanted.now args.w c.requires.tagged in
-    omega (arith, (group-within (take args.w args.wanted.now) (front args.number.first.0) in_order c.search-from.result c.search-to.result c.search-from.ensures c.search-to.ensures).0)
-
-pub named_among_all-requires : goal.named_among_all-requires
-named_among_all-requires c =
-    let args = c.args in
-    let in_order = tagged-ordered (filed_from (records_at args.regular.now args.corrections.now) args.f args.start) args.wanted.now args.w c.requires.tagged in
-    let within = group-within (take args.w args.wanted.now) (front args.number.first.0) in_order c.search-from.result c.search-to.result c.search-from.ensures c.search-to.ensures in
-    record { in_file = c.requires.in_file; j_le_count = (c.requires.j_le_count, c.requires.tagged.few, omega (arith, within.0, within.1, length-take args.w args.wanted.now)) }
-
 pub returns : goal.returns
 returns c =
-    let args = c.args in
-    let f = filed_from (records_at args.regular.now args.corrections.now) args.f args.start in
-    let t = c.requires.tagged in
-    let in_order = tagged-ordered f args.wanted.now args.w t in
-    let all : args.j ≤ args.w = omega (arith, c.requires.j_le_count, t.counted, all_read (records_at args.regular.now args.corrections.now) args.f args.start) in
-    c.named_among_all.ensures
-    ∙ ap (any (λ (g : ℕ). earlier f args.j args.number (g % 16384)))
-    (group_at (take args.w args.wanted.now) (front args.number.first.0) in_order c.search-from.result c.search-to.result c.search-from.ensures c.search-to.ensures)
-    ∙ named-group f args.wanted.now args.w t args.j all args.number
+    let file = c.args.file.now in
+    let r = records_at file.records.journals.regular.now file.records.journals.corrections.now in
+    let f = filed_from r file.records.file file.records.start in
+    let all : c.args.j ≤ file.tags.count = omega (arith, c.requires, file.tagged.counted, all_read r file.records.file file.records.start) in
+    any_from_yields_List (λ (g : ℕ). earlier f c.args.j c.args.number (g % 16384)) _ _ c.any.result c.any.ensures.ran (YieldsList-from_slice c.group.result.now cc) (λ x b q k. search (rules, tests))
+    ∙ ap (list_any (λ (g : ℕ). earlier f c.args.j c.args.number (g % 16384))) c.group.ensures
+    ∙ any_as_std (λ (g : ℕ). earlier f c.args.j c.args.number (g % 16384)) _
+    ∙ named-group f file.tags.words.now file.tags.count file.tagged c.args.j all c.args.number

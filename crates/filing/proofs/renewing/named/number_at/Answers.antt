@@ -5,6 +5,6 @@ use Rattle.filing.proofs.renewing.named.number_at.Goals as goal
 
 pub returns : goal.returns
 returns c =
-    let args = c.args in
-    rw (c.number_in.ensures, c.record_at-bytes.ensures)
-    (number_read (records_at args.regular.now args.corrections.now) args.f args.start args.place c.requires.place_lt_count)
+    let r = c.args.records.now in
+    rw (c.number_in.ensures, c.bytes.ensures)
+    (number_read (records_at r.journals.regular.now r.journals.corrections.now) r.file r.start c.args.place c.requires)
