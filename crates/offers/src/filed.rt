@@ -1,7 +1,7 @@
 // What is asked of the library: one file, filed. Why a file is refused with 4 is said at once, since its text is at hand.
 ghost use Rattle.std.specs.Prelude.{◌≡◌};
 ghost use Rattle.store.specs.Reads.{lent};
-ghost use Rattle.filing.specs.declared.checking.answer.Answer.TheVariants.{Fault};
+ghost use Rattle.filing.specs.declared.checking.answer.Refusal.TheVariants.{Fault};
 ghost use Rattle.offers.specs.Filed.{plainly, told_of, FilesTold};
 
 use crate::kept::Told;
@@ -9,11 +9,11 @@ use calendar::dates::CalendarDays;
 use desk::Host;
 use disk::{CORRECTIONS, ENTRIES, FILES, REGULAR, TABLE};
 use faults::cause::{Cause, FaultPlace};
-use filing::checking::answer::Answer;
+use filing::checking::answer::Refusal;
 use filing::entering::kind::Filable;
 
 // An answer that is its number, and the count of a 0.
-fn plain(a: Answer, value: usize) -> Told
+fn plain(a: Result<usize, Refusal>, value: usize) -> Told
     ensures { result ≡ plainly a value }
 {
     Told {
@@ -32,7 +32,7 @@ fn fault(
     at: FaultPlace,
     cause: Cause,
 ) -> Told
-    ensures { result ≡ told_of (Fault at cause) }
+    ensures { result ≡ told_of (Err (Fault at cause)) }
 {
     words::fault::refused(rt, path, kind.file_kind(), text, at, cause);
     Told {
@@ -43,17 +43,19 @@ fn fault(
     }
 }
 
-fn as_told(rt: &impl Host, path: &[u8], kind: Filable, text: &[u8], a: Answer) -> Told
+fn as_told(
+    rt: &impl Host,
+    path: &[u8],
+    kind: Filable,
+    text: &[u8],
+    a: Result<usize, Refusal>,
+) -> Told
     ensures { result ≡ told_of a }
 {
     match a {
-        Answer::Filed(count) => plain(a, count),
-        Answer::Fault(at, cause) => fault(rt, path, kind, text, at, cause),
-        Answer::Unreadable => plain(a, 0),
-        Answer::NoCode => plain(a, 0),
-        Answer::NoDay => plain(a, 0),
-        Answer::FiledAlready => plain(a, 0),
-        Answer::Full => plain(a, 0),
+        Ok(count) => plain(a, count),
+        Err(Refusal::Fault(at, cause)) => fault(rt, path, kind, text, at, cause),
+        Err(_) => plain(a, 0),
     }
 }
 
