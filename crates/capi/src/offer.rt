@@ -9,7 +9,7 @@ use crate::days::NO_DAY;
 use crate::told;
 use crate::told::Numbers;
 use calendar::dates::CalendarDays;
-use filing::checking::answer::Answer;
+use filing::checking::answer::Refusal;
 use filing::entering::kind::Filable;
 use filing::file;
 
@@ -33,17 +33,17 @@ fn day_for(kind: u8, day: u16) -> u16
     NO_DAY
 }
 
-fn tell(a: Answer) -> Numbers
+fn tell(a: Result<usize, Refusal>) -> Numbers
     ensures { result ≡ in_numbers 0 (answer_told a) }
 {
     match a {
-        Answer::Filed(n) => told::with(0, n),
-        Answer::Unreadable => told::alone(44),
-        Answer::NoCode => told::alone(1),
-        Answer::NoDay => told::alone(2),
-        Answer::FiledAlready => told::alone(3),
-        Answer::Fault(at, cause) => told::fault(at, cause),
-        Answer::Full => told::alone(5),
+        Ok(n) => told::with(0, n),
+        Err(Refusal::Unreadable) => told::alone(44),
+        Err(Refusal::NoCode) => told::alone(1),
+        Err(Refusal::NoDay) => told::alone(2),
+        Err(Refusal::FiledAlready) => told::alone(3),
+        Err(Refusal::Fault(at, cause)) => told::fault(at, cause),
+        Err(Refusal::Full) => told::alone(5),
     }
 }
 

@@ -4,9 +4,8 @@ ghost use Rattle.filing.specs.entering.Entering.{filed_as, Enterable};
 ghost use Rattle.store.specs.Reads.{lent};
 ghost use Rattle.filing.specs.Effect.{Files, Accepted};
 
-use crate::checking::answer::Answer;
+use crate::checking::answer::Refusal;
 use crate::checking::check;
-use crate::checking::check::Checked;
 use crate::entering::enter;
 use crate::entering::kind::Filable;
 use crate::renewing::renew;
@@ -47,25 +46,23 @@ pub fn file(
     publisher: &[u8],
     day: CalendarDays,
     text: &[u8],
-) -> Answer
+) -> Result<usize, Refusal>
     ensures { Files (lent table.now files.old regular.old corrections.old entries.old) kind publisher.now day.0 text.now result (lent table.now files.new regular.new corrections.new entries.new) }
 {
     if !readable::readable(table, files, regular, corrections, entries) {
-        return Answer::Unreadable;
+        return Err(Refusal::Unreadable);
     }
-    match check::check(files, kind, publisher, day, text) {
-        Checked::Refused(a) => a,
-        Checked::Passed(code, m) => Answer::Filed(accept(
-            table,
-            files,
-            regular,
-            corrections,
-            entries,
-            kind,
-            code,
-            day,
-            text,
-            m,
-        )),
-    }
+    let (code, m) = check::check(files, kind, publisher, day, text)?;
+    Ok(accept(
+        table,
+        files,
+        regular,
+        corrections,
+        entries,
+        kind,
+        code,
+        day,
+        text,
+        m,
+    ))
 }

@@ -7,7 +7,7 @@ use Rattle.desk.specs.declared.failure.Failure.{Failure}
 use Rattle.records.specs.declared.names.kind.FileKind.{FileKind}
 use Rattle.store.specs.Reads.{Buffers}
 use Rattle.filing.specs.declared.entering.kind.Filable.{Filable}
-use Rattle.filing.specs.declared.checking.answer.Answer.{Answer}
+use Rattle.filing.specs.declared.checking.answer.Refusal.{Refusal as NotFiled}
 use Rattle.filing.specs.Effect.{Files}
 use Rattle.commands.specs.Given.{name_in}
 use Rattle.offers.specs.declared.offer.Heading.{Heading}
@@ -32,10 +32,10 @@ heading_or_none (Some h) = h
 heading_or_none None = heading Filable.Default (record { 0 = 65535 })
 
 -- what is answered is what filing answers to the bytes that were read
-abbrev pub FilesFrom : Buffers → Heading → List ℕ → List ℕ → Answer → Buffers → Type 0
+abbrev pub FilesFrom : Buffers → Heading → List ℕ → List ℕ → Result ℕ NotFiled → Buffers → Type 0
 FilesFrom b h publisher text answer after = (n : ℕ) × Files b h.kind publisher h.day.0 (take n text) answer after
 
 -- of a path, with the kind and the day that its name tells; where the file can't be read, nothing changes
-abbrev pub Offers : Buffers → List ℕ → List ℕ → List ℕ → Result Answer Failure → Buffers → Type 0
+abbrev pub Offers : Buffers → List ℕ → List ℕ → List ℕ → Result (Result ℕ NotFiled) Failure → Buffers → Type 0
 Offers b publisher path text (Ok answer) after = FilesFrom b (heading_or_none (heading_of (name_in path))) publisher text answer after
 Offers b publisher path text (Err failure) after = after ≡ b

@@ -8,7 +8,7 @@ use desk::{Ended, Failure, Host, Page, args};
 use disk::parts::HolidayList;
 use disk::saved::LoadError;
 use disk::{Books, lock, saved};
-use filing::checking::answer::Answer;
+use filing::checking::answer::Refusal as NotFiled;
 
 // How far the work has come, for a person who waits. What is said next is written over it, and is longer.
 fn progress(rt: &impl Host, k: usize, total: usize) {
@@ -51,7 +51,7 @@ fn file_loaded(
     if kept
         .as_slice()
         .iter()
-        .any(|answer| matches!(answer, Answer::Filed(_)))
+        .any(|answer| answer.is_ok())
     {
         if let Err(failure) = saved::save(rt, folder, books) {
             kept.clear();
@@ -75,7 +75,7 @@ fn file_locked(
         Err(LoadError::Missing) => Err(Failure::Fault),
         Err(LoadError::Damaged) => {
             for _ in 0..total {
-                kept.push(Answer::Unreadable);
+                kept.push(Err(NotFiled::Unreadable));
             }
             Err(Failure::Refused)
         }
@@ -90,7 +90,7 @@ fn print(rt: &impl Host, list: List<'_>, kept: &Kept, ended: Ended) -> Ended {
     end::done(rt, page, ended)?;
     if answers
         .iter()
-        .all(|answer| matches!(answer, Answer::Filed(_)))
+        .all(|answer| answer.is_ok())
     {
         Ok(())
     } else {

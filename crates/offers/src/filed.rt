@@ -5,7 +5,7 @@ ghost use Rattle.filing.specs.Effect.{Files};
 use calendar::dates::CalendarDays;
 use desk::Host;
 use disk::Books;
-use filing::checking::answer::Answer;
+use filing::checking::answer::Refusal as NotFiled;
 use filing::entering::kind::Filable;
 
 // Files a file, and answers what filing answers.
@@ -17,7 +17,7 @@ pub fn file(
     publisher: &[u8],
     day: CalendarDays,
     text: &[u8],
-) -> Answer
+) -> Result<usize, NotFiled>
     ensures { Files (buffers_of books.old) kind publisher.now day.0 text.now result (buffers_of books.new) }
 {
     let answer = filing::file::file(
@@ -31,7 +31,7 @@ pub fn file(
         day,
         text,
     );
-    if let Answer::Fault(at, cause) = answer {
+    if let Err(NotFiled::Fault(at, cause)) = answer {
         words::fault::refused(rt, path, kind.file_kind(), text, at, cause);
     }
     answer

@@ -2,12 +2,12 @@
 ghost use Rattle.std.specs.Prelude.{◌≡◌, ◌≤◌};
 
 use crate::MOST;
-use filing::checking::answer::Answer;
+use filing::checking::answer::Refusal as NotFiled;
 
 // As many as stand in the front of the array.
 #[derive(Drop)]
 pub struct Kept {
-    answers: [Answer; MOST],
+    answers: [Result<usize, NotFiled>; MOST],
     count: usize,
     ghost fits: { count ≤ 16384 },
 }
@@ -20,13 +20,13 @@ impl Kept {
         ensures { kept result ≡ [] }
     {
         Kept {
-            answers: [Answer::Unreadable; MOST],
+            answers: [Err(NotFiled::Unreadable); MOST],
             count: 0,
         }
     }
 
     // Keeps one answer more; there is no place for one behind the last.
-    pub fn push(&mut self, answer: Answer)
+    pub fn push(&mut self, answer: Result<usize, NotFiled>)
         ensures { kept self.new ≡ with_answer (kept self.old) answer }
     {
         if self.count < MOST {
@@ -41,7 +41,7 @@ impl Kept {
         self.count = 0;
     }
 
-    pub fn as_slice(&self) -> &[Answer]
+    pub fn as_slice(&self) -> &[Result<usize, NotFiled>]
         ensures { result.now ≡ kept self.now }
     {
         &self.answers[..self.count]

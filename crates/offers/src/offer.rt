@@ -11,7 +11,7 @@ use commands::{LONGEST, given};
 use desk::{Failure, Host};
 use disk::Books;
 use fields::code::Code;
-use filing::checking::answer::Answer;
+use filing::checking::answer::Refusal as NotFiled;
 use filing::entering::kind::Filable;
 use records::names::kind::FileKind;
 
@@ -51,7 +51,7 @@ pub fn offer(
     offer: Offer<'_>,
     text: &mut [u8; LONGEST],
     books: &mut Books,
-) -> Result<Answer, Failure>
+) -> Result<Result<usize, NotFiled>, Failure>
     ensures { Offers (buffers_of books.old) offer.entry.publisher.now offer.entry.path.now text.new result (buffers_of books.new) }
 {
     let Offer { publisher, path } = offer;

@@ -19,7 +19,7 @@ ghost use Rattle.phases.specs.Phases.{filable_by, passed};
 use calendar::dates::CalendarDays;
 use fields::code::Code;
 use filing::checking::check;
-use filing::checking::check::Checked;
+use filing::checking::answer::Refusal;
 use filing::entering::enter;
 use filing::entering::kind::Filable;
 use filing::renewing::renew;
@@ -35,12 +35,12 @@ fn filable_by(kind: u8) -> Filable
 }
 
 // How many records a file has that passed the checks; 0 where it did not.
-fn passed(c: Checked) -> u64
+fn passed(c: Result<(Code, usize), Refusal>) -> u64
     ensures { result ≡ passed c }
 {
     match c {
-        Checked::Refused(_) => 0,
-        Checked::Passed(_, m) => m as u64,
+        Ok((_, m)) => m as u64,
+        Err(_) => 0,
     }
 }
 

@@ -69,7 +69,7 @@ use Rattle.starting.specs.tables.Given.{table_of}
 use Rattle.starting.specs.Start.{Starts, started_with}
 use Rattle.starting.proofs.Readable.{started-reads}
 use Rattle.filing.specs.declared.entering.kind.Filable.{Filable}
-use Rattle.filing.specs.declared.checking.answer.Answer.{Answer}
+use Rattle.filing.specs.declared.checking.answer.Refusal.{Refusal}
 use Rattle.filing.specs.Effect.{Files, Came}
 use Rattle.std.specs.Prelude.{Ok}
 use Rattle.asking.specs.Items.{item_at}
@@ -109,7 +109,7 @@ pub refused-leaves-every-byte : {number : ℕ} {before after : List (List ℕ)} 
 refused-leaves-every-byte = refused
 
 -- "checks in this order": the number that filing answers is that of the first line of the paper's table that applies, and 0 where none does
-pub filing-answers-by-the-table : {b after : Buffers} {kind : Filable} {publisher : List ℕ} {day : ℕ} {text : List ℕ} {answer : Answer} → Files b kind publisher day text answer after
+pub filing-answers-by-the-table : {b after : Buffers} {kind : Filable} {publisher : List ℕ} {day : ℕ} {text : List ℕ} {answer : Result ℕ Refusal} → Files b kind publisher day text answer after
     → filed_number answer ≡ first_line (filing_table b kind publisher day text) 0
 filing-answers-by-the-table s = answers-by-table s
 
@@ -132,7 +132,7 @@ started-as-given-c s = started-as-given (done-c s)
 
 -- "exactly this file's records join their journal behind the stored ones, which keep their bytes; the entries of the numbers named are worked out afresh,
 -- the others keep theirs"; "answer 0 carries the count of journal records, in both journals and after filing, whose number is named by some record of this file"
-pub filed-joins-and-renews : {b after : Buffers} {kind : Filable} {publisher : List ℕ} {day : ℕ} {text : List ℕ} {count : ℕ} → Files b kind publisher day text (Answer.Filed count) after
+pub filed-joins-and-renews : {b after : Buffers} {kind : Filable} {publisher : List ℕ} {day : ℕ} {text : List ℕ} {count : ℕ} → Files b kind publisher day text (Ok count) after
     → JoinedAndRenewed b kind publisher day text count after
 filed-joins-and-renews s = joined-and-renewed s
 
@@ -175,7 +175,7 @@ pub entries-are-worked-afresh : {b : Buffers} → InUse b
 entries-are-worked-afresh u = (in-use-reads u, entries-afresh u, entry-afresh u)
 
 -- filing leaves the bytes of the entry of each number that no record of the file names
-pub other-entries-untouched : {b after : Buffers} {kind : Filable} {publisher : List ℕ} {day : ℕ} {text : List ℕ} {count : ℕ} → Files b kind publisher day text (Answer.Filed count) after
+pub other-entries-untouched : {b after : Buffers} {kind : Filable} {publisher : List ℕ} {day : ℕ} {text : List ℕ} {count : ℕ} → Files b kind publisher day text (Ok count) after
     → (k : ℕ) → k < line_count b.table → named_in kind text (line_at b.table k).number ≡ false → slot_at 0 100 after.entries k ≡ slot_at 0 100 b.entries k
 other-entries-untouched s = (joined-and-renewed s).untouched
 

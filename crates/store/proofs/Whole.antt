@@ -51,9 +51,9 @@ module _ (t : List ℕ) (e : good_table t ≡ true) where
       and_left (all good_line (lines_of t)) (none_twice same_number (table (line_count t) (number_at t)))
       (and_right (leb (line_count t) 1024) (all good_line (lines_of t) && none_twice same_number (table (line_count t) (number_at t))) e)
 
-  pub numbers_once : none_twice same_number (table (line_count t) (number_at t)) ≡ true
+  pub numbers-once : none_twice same_number (table (line_count t) (number_at t)) ≡ true
   unfolding good_table
-  numbers_once =
+  numbers-once =
       and_right (all good_line (lines_of t)) (none_twice same_number (table (line_count t) (number_at t)))
       (and_right (leb (line_count t) 1024) (all good_line (lines_of t) && none_twice same_number (table (line_count t) (number_at t))) e)
 

@@ -3,26 +3,26 @@ use crate::{line, print};
 use calendar::dates::CalendarDays;
 use desk::Host;
 use filing::checking::answer;
-use filing::checking::answer::Answer;
+use filing::checking::answer::Refusal;
 use filing::entering::kind::Filable;
 use filing::file;
 
 // What was answered: the number, with the count or the place where it has one.
-fn said(rt: &impl Host, line: &[u8], w: &[u8], a: Answer) {
+fn said(rt: &impl Host, line: &[u8], w: &[u8], a: Result<usize, Refusal>) {
     print::text(rt, line::field(line, 1));
     print::count(rt, w, print::ANSWER, answer::number(a) as usize);
     match a {
-        Answer::Filed(n) => {
+        Ok(n) => {
             print::count(rt, w, print::COUNT, n);
             print::end(rt);
         }
-        Answer::Fault(at, _) => print::count(rt, w, print::PLACE, at.place),
+        Err(Refusal::Fault(at, _)) => print::count(rt, w, print::PLACE, at.place),
         _ => {}
     }
 }
 
 // Whether the file was filed; what was answered is said where it is offered once.
-fn told(rt: &impl Host, line: &[u8], w: &[u8], a: Answer) -> bool {
+fn told(rt: &impl Host, line: &[u8], w: &[u8], a: Result<usize, Refusal>) -> bool {
     if line::number(line, 8) == 0 {
         said(rt, line, w, a);
     }

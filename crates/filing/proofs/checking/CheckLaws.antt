@@ -1,6 +1,8 @@
 -- What the checks come to, as the code finds out. Assumes nothing.
 --     used-fits, room-left, room-none     whether there is room
 --     day-outside, day-alike, day-new     the day, then the files alike
+use Rattle.filing.specs.declared.checking.answer.Refusal.{Refusal}
+use Rattle.std.specs.Prelude.{Err}
 use Rattle.std.specs.Prelude.{Result}
 use Rattle.files.specs.declared.judge.Fault.{Fault}
 use mathlib.Core.Path.{◌≡◌, sym, ap, ◌∙◌}
@@ -21,10 +23,16 @@ use Rattle.store.proofs.Checks.{few-reports, few-corrections, counted}
 use Rattle.filing.specs.declared.entering.kind.Filable.{Filable}
 use Rattle.filing.specs.declared.entering.kind.Filable.TheVariants.{Default, Correction}
 use Rattle.filing.specs.entering.Entering.{kind_number, most}
-use Rattle.filing.specs.declared.checking.answer.Answer.TheVariants.{NoDay, FiledAlready}
-use Rattle.filing.specs.declared.checking.check.Checked.{Checked}
-use Rattle.filing.specs.declared.checking.check.Checked.TheVariants.{Refused}
+use Rattle.filing.specs.declared.checking.answer.Refusal.TheVariants.{NoDay, FiledAlready}
 use Rattle.filing.specs.checking.Checks.{has_room, text_checked, sought, day_checked}
+use Rattle.store.specs.declared.journals.files.File.{File}
+use Rattle.std.specs.List.{list_any, range_with_len}
+use Rattle.store.proofs.Ranges.{any_of_table}
+
+-- the files, one by one, as std's iterators go through them
+pub any_in_files : (p : File → Bool) (files : List ℕ) → list_any (λ k. p (file_at files k)) (range_with_len 0 (file_count files)) ≡ any p (files_of files)
+unfolding files_of
+any_in_files p files = any_of_table (file_at files) p (file_count files)
 
 -- ---- the room
 
@@ -59,7 +67,7 @@ room-none f kind n m p h = rw (← p, le-ltb n 1024 h)
 
 -- ---- the day, then the files alike
 module _ (files : List ℕ) (kind : Filable) (c : Code) (day : ℕ) (text : Result ℕ Fault) where
-  pub day-outside : in_calendar day ≡ false → Refused NoDay ≡ day_checked files kind c day text
+  pub day-outside : in_calendar day ≡ false → Err NoDay ≡ day_checked files kind c day text
   unfolding day_checked
   day-outside e = rw e
 
@@ -68,10 +76,10 @@ module _ (files : List ℕ) (kind : Filable) (c : Code) (day : ℕ) (text : Resu
     alike : any (same_file (sought kind c.0 day)) (files_of files) ≡ found
     alike = sym (q ∙ ap (λ (n : ℕ). any (same_file (record { kind = n; publisher = c.0; day = day; count = 0 })) (files_of files)) p)
 
-    pub day-alike : found ≡ true → Refused FiledAlready ≡ day_checked files kind c day text
+    pub day-alike : found ≡ true → Err FiledAlready ≡ day_checked files kind c day text
     unfolding day_checked
     day-alike t = rw (e, alike, t)
 
-    pub day-new : found ≡ false → (r : Checked) → r ≡ text_checked (has_room files kind) c text → r ≡ day_checked files kind c day text
+    pub day-new : found ≡ false → (r : Result (Code × ℕ) Refusal) → r ≡ text_checked (has_room files kind) c text → r ≡ day_checked files kind c day text
     unfolding day_checked
     day-new t r s = rw (e, alike, t) s

@@ -4,12 +4,11 @@ ghost use Rattle.filing.specs.checking.Answers.{answer_number};
 
 use faults::cause::{Cause, FaultPlace};
 
-// Filed, with the count of the journal records whose number the file names; or a refusal: the buffers don't read as a store, the publisher
-// is no network code, the day is outside the calendar, a file alike is filed, a record breaks its layout
-// (where, and why), a limit would be passed.
+// Why a file is refused: the buffers don't read as a store, the publisher is no network code, the day is outside the calendar, a file
+// alike is filed, a record breaks its layout (where, and why), a limit would be passed. A file that is filed is answered with the count of
+// the journal records whose number it names.
 #[derive(Clone, Copy)]
-pub enum Answer {
-    Filed(usize),
+pub enum Refusal {
     Unreadable,
     NoCode,
     NoDay,
@@ -19,16 +18,16 @@ pub enum Answer {
 }
 
 // The paper's number of an answer.
-pub fn number(a: Answer) -> u8
+pub fn number(a: Result<usize, Refusal>) -> u8
     ensures { result ≡ answer_number a }
 {
     match a {
-        Answer::Filed(_) => 0,
-        Answer::Unreadable => 44,
-        Answer::NoCode => 1,
-        Answer::NoDay => 2,
-        Answer::FiledAlready => 3,
-        Answer::Fault(_, _) => 4,
-        Answer::Full => 5,
+        Ok(_) => 0,
+        Err(Refusal::Unreadable) => 44,
+        Err(Refusal::NoCode) => 1,
+        Err(Refusal::NoDay) => 2,
+        Err(Refusal::FiledAlready) => 3,
+        Err(Refusal::Fault(_, _)) => 4,
+        Err(Refusal::Full) => 5,
     }
 }

@@ -20,12 +20,10 @@ fn put_lines(journal: &mut [u8], width: usize, from: usize, text: &[u8], m: usiz
     ensures { journal.new ≡ journal_with width journal.old from (first_lines m text.now) }
 {
     let mut at: usize = 0;
-    let mut i: usize = 0;
-    while i < m {
+    for i in 0..m {
         let end = read::line_end(text, at);
         record::put(journal, width, from + i, &text[at..end]);
         at = end + 1;
-        i += 1;
     }
 }
 
@@ -71,11 +69,10 @@ pub fn enter(
     ensures { Joined (filed_as kind publisher.0 day.0 text.now) files.old regular.old corrections.old files.new regular.new corrections.new }
 {
     let n = store::journals::files::file_count(files);
-    let number = kind.number();
-    let from = sums::records_of(files, n, number);
+    let from = sums::records_of(files, n, kind.number());
     put_records(regular, corrections, kind, from, text, m);
     let file = File {
-        kind: number,
+        kind: kind.number(),
         publisher: publisher.0,
         day: day.0,
         count: m as u32,

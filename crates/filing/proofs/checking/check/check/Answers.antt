@@ -1,9 +1,0 @@
--- `filing::checking::check::check` meets its contract. Assumes nothing.
-use mathlib.Core.Path.{sym, ◌∙◌}
-use Rattle.filing.proofs.checking.check.check.Goals as goal
-
-pub returns-in_default : goal.returns-in_default
-returns-in_default c = rw (sym c.read.ensures ∙ c.in_default.is)
-
-pub returns : goal.returns
-returns c = rw (sym c.read.ensures ∙ c.in-Some.is) c.check_day.ensures
