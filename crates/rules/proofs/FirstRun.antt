@@ -2,19 +2,21 @@
 --     run-start            what is to be found is the run of all bytes behind 1, at most 11 digits long
 --     run_on               a digit: the run goes on behind it
 --     run-ended            a byte that is no digit ends it
---     run-last, run_none   behind 11 digits only a comma ends it; no byte left
+--     run_behind           behind 11 digits only a comma ends it
+--     run_none, run_none_behind     no byte is left
 use Rattle.std.specs.Prelude.{Some, None}
 use Rattle.std.specs.Char.{is_ascii_digit}
-use mathlib.Core.Path.{◌≡◌, refl, sym, ◌∙◌}
+use Rattle.std.specs.Prelude.{slice_get}
+use mathlib.Core.Path.{◌≡◌, refl, sym, ap, ◌∙◌}
 use mathlib.Core.Logic.{⊎_elim}
 use mathlib.Core.Bool.{Bool, true, false, cond, ◌&&◌}
 use mathlib.Core.List.{List, [], ◌∷◌}
-use Prim.Native.Nat.{ℕ, suc, ◌+◌, ◌-◌, ◌*◌, ◌<◌, ◌≤◌}
+use Prim.Native.Nat.{min, ℕ, suc, ◌+◌, ◌-◌, ◌*◌, ◌<◌, ◌≤◌}
 use native.Mathlib.Numerals.{add-one}
 use native.Mathlib.Omega.{arith}
 use borrow.Author.Tests.{ne_eqb, le-leb, lt-leb, leb-true}
 use lib.Dec.{eqb, leb}
-use lib.ListN.{length, get_or, drop, drop_of_length-le}
+use lib.ListN.{length, get_or, drop, length-drop, drop_of_length-le}
 use lib.Seq.{drop-cons}
 use Rattle.laws.specs.Lists.{all}
 use Rattle.laws.specs.Digits.{is_digit, all_digits, spelt}
@@ -98,13 +100,25 @@ module _ (s : List ℕ) (n i : ℕ) (h : i < length s) where
       let e : 11 - i ≡ suc (11 - (i + 1)) = omega arith in
       rw (at_byte, e) (run-digit n (11 - (i + 1)) (get_or s i 0) (drop (i + 1) s) d)
 
-  pub run-last : i ≡ 11 → run n (11 - i) (drop i s) ≡ cond (eqb (get_or s i 0) 44) n 1
-  run-last k =
-      let e : 11 - i ≡ 0 = omega arith in
-      rw (at_byte, e) (run-full n (get_or s i 0) (drop (i + 1) s))
-
   pub run-ended : is_digit (get_or s i 0) ≡ false → run n (11 - i) (drop i s) ≡ cond (eqb (get_or s i 0) 44) n 1
   run-ended d = rw at_byte (run-stop n (11 - i) (get_or s i 0) (drop (i + 1) s) d)
+
+-- behind 11 digits only a comma ends it
+pub run_behind : (s : List ℕ) (n m b : ℕ) → m ≡ min (length s) 11 → Some b ≡ slice_get (drop m s) 0 → run n (11 - m) (drop m s) ≡ cond (eqb b 44) n 1
+run_behind s n m b least e = go (drop m s) refl e
+  where
+    go : (left : List ℕ) → drop m s ≡ left → Some b ≡ slice_get left 0 → run n (11 - m) left ≡ cond (eqb b 44) n 1
+    go [] q e = absurd (let z : ◌≡◌ {A = ℕ} 0 1 = cc in omega arith)
+    go (x ∷ left) q e =
+        let full : 11 - m ≡ 0 = omega (arith, ap length q, length-drop m s) in
+        let same : x ≡ b = cc in
+        rw full (run-full n x left) ∙ ap (λ (y : ℕ). cond (eqb y 44) n 1) same
+
+-- no byte is left
+pub run_none_behind : (n k : ℕ) (left : List ℕ) → None ≡ slice_get left 0 → run n k left ≡ n
+unfolding run split all spelt
+run_none_behind n k [] e = rw (le-leb 0 k (omega arith))
+run_none_behind n k (x ∷ left) e = absurd (let z : ◌≡◌ {A = ℕ} 0 1 = cc in omega arith)
 
 pub run_none : (s : List ℕ) (n i : ℕ) → length s ≤ i → run n (11 - i) (drop i s) ≡ n
 unfolding run split all spelt

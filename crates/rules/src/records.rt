@@ -63,19 +63,18 @@ fn ended(b: u8, n: u64) -> u64
 fn first_field(s: &[u8]) -> u64
     ensures { result ≡ field_digits (digits_field_of (piece_of 44 s.now 0)) }
 {
-    let most = s.len().min(11);
+    let (field, behind) = s.split_at(s.len().min(11));
     let mut n: u64 = 1;
-    for i in 0..most {
-        let b = s[i];
+    for &b in field {
         if !b.is_ascii_digit() {
             return ended(b, n);
         }
         n = n * 10 + u64::from(b - b'0');
     }
-    if most < s.len() {
-        return ended(s[most], n);
+    match behind.first() {
+        Some(&b) => ended(b, n),
+        None => n,
     }
-    n
 }
 
 // The first number field of a record as far as its first comma: behind the code and "U:" of a correction.

@@ -9,5 +9,5 @@ use Rattle.rules.specs.Records.{field_digits}
 use Rattle.rules.proofs.FirstRun.{run}
 use Rattle.rules.proofs.records.first_field.Given as goal
 
-abbrev pub invariant-loop-i : goal.invariant-loop-i
-invariant-loop-i l = (field_digits (digits_field_of (piece_of 44 l.s 0)) ≡ run l.n (11 - l.i) (drop l.i l.s)) × (l.n < 2 * 10 ^ l.i)
+abbrev pub invariant-loop-b : goal.invariant-loop-b
+invariant-loop-b l = (field_digits (digits_field_of (piece_of 44 l.s 0)) ≡ run l.n (11 - l.b-index) (drop l.b-index l.s)) × (l.n < 2 * 10 ^ l.b-index)
