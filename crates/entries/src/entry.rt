@@ -12,6 +12,7 @@ pub const PLACES: usize = 8;
 
 // A place: an open report with its publication day and its place in its file. A free place has `taken` false and holds what
 // `free_place` in specs/ says, so that two entries with the same open reports in the same places are equal.
+// The flag stands beside the report, and not an Option around it, as `free_place`, `holds_open` and `no_two_equal` in specs/ have it.
 #[derive(Clone, Copy, PartialEq, Eq)]
 pub struct Place {
     pub taken: bool,
