@@ -67,13 +67,7 @@ fn rework_lines(
 }
 
 // The same with one pass over the journals for all lines.
-fn rework_all(
-    table: &[u8],
-    filed: &Filed,
-    entries: &mut [u8],
-    m: usize,
-    list: &mut [u16],
-) -> usize
+fn rework_all(table: &[u8], filed: &Filed, entries: &mut [u8], m: usize, list: &mut [u16]) -> usize
     requires m_in_bounds { (2 + m * 14 ≤ length table.now) × (m * 100 ≤ length entries.old) × (m ≤ length list.old) × (m ≤ 1024) }
     requires fitting { let f = filed.now in Fitting (take f.n (read_files f.files.now f.journals.regular.now f.journals.corrections.now)) table.now m }
     ensures { let f = filed.now in LinesReworked (take f.n (read_files f.files.now f.journals.regular.now f.journals.corrections.now)) table.now m entries.old entries.new list.old list.new result }
