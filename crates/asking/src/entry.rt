@@ -9,6 +9,7 @@ use entries::entry::Entry;
 use fields::number::Number;
 use store::numbers::{find, lines};
 use store::readable::ENTRIES_LENGTH;
+use working::filed::{Filed, Journals};
 
 // Whether table and entries have room, and how many lines there are is in range.
 #[tactic(auto, unfolding(crate::specs::Standing::has_entries))]
@@ -36,12 +37,12 @@ pub fn look(table: &[u8], entries: &[u8], number: Number) -> Result<Entry, NotSe
 
 // The entry of a number before the file at n arrived: a look.
 #[tactic(auto, using(crate::proofs::Showing::showable, crate::proofs::Lines::found_below, crate::proofs::Standings::before_unshowable, crate::proofs::Standings::before_unknown))]
-pub fn look_before<'a>(
+pub fn look_before(
     table: &[u8],
-    files: &'a [u8],
+    files: &[u8],
     n: usize,
-    regular: &'a [u8],
-    corrections: &'a [u8],
+    regular: &[u8],
+    corrections: &[u8],
     number: Number,
 ) -> Result<Entry, NotSeen>
     ensures { result ≡ before_looked table.now files.now regular.now corrections.now n number }
@@ -52,7 +53,13 @@ pub fn look_before<'a>(
     let Some(i) = find::find_line(table, number) else {
         return Err(NotSeen::UnknownNumber);
     };
-    let m = stand::files_among(files, n);
-    let s = stand::standing_at(table, files, m, regular, corrections, i);
-    Ok(s.entry)
+    let filed = Filed {
+        files,
+        n: stand::files_among(files, n),
+        journals: Journals {
+            regular,
+            corrections,
+        },
+    };
+    Ok(stand::standing_at(table, &filed, i).entry)
 }

@@ -5,7 +5,7 @@ ghost use Rattle.store.specs.journals.Files.{file_at};
 ghost use Rattle.store.specs.journals.Reads.{read_files};
 ghost use Rattle.store.specs.numbers.Lines.{line_count, line_at};
 ghost use Rattle.store.specs.Reads.{table_line};
-ghost use Rattle.working.specs.Working.{Sound, record_in};
+ghost use Rattle.working.specs.Working.{record_in};
 ghost use Rattle.asking.specs.Standing.{lines_in};
 ghost use Rattle.asking.specs.Record.{kind_of, Locates, said_by, point_verdict, asked_as, part_shown};
 ghost use Rattle.asking.specs.Looks.{record_looked};
@@ -23,7 +23,8 @@ use store::numbers::{find, lines};
 use verdict::step;
 use verdict::step::Record;
 use verdict::verdicts::Verdict;
-use working::{before, gather};
+use working::before;
+use working::filed::{Filed, Journals};
 
 // A filed record: its publisher, its publication day, its place in its file, its verdict.
 #[derive(Clone, Copy)]
@@ -77,80 +78,50 @@ fn locate(files: &[u8], n: usize, kind: u8, place: usize) -> Option<(usize, usiz
 }
 
 // What the record at a place of the file k says.
-fn said_at<'a>(
-    files: &'a [u8],
-    n: usize,
-    regular: &'a [u8],
-    corrections: &'a [u8],
-    k: usize,
-    at: usize,
-) -> Said
-    requires sound { Sound n files.now regular.now corrections.now }
-    requires k_lt_n { (k < n) × (at < (file_at files.now k).count) }
-    ensures { result ≡ said_by (record_in files.now regular.now corrections.now k at) }
+fn said_at(filed: &Filed, k: usize, at: usize) -> Said
+    requires { (k < filed.now.n) × (at < (file_at filed.now.files.now k).count) }
+    ensures { let j = filed.now.journals in result ≡ said_by (record_in filed.now.files.now j.regular.now j.corrections.now k at) }
 {
-    let f = files::file_at(files, k);
-    let start = sums::records_of(files, k, f.kind);
-    let bytes = gather::record_at(regular, corrections, f.kind, start + at);
-    let number = rules::records::number_in(f.kind, bytes);
-    let says = rules::records::says_in(f.kind, bytes);
+    let records = filed.records(k);
+    let file = records.file;
+    let bytes = records.bytes(at);
     Said {
-        number,
+        number: rules::records::number_in(file.kind, bytes),
         rec: Record {
-            publisher: Code(f.publisher),
-            day: CalendarDays(f.day),
+            publisher: Code(file.publisher),
+            day: CalendarDays(file.day),
             at: at as u32,
-            says,
+            says: rules::records::says_in(file.kind, bytes),
         },
     }
 }
 
 // The verdict on what a record says, at the point of the history that the record at a place of the file k has: the line of its number is
 // the line i.
-fn verdict_at<'a>(
-    table: &[u8],
-    files: &'a [u8],
-    n: usize,
-    regular: &'a [u8],
-    corrections: &'a [u8],
-    k: usize,
-    at: usize,
-    i: usize,
-    rec: Record,
-) -> Verdict
-    requires sound { Sound n files.now regular.now corrections.now }
-    requires k_lt_n { (k < n) × (at < (file_at files.now k).count) }
+fn verdict_at(table: &[u8], filed: &Filed, k: usize, at: usize, i: usize, rec: Record) -> Verdict
+    requires k_lt_n { (k < filed.now.n) × (at < (file_at filed.now.files.now k).count) }
     requires i_in_bounds { 2 + i * 14 + 14 ≤ length table.now }
-    ensures { result ≡ point_verdict (take n (read_files files.now regular.now corrections.now)) (record_in files.now regular.now corrections.now k at) rec (Some (table_line (line_at table.now i))) }
+    ensures { let f = filed.now in result ≡ point_verdict (take f.n (read_files f.files.now f.journals.regular.now f.journals.corrections.now)) (record_in f.files.now f.journals.regular.now f.journals.corrections.now k at) rec (Some (table_line (line_at table.now i))) }
 {
     let l = lines::line_at(table, i);
     let line = Line {
         owner: l.owner,
         setup: l.setup,
     };
-    let e = before::entry_before(files, n, regular, corrections, l.number, line, k, at);
+    let e = before::entry_before(filed, l.number, line, k, at);
     step::verdict(Some(line), e, rec)
 }
 
 // The record at a place of the file k, with its verdict; 12 where its number has no line.
 #[tactic(auto, using(crate::proofs::Lines::found_below, crate::proofs::Records::asked_unknown, crate::proofs::Records::asked_here))]
-fn asked_at<'a>(
-    table: &[u8],
-    files: &'a [u8],
-    n: usize,
-    regular: &'a [u8],
-    corrections: &'a [u8],
-    k: usize,
-    at: usize,
-) -> AskedRecord
-    requires sound { Sound n files.now regular.now corrections.now }
-    requires k_lt_n { (k < n) × (at < (file_at files.now k).count) }
+fn asked_at(table: &[u8], filed: &Filed, k: usize, at: usize) -> AskedRecord
+    requires k_lt_n { (k < filed.now.n) × (at < (file_at filed.now.files.now k).count) }
     requires table_in_bounds { 2 + line_count table.now * 14 ≤ length table.now }
-    ensures { result ≡ asked_as (lines_in table.now) (take n (read_files files.now regular.now corrections.now)) (record_in files.now regular.now corrections.now k at) }
+    ensures { let f = filed.now in result ≡ asked_as (lines_in table.now) (take f.n (read_files f.files.now f.journals.regular.now f.journals.corrections.now)) (record_in f.files.now f.journals.regular.now f.journals.corrections.now k at) }
 {
-    let s = said_at(files, n, regular, corrections, k, at);
+    let s = said_at(filed, k, at);
     let verdict = match find::find_line(table, s.number) {
-        Some(i) => verdict_at(table, files, n, regular, corrections, k, at, i, s.rec),
+        Some(i) => verdict_at(table, filed, k, at, i, s.rec),
         None => Verdict::UnknownNumber,
     };
     AskedRecord {
@@ -163,11 +134,11 @@ fn asked_at<'a>(
 
 // The record at a place of a journal: a look.
 #[tactic(auto, using(crate::proofs::Showing::showable, crate::proofs::Showing::sound, crate::proofs::Records::record_unshowable, crate::proofs::Records::asked_beyond))]
-pub fn look<'a>(
+pub fn look(
     table: &[u8],
-    files: &'a [u8],
-    regular: &'a [u8],
-    corrections: &'a [u8],
+    files: &[u8],
+    regular: &[u8],
+    corrections: &[u8],
     which: Journal,
     place: usize,
 ) -> Result<ShownRecord, RecordNotSeen>
@@ -180,10 +151,18 @@ pub fn look<'a>(
     let Some((k, at)) = locate(files, n, kind_of(which), place) else {
         return Err(RecordNotSeen::Beyond);
     };
+    let filed = Filed {
+        files,
+        n,
+        journals: Journals {
+            regular,
+            corrections,
+        },
+    };
     Ok(ShownRecord {
         journal: which,
         place,
-        shown: asked_at(table, files, n, regular, corrections, k, at),
+        shown: asked_at(table, &filed, k, at),
     })
 }
 

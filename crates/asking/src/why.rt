@@ -11,14 +11,15 @@ use fields::number::Number;
 use store::journals::records::{Journal, REPORTS};
 use store::journals::{files, records};
 use store::numbers::find;
+use working::filed::{Filed, Journals};
 
 // Why a number stands where it does: a look. It shows the pair that confirmed last, or that there is none.
 #[tactic(auto, using(crate::proofs::Showing::showable, crate::proofs::Showing::sound, crate::proofs::Showing::reports_first, crate::proofs::Lines::found_below, crate::proofs::Whys::why_unshowable, crate::proofs::Whys::why_unknown))]
-pub fn look<'a>(
+pub fn look(
     table: &[u8],
-    files: &'a [u8],
-    regular: &'a [u8],
-    corrections: &'a [u8],
+    files: &[u8],
+    regular: &[u8],
+    corrections: &[u8],
     number: Number,
 ) -> Result<Option<Pair>, NotSeen>
     ensures { result ≡ why_looked table.now files.now regular.now corrections.now number }
@@ -30,7 +31,15 @@ pub fn look<'a>(
         return Err(NotSeen::UnknownNumber);
     };
     let n = files::file_count(files);
-    let s = stand::standing_at(table, files, n, regular, corrections, i);
+    let filed = Filed {
+        files,
+        n,
+        journals: Journals {
+            regular,
+            corrections,
+        },
+    };
+    let s = stand::standing_at(table, &filed, i);
     Ok(pair_in(files, n, s.why))
 }
 

@@ -3,9 +3,7 @@ ghost use Rattle.std.specs.Prelude.{◌≡◌, ◌+◌, ◌*◌, ◌≤◌, ◌<
 ghost use Rattle.store.specs.journals.Reads.{read_files};
 ghost use Rattle.store.specs.entry_slots.Entries.{entry_at};
 ghost use Rattle.store.specs.Reads.{lent, reads};
-ghost use Rattle.working.specs.Working.{Sound};
 ghost use Rattle.entries.specs.comparing.Same.{same_entry};
-ghost use Rattle.working.specs.indexing.Index.{Wanted, Indexed};
 ghost use Rattle.asking.specs.answering.Figure.{differing, figure_asked};
 
 use crate::answer::Unreadable;
@@ -13,7 +11,9 @@ use store::journals::files;
 use store::numbers::lines;
 use store::readable;
 use verdict::step::Standing;
-use working::indexing::index;
+use working::filed::{Filed, Journals};
+use working::indexing::find::Index;
+use working::overview;
 
 // Whether the entry of the line i is another one than a standing has.
 fn is_other(entries: &[u8], i: usize, s: Standing) -> bool
@@ -26,99 +26,45 @@ fn is_other(entries: &[u8], i: usize, s: Standing) -> bool
 
 // How many of the first m entries differ, each line worked out from the index.
 #[tactic(auto, using(crate::proofs::answering::Figures::other_differs, crate::proofs::answering::Figures::differing_none, crate::proofs::answering::Figures::differing_more))]
-fn differing_by<'a>(
+fn differing_by(
     table: &[u8],
-    files: &'a [u8],
-    n: usize,
-    regular: &'a [u8],
-    corrections: &'a [u8],
+    index: &Index,
     entries: &[u8],
     m: usize,
-    wanted: &'a [u64; 10240],
-    keys: &'a [u64; 10240],
-    places: &'a [u64; 10240],
-    c: usize,
     room: &mut [u64; 10240],
 ) -> usize
-    requires sound { Sound n files.now regular.now corrections.now }
-    requires m_in_bounds { (2 + m * 14 ≤ length table.now) × (m * 100 ≤ length entries.now) × (m ≤ 1024) }
-    requires wanted { Wanted wanted.now m }
-    requires indexed { Indexed n files.now regular.now corrections.now (take m wanted.now) keys.now places.now c }
-    ensures { result ≡ differing (take n (read_files files.now regular.now corrections.now)) table.now entries.now m }
+    requires { (2 + m * 14 ≤ length table.now) × (m * 100 ≤ length entries.now) × (m ≤ 1024) }
+    ensures { let f = index.now.filed in result ≡ differing (take f.n (read_files f.files.now f.journals.regular.now f.journals.corrections.now)) table.now entries.now m }
 {
     let mut count = 0;
     for i in 0..m {
-        let s = working::overview::lines::line_standing(
-            table,
-            files,
-            n,
-            regular,
-            corrections,
-            wanted,
-            m,
-            keys,
-            places,
-            c,
-            i,
-            room,
-        );
+        let s = overview::lines::line_standing(table, index, i, room);
         count += usize::from(is_other(entries, i, s));
     }
     count
 }
 
 // How many of the first m entries differ: one pass over the journals for all lines.
-fn differing_among<'a>(
-    table: &[u8],
-    files: &'a [u8],
-    n: usize,
-    regular: &'a [u8],
-    corrections: &'a [u8],
-    entries: &[u8],
-    m: usize,
-) -> usize
-    requires sound { Sound n files.now regular.now corrections.now }
-    requires m_in_bounds { (2 + m * 14 ≤ length table.now) × (m * 100 ≤ length entries.now) × (m ≤ 1024) }
-    ensures { result ≡ differing (take n (read_files files.now regular.now corrections.now)) table.now entries.now m }
+fn differing_among(table: &[u8], filed: &Filed, entries: &[u8], m: usize) -> usize
+    requires { (2 + m * 14 ≤ length table.now) × (m * 100 ≤ length entries.now) × (m ≤ 1024) }
+    ensures { let f = filed.now in result ≡ differing (take f.n (read_files f.files.now f.journals.regular.now f.journals.corrections.now)) table.now entries.now m }
 {
     let mut wanted = [0u64; 10240];
     let mut keys = [0u64; 10240];
     let mut places = [0u64; 10240];
     let mut room = [0u64; 10240];
-    working::overview::lines::want_lines(table, m, &mut wanted);
-    let c = index::index(
-        files,
-        n,
-        regular,
-        corrections,
-        &wanted,
-        m,
-        &mut keys,
-        &mut places,
-    );
-    differing_by(
-        table,
-        files,
-        n,
-        regular,
-        corrections,
-        entries,
-        m,
-        &wanted,
-        &keys,
-        &places,
-        c,
-        &mut room,
-    )
+    let tags = overview::lines::want_lines(table, m, &mut wanted);
+    let index = Index::new(*filed, tags, &mut keys, &mut places);
+    differing_by(table, &index, entries, m, &mut room)
 }
 
 // The figure of a store; 44 before all else.
 #[tactic(auto, using(crate::proofs::answering::Readables::readable_showable, crate::proofs::answering::Readables::lines_room, crate::proofs::Showing::sound, crate::proofs::answering::Figures::figure_unread, crate::proofs::answering::Figures::figure_answer))]
-pub fn figure<'a>(
+pub fn figure(
     table: &[u8],
-    files: &'a [u8],
-    regular: &'a [u8],
-    corrections: &'a [u8],
+    files: &[u8],
+    regular: &[u8],
+    corrections: &[u8],
     entries: &[u8],
 ) -> Result<usize, Unreadable>
     ensures { result ≡ figure_asked (reads (lent table.now files.now regular.now corrections.now entries.now)) }
@@ -127,6 +73,14 @@ pub fn figure<'a>(
         return Err(Unreadable);
     }
     let n = files::file_count(files);
+    let filed = Filed {
+        files,
+        n,
+        journals: Journals {
+            regular,
+            corrections,
+        },
+    };
     let m = lines::line_count(table);
-    Ok(differing_among(table, files, n, regular, corrections, entries, m))
+    Ok(differing_among(table, &filed, entries, m))
 }

@@ -16,10 +16,11 @@ verdict_at-verdict-requires-clause-i_in_bounds c =
 pub returns : goal.returns
 returns c =
     let a = c.args in
+    let f = a.filed.now in
     let said = c.said_at-s in
-    let files = take a.n (read_files a.files.now a.regular.now a.corrections.now) in
+    let files = take f.n (read_files f.files.now f.journals.regular.now f.journals.corrections.now) in
     let m = c.match-find_line in
     elim m.branch [
-      | in-Some w ↦ asked_here a.table.now a.files.now a.regular.now a.corrections.now files a.k a.at c.requires.table_in_bounds said.result said.ensures w.in-Some.i (sym w.in-Some.is ∙ c.find_line.ensures) m.verdict (rw w.verdict-is w.verdict_at-verdict.ensures)
-      | in-None w ↦ rw w.verdict-is (asked_unknown a.table.now a.files.now a.regular.now a.corrections.now files a.k a.at c.requires.table_in_bounds said.result said.ensures (sym w.in-None.is ∙ c.find_line.ensures))
+      | in-Some w ↦ asked_here a.table.now f.files.now f.journals.regular.now f.journals.corrections.now files a.k a.at c.requires.table_in_bounds said.result said.ensures w.in-Some.i (sym w.in-Some.is ∙ c.find_line.ensures) m.verdict (rw w.verdict-is w.verdict_at-verdict.ensures)
+      | in-None w ↦ rw w.verdict-is (asked_unknown a.table.now f.files.now f.journals.regular.now f.journals.corrections.now files a.k a.at c.requires.table_in_bounds said.result said.ensures (sym w.in-None.is ∙ c.find_line.ensures))
     ]

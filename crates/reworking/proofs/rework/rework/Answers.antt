@@ -20,8 +20,8 @@ returns-then-not-readable c =
     let a = c.args in
     rework-unread (lent a.table.now a.files.now a.regular.now a.corrections.now a.entries.now) a.n a.list.now (omega (arith, c.if-list-lt-NUMBERS.false)) (sym c.readable.ensures ∙ c.if-not-readable.true)
 
-pub files_among-k-requires : goal.files_among-k-requires
-files_among-k-requires c =
+pub files_among-requires : goal.files_among-requires
+files_among-requires c =
     let a = c.args in
     let b = lent a.table.now a.files.now a.regular.now a.corrections.now a.entries.now in
     omega (arith, (long b (whole_long b (sym c.readable.ensures ∙ c.if-not-readable.false))).long-files)
@@ -32,6 +32,12 @@ line_count-m-requires c =
     let b = lent a.table.now a.files.now a.regular.now a.corrections.now a.entries.now in
     omega (arith, (long b (whole_long b (sym c.readable.ensures ∙ c.if-not-readable.false))).long-table)
 
+pub invariant_of-filed : goal.invariant_of-filed
+invariant_of-filed c =
+    let a = c.args in
+    let whole = sym c.readable.ensures ∙ c.if-not-readable.false in
+    record { sound = readable-sound a.table.now a.files.now a.regular.now a.corrections.now a.entries.now c.files_among.result whole (among_below a.n (file_count a.files.now) c.files_among.result c.files_among.ensures) }
+
 pub rework_all-requires : goal.rework_all-requires
 rework_all-requires c =
     let a = c.args in
@@ -39,14 +45,12 @@ rework_all-requires c =
     let whole = sym c.readable.ensures ∙ c.if-not-readable.false in
     let room = long b (whole_long b whole) in
     let few = few-lines a.table.now (whole-table b whole) in
-    let m = c.line_count-m.ensures.0 in
-    record {
-      sound = readable-sound a.table.now a.files.now a.regular.now a.corrections.now a.entries.now c.files_among-k.result whole (among_below a.n (file_count a.files.now) c.files_among-k.result c.files_among-k.ensures);
+    let m = c.line_count-m.ensures.0 in record {
       m_in_bounds = (omega (arith, room.long-table, few, m), omega (arith, room.long-entries, few, m), omega (arith, c.if-list-lt-NUMBERS.false, few, m), omega (arith, few, m));
-      fitting = store-fitting b whole c.files_among-k.result c.line_count-m.result m;
+      fitting = store-fitting b whole c.files_among.result c.line_count-m.result m;
     }
 
 pub returns : goal.returns
 returns c =
     let a = c.args in
-    rework-done (lent a.table.now a.files.now a.regular.now a.corrections.now a.entries.now) a.n a.list.now (omega (arith, c.if-list-lt-NUMBERS.false)) (sym c.readable.ensures ∙ c.if-not-readable.false) c.files_among-k.result c.line_count-m.result c.rework_all.result _ _ c.files_among-k.ensures c.line_count-m.ensures.0 c.rework_all.ensures
+    rework-done (lent a.table.now a.files.now a.regular.now a.corrections.now a.entries.now) a.n a.list.now (omega (arith, c.if-list-lt-NUMBERS.false)) (sym c.readable.ensures ∙ c.if-not-readable.false) c.files_among.result c.line_count-m.result c.rework_all.result _ _ c.files_among.ensures c.line_count-m.ensures.0 c.rework_all.ensures

@@ -7,4 +7,4 @@ use Rattle.asking.specs.answering.Figure.{differing}
 use Rattle.asking.proofs.answering.figure.differing_by.Given as goal
 
 abbrev pub invariant-loop-i : goal.invariant-loop-i
-invariant-loop-i l = (l.count ≤ l.i) × (l.count ≡ differing (take l.n (read_files l.files l.regular l.corrections)) l.table l.entries l.i)
+invariant-loop-i l = (l.count ≤ l.i) × (l.count ≡ differing (take l.index.filed.n (read_files l.index.filed.files.now l.index.filed.journals.regular.now l.index.filed.journals.corrections.now)) l.table l.entries l.i)
