@@ -28,5 +28,4 @@ kind_word Free = 0
 kind_word Outside = 2
 
 abbrev pub later_word : Option CalendarDays → ℕ
-later_word (Some d) = d.0
-later_word None = no_day
+later_word found = day_word found

@@ -1,100 +1,69 @@
 // Asking a whole store: 44 before all else.
-ghost use Rattle.std.specs.Prelude.{◌≡◌, [], ◌∷◌};
-ghost use Rattle.laws.specs.Told.{told};
+ghost use Rattle.std.specs.Prelude.{◌≡◌};
 ghost use Rattle.store.specs.Reads.{lent, reads};
-ghost use Rattle.asking.specs.Numbers.{why_told, record_values, asked_told};
+ghost use Rattle.asking.specs.Numbers.{why_told, asked_told};
 ghost use Rattle.asking.specs.answering.Whole.{number_given, why_asked, record_asked};
-ghost use Rattle.asking.specs.answering.Figure.{figure_asked, figure_told};
+ghost use Rattle.asking.specs.answering.Figure.{figure_asked};
 ghost use Rattle.capi.specs.Told.{in_numbers};
 ghost use Rattle.capi.specs.Ask.{journal_by, nowhere, TellsWhy, TellsRecord, TellsFigure};
 
 use crate::told::Numbers;
 use crate::{show, told};
-use asking::answer::{NoRecord, NotShown, Unreadable};
+use asking::answer::{NoRecord, NotShown};
 use asking::answering::{figure, whole};
 use asking::pairs::Pair;
-use asking::record::{AskedRecord, ShownRecord};
+use asking::record::ShownRecord;
 use store::journals::records::Journal;
 
 // ---- answers as numbers
 // What stands for no place in the regular journal: it is beyond all reports.
 pub const NOWHERE: u64 = 8192;
 
-// 0, and the places of a pair.
-fn pair(p: Pair) -> Numbers
-    ensures { result ≡ in_numbers nowhere (told 0 (p.first.place ∷ p.second.place ∷ [])) }
-{
-    Numbers {
-        number: 0,
-        first: p.first.place as u64,
-        second: p.second.place as u64,
-        third: NOWHERE,
-        fourth: NOWHERE,
+// Why: 0, and the places of a pair where there is one; 12; 44.
+impl From<Result<Option<Pair>, NotShown>> for Numbers {
+    ghost from_gives = { λ w n. n ≡ in_numbers nowhere (why_told w) };
+
+    fn from(why: Result<Option<Pair>, NotShown>) -> Numbers {
+        match why {
+            Ok(Some(pair)) => Numbers {
+                first: pair.first.place as u64,
+                second: pair.second.place as u64,
+                ..Numbers::without(0, NOWHERE)
+            },
+            Ok(None) => Numbers::without(0, NOWHERE),
+            Err(e) => Numbers::without(show::number(e), NOWHERE),
+        }
     }
 }
 
-// A number with which no pair goes.
-fn no_pair(number: u8) -> Numbers
-    ensures { result ≡ in_numbers nowhere (told number []) }
-{
-    Numbers {
-        number,
-        first: NOWHERE,
-        second: NOWHERE,
-        third: NOWHERE,
-        fourth: NOWHERE,
-    }
-}
+// A record: 0, and what is shown of it; 7; 44.
+impl From<Result<ShownRecord, NoRecord>> for Numbers {
+    ghost from_gives = { λ r n. n ≡ in_numbers 0 (asked_told r) };
 
-fn tell_why(w: Result<Option<Pair>, NotShown>) -> Numbers
-    ensures { result ≡ in_numbers nowhere (why_told w) }
-{
-    match w {
-        Ok(Some(p)) => pair(p),
-        Ok(None) => no_pair(0),
-        Err(e) => no_pair(show::number(e)),
+    fn from(record: Result<ShownRecord, NoRecord>) -> Numbers {
+        match record {
+            Ok(r) => Numbers {
+                number: 0,
+                first: r.shown.publisher.0 as u64,
+                second: r.shown.day.0 as u64,
+                third: r.shown.place as u64,
+                fourth: verdict::verdicts::number(r.shown.verdict) as u64,
+            },
+            Err(NoRecord::Beyond) => told::alone(7),
+            Err(NoRecord::Unreadable) => told::alone(44),
+        }
     }
 }
 
 // The journal by number: 0 the regular one, any other the correction journal.
+#[tactic(auto, unfolding(crate::specs::Ask::journal_by))]
 fn journal_by(journal: u8) -> Journal
     ensures { result ≡ journal_by journal }
 {
     if journal == 0 {
-        return Journal::Regular;
-    }
-    Journal::Correction
-}
-
-fn record_told(x: AskedRecord) -> Numbers
-    ensures { result ≡ in_numbers 0 (told 0 (record_values x)) }
-{
-    let v = x.verdict;
-    Numbers {
-        number: 0,
-        first: x.publisher.0 as u64,
-        second: x.day.0 as u64,
-        third: x.place as u64,
-        fourth: verdict::verdicts::number(v) as u64,
-    }
-}
-
-fn tell_record(r: Result<ShownRecord, NoRecord>) -> Numbers
-    ensures { result ≡ in_numbers 0 (asked_told r) }
-{
-    match r {
-        Ok(s) => record_told(s.shown),
-        Err(NoRecord::Beyond) => told::alone(7),
-        Err(NoRecord::Unreadable) => told::alone(44),
-    }
-}
-
-fn tell_figure(f: Result<usize, Unreadable>) -> Numbers
-    ensures { result ≡ in_numbers 0 (figure_told f) }
-{
-    match f {
-        Ok(n) => told::with(0, n),
-        Err(_) => told::alone(44),
+        Journal::Regular
+    } else {
+        Journal::Correction
     }
 }
 
@@ -116,7 +85,7 @@ pub fn dagskimra_why<'a>(
 {
     let number = whole::given(first, last);
     let w = whole::why(table, files, regular, corrections, entries, number);
-    let t = tell_why(w);
+    let t = Numbers::from(w);
     *one = t.first;
     *two = t.second;
     t.number
@@ -140,7 +109,7 @@ pub fn dagskimra_record<'a>(
 {
     let which = journal_by(journal);
     let x = whole::record(table, files, regular, corrections, entries, which, place);
-    let t = tell_record(x);
+    let t = Numbers::from(x);
     *publisher = t.first;
     *day = t.second;
     *at = t.third;
@@ -160,7 +129,7 @@ pub fn dagskimra_figure<'a>(
     ensures { TellsFigure (figure_asked (reads (lent table.now files.now regular.now corrections.now entries.now))) result more.new }
 {
     let f = figure::figure(table, files, regular, corrections, entries);
-    let t = tell_figure(f);
+    let t = Numbers::from(f);
     *more = t.first;
     t.number
 }

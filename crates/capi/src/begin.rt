@@ -11,13 +11,16 @@ use starting::start;
 use starting::start::NotStarted;
 use store::readable;
 
-fn tell(s: Result<usize, NotStarted>) -> Numbers
-    ensures { result ≡ in_numbers 0 (started_told s) }
-{
-    match s {
-        Ok(n) => told::with(0, n),
-        Err(NotStarted::Short) => told::alone(44),
-        Err(NotStarted::BadTable) => told::alone(6),
+// Starting: 0, and how many lines; 44; 6.
+impl From<Result<usize, NotStarted>> for Numbers {
+    ghost from_gives = { λ a n. n ≡ in_numbers 0 (started_told a) };
+
+    fn from(started: Result<usize, NotStarted>) -> Numbers {
+        match started {
+            Ok(n) => told::with(0, n),
+            Err(NotStarted::Short) => told::alone(44),
+            Err(NotStarted::BadTable) => told::alone(6),
+        }
     }
 }
 
@@ -34,7 +37,7 @@ pub fn dagskimra_start(
     ensures { StartsAs text.now (lent table.old files.old regular.old corrections.old entries.old) result more.new (lent table.new files.new regular.new corrections.new entries.new) }
 {
     let s = start::start(text, table, files, regular, corrections, entries);
-    let t = tell(s);
+    let t = Numbers::from(s);
     *more = t.first;
     t.number
 }

@@ -48,15 +48,6 @@ fn kind_word(kind: DayKind) -> u8
     }
 }
 
-fn later_word(later: Option<CalendarDays>) -> u16
-    ensures { result ≡ later_word later }
-{
-    match later {
-        Some(d) => d.0,
-        None => NO_DAY,
-    }
-}
-
 // ---- what is exported
 // The day of a date, or NO_DAY.
 pub fn dagskimra_day_of(year: u16, month: u8, day: u8) -> u16
@@ -83,7 +74,7 @@ pub fn dagskimra_kind_of_day(day: u16) -> u8
 pub fn dagskimra_working_day_after(day: u16, count: u8) -> u16
     ensures { result ≡ later_word (working_day_after day count) }
 {
-    later_word(working_days::working_day_after(CalendarDays(day), WorkingDays(count)))
+    day_word(working_days::working_day_after(CalendarDays(day), WorkingDays(count)))
 }
 
 // How many days the holiday list has, and its mark: entries that were worked out with another list are to be worked out again.

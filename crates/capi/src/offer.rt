@@ -14,36 +14,39 @@ use filing::entering::kind::Filable;
 use filing::file;
 
 // The kind that is filed: 0 default, any other number correction.
+#[tactic(auto, unfolding(crate::specs::Offer::filable_by))]
 fn filable_by(kind: u8) -> Filable
     ensures { result ≡ filable_by kind }
 {
     if kind == 0 {
-        return Filable::Default;
+        Filable::Default
+    } else {
+        Filable::Correction
     }
-    Filable::Correction
 }
 
 // The publication day; a kind that is neither 0 nor 1 is not filed, and so has no day.
+#[tactic(auto, unfolding(crate::specs::Offer::day_for))]
 fn day_for(kind: u8, day: u16) -> u16
     ensures { result ≡ day_for kind day }
 {
-    if kind <= 1 {
-        return day;
-    }
-    NO_DAY
+    if kind <= 1 { day } else { NO_DAY }
 }
 
-fn tell(a: Result<usize, Refusal>) -> Numbers
-    ensures { result ≡ in_numbers 0 (answer_told a) }
-{
-    match a {
-        Ok(n) => told::with(0, n),
-        Err(Refusal::Unreadable) => told::alone(44),
-        Err(Refusal::NoCode) => told::alone(1),
-        Err(Refusal::NoDay) => told::alone(2),
-        Err(Refusal::FiledAlready) => told::alone(3),
-        Err(Refusal::Fault(at, cause)) => told::fault(at, cause),
-        Err(Refusal::Full) => told::alone(5),
+// Filing: 0, and the count of the journal records; 44; 1, 2, 3; 4, and the fault; 5.
+impl From<Result<usize, Refusal>> for Numbers {
+    ghost from_gives = { λ a n. n ≡ in_numbers 0 (answer_told a) };
+
+    fn from(answer: Result<usize, Refusal>) -> Numbers {
+        match answer {
+            Ok(n) => told::with(0, n),
+            Err(Refusal::Unreadable) => told::alone(44),
+            Err(Refusal::NoCode) => told::alone(1),
+            Err(Refusal::NoDay) => told::alone(2),
+            Err(Refusal::FiledAlready) => told::alone(3),
+            Err(Refusal::Fault(at, cause)) => told::fault(at, cause),
+            Err(Refusal::Full) => told::alone(5),
+        }
     }
 }
 
@@ -78,7 +81,7 @@ pub fn dagskimra_file(
         CalendarDays(on),
         text,
     );
-    let t = tell(a);
+    let t = Numbers::from(a);
     *more = t.first;
     *field = t.second;
     *cause = t.third;

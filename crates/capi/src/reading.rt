@@ -12,22 +12,28 @@ use files::judge::Fault;
 use files::read::NoRecord;
 use files::{judge, read};
 
-fn tell(j: Result<usize, Fault>) -> Numbers
-    ensures { result ≡ in_numbers 0 (judged_told j) }
-{
-    match j {
-        Ok(n) => told::with(0, n),
-        Err(fault) => told::fault(fault.at, fault.cause),
+// Judging: 0, and how many records; 4, and the fault.
+impl From<Result<usize, Fault>> for Numbers {
+    ghost from_gives = { λ a n. n ≡ in_numbers 0 (judged_told a) };
+
+    fn from(judged: Result<usize, Fault>) -> Numbers {
+        match judged {
+            Ok(n) => told::with(0, n),
+            Err(fault) => told::fault(fault.at, fault.cause),
+        }
     }
 }
 
-fn tell_found(f: Result<(), NoRecord>) -> Numbers
-    ensures { result ≡ in_numbers 0 (found_told f) }
-{
-    match f {
-        Ok(()) => told::alone(0),
-        Err(NoRecord::Fault(fault)) => told::fault(fault.at, fault.cause),
-        Err(NoRecord::Beyond) => told::alone(7),
+// What stands at a place: 0; 4, and the fault; 7.
+impl From<Result<(), NoRecord>> for Numbers {
+    ghost from_gives = { λ a n. n ≡ in_numbers 0 (found_told a) };
+
+    fn from(found: Result<(), NoRecord>) -> Numbers {
+        match found {
+            Ok(()) => told::alone(0),
+            Err(NoRecord::Fault(fault)) => told::fault(fault.at, fault.cause),
+            Err(NoRecord::Beyond) => told::alone(7),
+        }
     }
 }
 
@@ -43,7 +49,7 @@ pub fn dagskimra_judge(
     ensures { Tells (judged_told (judged_file (kind_by kind) file.now)) result more.new field.new cause.new }
 {
     let j = judge::judge(kinds::kind_by(kind), file);
-    let t = tell(j);
+    let t = Numbers::from(j);
     *more = t.first;
     *field = t.second;
     *cause = t.third;
@@ -62,7 +68,7 @@ pub fn dagskimra_find(
     ensures { Tells (found_told (found_at (kind_by kind) file.now place)) result more.new field.new cause.new }
 {
     let f = read::find(kinds::kind_by(kind), file, place);
-    let found = tell_found(f);
+    let found = Numbers::from(f);
     *more = found.first;
     *field = found.second;
     *cause = found.third;

@@ -11,13 +11,16 @@ use crate::{kinds, told};
 use composing::write;
 use records::names::written::NotWritten;
 
-fn tell(w: Result<usize, NotWritten>) -> Numbers
-    ensures { result ≡ in_numbers 0 (written_told w) }
-{
-    match w {
-        Ok(n) => told::with(0, n),
-        Err(NotWritten::Fault(i)) => told::with(4, i),
-        Err(NotWritten::Long) => told::alone(41),
+// Writing: 0, and the length; 4, and the place of the fault; 41.
+impl From<Result<usize, NotWritten>> for Numbers {
+    ghost from_gives = { λ a n. n ≡ in_numbers 0 (written_told a) };
+
+    fn from(written: Result<usize, NotWritten>) -> Numbers {
+        match written {
+            Ok(n) => told::with(0, n),
+            Err(NotWritten::Fault(i)) => told::with(4, i),
+            Err(NotWritten::Long) => told::alone(41),
+        }
     }
 }
 
@@ -27,7 +30,7 @@ pub fn dagskimra_write(kind: u8, words: &[u64], out: &mut [u8], more: &mut u64) 
     ensures { Writes (file_answer (kind_by kind) words.now (length out.old)) (file_of (kind_by kind) words.now) out.old out.new result more.new }
 {
     let w = write::write(kinds::kind_by(kind), words, out);
-    let t = tell(w);
+    let t = Numbers::from(w);
     *more = t.first;
     t.number
 }

@@ -4,7 +4,7 @@ use Rattle.std.specs.Prelude.{◌≡◌, Bool, false, cond, ℕ, ◌+◌, ◌*�
 use mathlib.Core.List.{List, [], ◌∷◌, flat_map, zip_with}
 use Rattle.laws.specs.Lists.{table, keep}
 use Rattle.laws.specs.Overlay.{overlay}
-use Rattle.laws.specs.Told.{Told, told}
+use Rattle.laws.specs.Told.{Told}
 use Rattle.fields.specs.declared.number.Number.{Number}
 use Rattle.entries.specs.declared.entry.Entry.{Entry}
 use Rattle.model.specs.Rules.{TableLine}
@@ -13,7 +13,7 @@ use Rattle.rules.specs.Rules.{rules}
 use Rattle.store.specs.numbers.Lines.{line_at}
 use Rattle.store.specs.entry_slots.Entries.{entry_slot, entry_at}
 use Rattle.store.specs.Reads.{Buffers, Held, table_line, reads}
-use Rattle.asking.specs.answering.Figure.{differs}
+use Rattle.asking.specs.answering.Figure.{differs, figure_told}
 use Rattle.asking.specs.declared.answer.Unreadable.{Unreadable}
 
 -- the slot of a line: the entry worked out afresh over these files
@@ -40,8 +40,7 @@ all_files = 1024
 
 -- what an answer tells: 0 with the count of the entries that were others, or 44
 abbrev pub reworked_told : Result ℕ Unreadable → Told
-reworked_told (Ok n) = told 0 (n ∷ [])
-reworked_told (Err e) = told 44 []
+reworked_told r = figure_told r
 
 abbrev pub rework_number : Result ℕ Unreadable → ℕ
 rework_number r = (reworked_told r).number
