@@ -18,20 +18,21 @@ ghost use Rattle.phases.specs.Phases.{filable_by, passed};
 
 use calendar::dates::CalendarDays;
 use fields::code::Code;
-use filing::checking::check;
 use filing::checking::answer::Refusal;
+use filing::checking::check;
 use filing::entering::enter;
 use filing::entering::kind::Filable;
 use filing::renewing::renew;
 
 // The kind that is filed: 0 default, any other number correction.
+#[tactic(auto, unfolding(crate::specs::Phases::filable_by))]
 fn filable_by(kind: u8) -> Filable
     ensures { result ≡ filable_by kind }
 {
-    if kind == 0 {
-        return Filable::Default;
+    match kind {
+        0 => Filable::Default,
+        _ => Filable::Correction,
     }
-    Filable::Correction
 }
 
 // How many records a file has that passed the checks; 0 where it did not.
@@ -56,9 +57,7 @@ pub extern "C" fn dagskimra_phase_check(
     requires { (8194 ≤ length files.now) × (good_files files.now ≡ true) }
     ensures { result ≡ passed (checked files.now (filable_by kind) (code_of publisher.now) day (judged_file (file_kind (filable_by kind)) text.now)) }
 {
-    let which = filable_by(kind);
-    let c = check::check(files, which, publisher, CalendarDays(day), text);
-    passed(c)
+    passed(check::check(files, filable_by(kind), publisher, CalendarDays(day), text))
 }
 
 // Appending.
@@ -76,12 +75,11 @@ pub extern "C" fn dagskimra_phase_enter(
     requires { Ready files.old regular.old corrections.old (filable_by kind) text.now m }
     ensures { Joined (filed_as (filable_by kind) publisher day text.now) files.old regular.old corrections.old files.new regular.new corrections.new }
 {
-    let which = filable_by(kind);
     enter::enter(
         files,
         regular,
         corrections,
-        which,
+        filable_by(kind),
         Code(publisher),
         CalendarDays(day),
         text,

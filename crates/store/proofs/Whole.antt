@@ -64,9 +64,9 @@ files-good f e =
     let rest : Bool = none_twice same_file (files_of f) && (leb (records_of 0 (files_of f)) 8192 && leb (records_of 1 (files_of f)) 2048) in
     and_left (all good_file (files_of f)) rest (and_right (leb (file_count f) 1024) (all good_file (files_of f) && rest) e)
 
-pub files_once : (f : List ℕ) → good_files f ≡ true → none_twice same_file (files_of f) ≡ true
+pub files-once : (f : List ℕ) → good_files f ≡ true → none_twice same_file (files_of f) ≡ true
 unfolding good_files
-files_once f e =
+files-once f e =
     let counts : Bool = leb (records_of 0 (files_of f)) 8192 && leb (records_of 1 (files_of f)) 2048 in
     and_left (none_twice same_file (files_of f)) counts
     (and_right (all good_file (files_of f)) (none_twice same_file (files_of f) && counts)
