@@ -5,7 +5,7 @@ use Rattle.laws.specs.Told.{value_at}
 use Rattle.store.specs.Reads.{Buffers, held}
 use Rattle.filing.specs.declared.entering.kind.Filable.{Filable}
 use Rattle.filing.specs.declared.entering.kind.Filable.TheVariants.{Default, Correction}
-use Rattle.filing.specs.declared.checking.answer.Refusal.{Refusal}
+use Rattle.filing.specs.declared.checking.answer.NotFiled.{NotFiled}
 use Rattle.filing.specs.checking.Answers.{answer_told}
 use Rattle.filing.specs.checking.Filing.{Decision, decide}
 use Rattle.filing.specs.Effect.{answer_to, buffers_after}
@@ -23,7 +23,7 @@ abbrev pub decided : Buffers → ℕ → List ℕ → ℕ → List ℕ → Decis
 decided b kind publisher day text = decide b (filable_by kind) publisher (day_for kind day) text
 
 -- and what is answered
-abbrev pub answered : Buffers → ℕ → List ℕ → ℕ → List ℕ → Result ℕ Refusal
+abbrev pub answered : Buffers → ℕ → List ℕ → ℕ → List ℕ → Result ℕ NotFiled
 answered b kind publisher day text = answer_to (held b).files (decided b kind publisher day text)
 
 -- beside the number: the count, or the place of the faulty record, its faulty field and the cause

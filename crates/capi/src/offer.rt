@@ -9,7 +9,7 @@ use crate::days::NO_DAY;
 use crate::told;
 use crate::told::Numbers;
 use calendar::dates::CalendarDays;
-use filing::checking::answer::Refusal;
+use filing::checking::answer::NotFiled;
 use filing::entering::kind::Filable;
 use filing::file;
 
@@ -34,18 +34,18 @@ fn day_for(kind: u8, day: u16) -> u16
 }
 
 // Filing: 0, and the count of the journal records; 44; 1, 2, 3; 4, and the fault; 5.
-impl From<Result<usize, Refusal>> for Numbers {
+impl From<Result<usize, NotFiled>> for Numbers {
     ghost from_gives = { λ a n. n ≡ in_numbers 0 (answer_told a) };
 
-    fn from(answer: Result<usize, Refusal>) -> Numbers {
+    fn from(answer: Result<usize, NotFiled>) -> Numbers {
         match answer {
             Ok(n) => told::with(0, n),
-            Err(Refusal::Unreadable) => told::alone(44),
-            Err(Refusal::NoCode) => told::alone(1),
-            Err(Refusal::NoDay) => told::alone(2),
-            Err(Refusal::FiledAlready) => told::alone(3),
-            Err(Refusal::Fault(at, cause)) => told::fault(at, cause),
-            Err(Refusal::Full) => told::alone(5),
+            Err(NotFiled::Unreadable) => told::alone(44),
+            Err(NotFiled::NoCode) => told::alone(1),
+            Err(NotFiled::NoDay) => told::alone(2),
+            Err(NotFiled::FiledAlready) => told::alone(3),
+            Err(NotFiled::Fault(at, cause)) => told::fault(at, cause),
+            Err(NotFiled::Full) => told::alone(5),
         }
     }
 }

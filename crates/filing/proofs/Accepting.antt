@@ -20,8 +20,8 @@ use Rattle.filing.specs.entering.Entering.{file_kind, filed_as, Enterable, Joine
 use Rattle.filing.proofs.entering.Entered.{entered-readable, entered-files}
 use Rattle.filing.specs.fitting.Renewing.{renewed_entries, last_filed}
 use Rattle.filing.proofs.fitting.Renewed.{last-filed}
-use Rattle.filing.specs.declared.checking.answer.Refusal.{Refusal}
-use Rattle.filing.specs.declared.checking.answer.Refusal.TheVariants.{Unreadable}
+use Rattle.filing.specs.declared.checking.answer.NotFiled.{NotFiled}
+use Rattle.filing.specs.declared.checking.answer.NotFiled.TheVariants.{Unreadable}
 use Rattle.filing.specs.checking.Checks.{checked}
 use Rattle.filing.specs.checking.Filing.{Decision, Refuse, Accept, decide, decision_of}
 use Rattle.filing.proofs.checking.Stored.{held-count}
@@ -69,10 +69,10 @@ module _ {kind : Filable} {publisher day : ℕ} {text : List ℕ} {m : ℕ} (t f
 
 -- ---- the three ways out
 module _ (b : Buffers) (kind : Filable) (publisher : List ℕ) (day : ℕ) (text : List ℕ) where
-  abbrev checks : Result (Code × ℕ) Refusal
+  abbrev checks : Result (Code × ℕ) NotFiled
   checks = checked b.files kind (code_of publisher) day (judged_file (file_kind kind) text)
 
-  by : (d : Decision) (a : Result ℕ Refusal) (after : Buffers) → decide b kind publisher day text ≡ d → a ≡ answer_to (held b).files d → after ≡ buffers_after b d
+  by : (d : Decision) (a : Result ℕ NotFiled) (after : Buffers) → decide b kind publisher day text ≡ d → a ≡ answer_to (held b).files d → after ≡ buffers_after b d
       → Files b kind publisher day text a after
   by d a after q x y = record { answers = x ∙ ap (answer_to (held b).files) (sym q); leaves = y ∙ ap (buffers_after b) (sym q) }
 
@@ -80,10 +80,10 @@ module _ (b : Buffers) (kind : Filable) (publisher : List ℕ) (day : ℕ) (text
   files-unreadable h = by (Refuse Unreadable) (Err Unreadable) b (decided-unreadable b kind publisher day text h) refl refl
 
   module _ (h : is_readable b ≡ true) where
-    so : (k : Result (Code × ℕ) Refusal) → checks ≡ k → decide b kind publisher day text ≡ decision_of kind day text k
+    so : (k : Result (Code × ℕ) NotFiled) → checks ≡ k → decide b kind publisher day text ≡ decision_of kind day text k
     so k q = decided b h kind day text publisher ∙ ap (decision_of kind day text) q
 
-    pub files-refused : (a : Refusal) → checks ≡ Err a → Files b kind publisher day text (Err a) b
+    pub files-refused : (a : NotFiled) → checks ≡ Err a → Files b kind publisher day text (Err a) b
     files-refused a q = by (Refuse a) (Err a) b (so (Err a) q) refl refl
 
     pub files-accepted : (c : Code) (m n : ℕ) (after : Buffers) → checks ≡ Ok (c, m) → Accepted (filed_as kind c.0 day text) b n after

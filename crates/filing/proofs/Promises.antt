@@ -34,7 +34,7 @@ use Rattle.store.specs.numbers.Lines.{line_count, line_at}
 use Rattle.store.specs.declared.numbers.lines.Line.{Line}
 use Rattle.starting.specs.Start.{started_with}
 use Rattle.starting.proofs.Readable.{started-reads}
-use Rattle.filing.specs.declared.checking.answer.Refusal.{Refusal}
+use Rattle.filing.specs.declared.checking.answer.NotFiled.{NotFiled}
 use Rattle.filing.specs.checking.Checks.{checked}
 use Rattle.filing.specs.checking.Filing.{Decision, Refuse, Accept, decide, decision_of}
 use Rattle.filing.proofs.checking.Deciding.{decided, decided-unreadable, passed-enterable}
@@ -73,10 +73,10 @@ module _ (b : Buffers) (kind : Filable) (publisher : List ℕ) (day : ℕ) (text
   grounded : Grounded (decide b kind publisher day text)
   grounded = go (is_readable b) refl
     where
-      checks : Result (Code × ℕ) Refusal
+      checks : Result (Code × ℕ) NotFiled
       checks = checked b.files kind (code_of publisher) day (judged_file (file_kind kind) text)
 
-      passing : is_readable b ≡ true → (k : Result (Code × ℕ) Refusal) → checks ≡ k → Grounded (decision_of kind day text k)
+      passing : is_readable b ≡ true → (k : Result (Code × ℕ) NotFiled) → checks ≡ k → Grounded (decision_of kind day text k)
       passing h (Err a) q = tt
       passing h (Ok (c, m)) q = (c.0, m, passed-enterable b h kind day text c m publisher q, refl)
 
@@ -100,7 +100,7 @@ read-so b h q = go (is_readable b) refl q
 
 -- ---- the stores that are come to
 module _ (kind : Filable) (publisher : List ℕ) (day : ℕ) (text : List ℕ) where
-  pub filed-on : {b after : Buffers} {answer : Result ℕ Refusal} → Files b kind publisher day text answer after → is_readable b ≡ true → Reached rules (store_of (held b))
+  pub filed-on : {b after : Buffers} {answer : Result ℕ NotFiled} → Files b kind publisher day text answer after → is_readable b ≡ true → Reached rules (store_of (held b))
       → (is_readable after ≡ true) × Reached rules (store_of (held after))
   unfolding filed
   filed-on {b} {after} s h r = go (decide b kind publisher day text) (grounded b kind publisher day text) s.leaves
@@ -125,7 +125,7 @@ pub demand-3 : {b : Buffers} → Came b → (reads b ≡ Some (held b)) × ((hel
 demand-3 {b} c = let p = came-reached c in (reads-some b p.0, entries-worked-afresh p.1)
 
 -- answer 0: the buffers then read as the model's `filed` of what they read as before
-pub filed-reads : {b after : Buffers} {kind : Filable} {publisher : List ℕ} {day : ℕ} {text : List ℕ} {f : Filed} {answer : Result ℕ Refusal} → Files b kind publisher day text answer after
+pub filed-reads : {b after : Buffers} {kind : Filable} {publisher : List ℕ} {day : ℕ} {text : List ℕ} {f : Filed} {answer : Result ℕ NotFiled} → Files b kind publisher day text answer after
     → decide b kind publisher day text ≡ Accept f → (reads after ≡ Some (held after)) × (store_of (held after) ≡ filed rules (store_of (held b)) f)
 unfolding filed
 filed-reads {b} {after} {kind} {publisher} {day} {text} {f} s d =
@@ -136,12 +136,12 @@ filed-reads {b} {after} {kind} {publisher} {day} {text} {f} s d =
     rw same (reads-some (filed_into (filed_as kind g.0 day text) b) w.0, ap store_of w.1 ∙ ap (filed rules (store_of (held b))) (sym g.3))
 
 -- a refusal: no byte of any buffer changes
-pub refused-unchanged : {b after : Buffers} {kind : Filable} {publisher : List ℕ} {day : ℕ} {text : List ℕ} {a : Refusal} {answer : Result ℕ Refusal} → Files b kind publisher day text answer after
+pub refused-unchanged : {b after : Buffers} {kind : Filable} {publisher : List ℕ} {day : ℕ} {text : List ℕ} {a : NotFiled} {answer : Result ℕ NotFiled} → Files b kind publisher day text answer after
     → decide b kind publisher day text ≡ Refuse a → (answer ≡ Err a) × (after ≡ b)
 refused-unchanged {b} s d = (s.answers ∙ ap (answer_to (held b).files) d, s.leaves ∙ ap (buffers_after b) d)
 
 -- two outcomes that the contract allows are equal
-pub files-one : {b x y : Buffers} {kind : Filable} {publisher : List ℕ} {day : ℕ} {text : List ℕ} {p q : Result ℕ Refusal} → Files b kind publisher day text p x → Files b kind publisher day text q y → (p ≡ q) × (x ≡ y)
+pub files-one : {b x y : Buffers} {kind : Filable} {publisher : List ℕ} {day : ℕ} {text : List ℕ} {p q : Result ℕ NotFiled} → Files b kind publisher day text p x → Files b kind publisher day text q y → (p ≡ q) × (x ≡ y)
 files-one s t = (s.answers ∙ sym t.answers, s.leaves ∙ sym t.leaves)
 
 -- the entry of a number that no record of the file names is untouched, byte for byte

@@ -9,7 +9,7 @@ use Rattle.filing.specs.declared.entering.kind.Filable.{Filable}
 use Rattle.filing.specs.entering.Entering.{entered}
 use Rattle.filing.specs.fitting.Renewing.{renewed_entries}
 use Rattle.starting.specs.Start.{Starts}
-use Rattle.filing.specs.declared.checking.answer.Refusal.{Refusal}
+use Rattle.filing.specs.declared.checking.answer.NotFiled.{NotFiled}
 use Rattle.filing.specs.checking.Filing.{Decision, Refuse, Accept, decide}
 
 -- ---- the buffers
@@ -29,7 +29,7 @@ filed_into f b = renewed_in f (entered f b)
 
 -- ---- the contract
 -- 0 carries the count of the journal records, in both journals and after filing, whose number is named by some record of the file
-abbrev pub answer_to : List Filed → Decision → Result ℕ Refusal
+abbrev pub answer_to : List Filed → Decision → Result ℕ NotFiled
 answer_to files (Refuse a) = Err a
 answer_to files (Accept f) = Ok (count_of rules (files ++ (f ∷ [])) f)
 
@@ -38,7 +38,7 @@ abbrev pub buffers_after : Buffers → Decision → Buffers
 buffers_after b (Refuse a) = b
 buffers_after b (Accept f) = filed_into f b
 
-pub record Files (b : Buffers) (kind : Filable) (publisher : List ℕ) (day : ℕ) (text : List ℕ) (answer : Result ℕ Refusal) (after : Buffers) : Type 0 where
+pub record Files (b : Buffers) (kind : Filable) (publisher : List ℕ) (day : ℕ) (text : List ℕ) (answer : Result ℕ NotFiled) (after : Buffers) : Type 0 where
   pub answers : answer ≡ answer_to (held b).files (decide b kind publisher day text)
   pub leaves : after ≡ buffers_after b (decide b kind publisher day text)
 
@@ -50,7 +50,7 @@ pub record Accepted (f : Filed) (b : Buffers) (count : ℕ) (after : Buffers) : 
 -- ---- the buffers that starting and filing lead to, whatever is answered on the way
 pub data Came : Buffers → Type 0 where
   start : {text : List ℕ} {before after : Buffers} {n : ℕ} → Starts text before (Ok n) after → Came after
-  file : {b after : Buffers} → Came b → {kind : Filable} {publisher : List ℕ} {day : ℕ} {text : List ℕ} {answer : Result ℕ Refusal} → Files b kind publisher day text answer after → Came after
+  file : {b after : Buffers} → Came b → {kind : Filable} {publisher : List ℕ} {day : ℕ} {text : List ℕ} {answer : Result ℕ NotFiled} → Files b kind publisher day text answer after → Came after
 
 -- what they hold, as a store of the model under the paper's rules
 abbrev pub store_of : Held → Store rules

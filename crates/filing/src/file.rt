@@ -4,7 +4,7 @@ ghost use Rattle.filing.specs.entering.Entering.{filed_as, Enterable};
 ghost use Rattle.store.specs.Reads.{lent};
 ghost use Rattle.filing.specs.Effect.{Files, Accepted};
 
-use crate::checking::answer::Refusal;
+use crate::checking::answer::NotFiled;
 use crate::checking::check;
 use crate::entering::enter;
 use crate::entering::kind::Filable;
@@ -46,11 +46,11 @@ pub fn file(
     publisher: &[u8],
     day: CalendarDays,
     text: &[u8],
-) -> Result<usize, Refusal>
+) -> Result<usize, NotFiled>
     ensures { Files (lent table.now files.old regular.old corrections.old entries.old) kind publisher.now day.0 text.now result (lent table.now files.new regular.new corrections.new entries.new) }
 {
     if !readable::readable(table, files, regular, corrections, entries) {
-        return Err(Refusal::Unreadable);
+        return Err(NotFiled::Unreadable);
     }
     let (code, m) = check::check(files, kind, publisher, day, text)?;
     Ok(accept(

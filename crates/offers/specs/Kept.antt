@@ -1,6 +1,6 @@
 -- Answers kept, at most 16,384 of them. Assumes nothing: these are definitions.
 use Rattle.std.specs.Prelude.{cond, List, [], ◌∷◌, ◌++◌, leb, length, take}
-use Rattle.filing.specs.declared.checking.answer.Refusal.{Refusal as NotFiled}
+use Rattle.filing.specs.declared.checking.answer.NotFiled.{NotFiled}
 use Rattle.offers.specs.declared.kept.Kept.{Kept}
 
 -- those that are kept

@@ -7,7 +7,7 @@ use Rattle.desk.specs.declared.failure.Failure.{Failure}
 use Rattle.records.specs.declared.names.kind.FileKind.{FileKind}
 use Rattle.store.specs.Reads.{Buffers}
 use Rattle.filing.specs.declared.entering.kind.Filable.{Filable}
-use Rattle.filing.specs.declared.checking.answer.Refusal.{Refusal as NotFiled}
+use Rattle.filing.specs.declared.checking.answer.NotFiled.{NotFiled}
 use Rattle.filing.specs.Effect.{Files}
 use Rattle.commands.specs.Given.{name_in}
 use Rattle.offers.specs.declared.offer.Heading.{Heading}

@@ -3,7 +3,7 @@ use crate::list::{List, Offer};
 use commands::fault::Columns;
 use desk::{Host, Page};
 use filing::checking::answer;
-use filing::checking::answer::Refusal as NotFiled;
+use filing::checking::answer::NotFiled;
 use words::refusal::Refusal;
 
 // Why a file was refused; of a 4 it was said when the file was looked into.

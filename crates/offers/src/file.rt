@@ -8,7 +8,7 @@ use desk::{Ended, Failure, Host, Page, args};
 use disk::parts::HolidayList;
 use disk::saved::LoadError;
 use disk::{Books, lock, saved};
-use filing::checking::answer::Refusal as NotFiled;
+use filing::checking::answer::NotFiled;
 
 // How far the work has come, for a person who waits. What is said next is written over it, and is longer.
 fn progress(rt: &impl Host, k: usize, total: usize) {

@@ -5,7 +5,7 @@ ghost use Rattle.filing.specs.Effect.{Files};
 use calendar::dates::CalendarDays;
 use desk::Host;
 use disk::Books;
-use filing::checking::answer::Refusal as NotFiled;
+use filing::checking::answer::NotFiled;
 use filing::entering::kind::Filable;
 
 // Files a file, and answers what filing answers.

@@ -2,7 +2,7 @@
 ghost use Rattle.std.specs.Prelude.{◌≡◌, ◌≤◌};
 
 use crate::MOST;
-use filing::checking::answer::Refusal as NotFiled;
+use filing::checking::answer::NotFiled;
 
 // As many as stand in the front of the array.
 #[derive(Drop)]

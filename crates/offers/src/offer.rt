@@ -11,7 +11,7 @@ use commands::{LONGEST, given};
 use desk::{Failure, Host};
 use disk::Books;
 use fields::code::Code;
-use filing::checking::answer::Refusal as NotFiled;
+use filing::checking::answer::NotFiled;
 use filing::entering::kind::Filable;
 use records::names::kind::FileKind;
 

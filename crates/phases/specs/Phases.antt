@@ -1,5 +1,5 @@
 -- Kinds by number, and what the checks come to as a number. Assumes nothing: these are definitions.
-use Rattle.filing.specs.declared.checking.answer.Refusal.{Refusal}
+use Rattle.filing.specs.declared.checking.answer.NotFiled.{NotFiled}
 use Rattle.std.specs.Prelude.{Err, Ok, Result}
 use Rattle.fields.specs.declared.code.Code.{Code}
 use Rattle.std.specs.Prelude.{cond, ℕ, eqb}
@@ -11,6 +11,6 @@ unfoldable pub filable_by : ℕ → Filable
 filable_by kind = cond (eqb kind 0) Default Correction
 
 -- how many records a file has that passed; 0 where it did not
-abbrev pub passed : Result (Code × ℕ) Refusal → ℕ
+abbrev pub passed : Result (Code × ℕ) NotFiled → ℕ
 passed (Err a) = 0
 passed (Ok (c, m)) = m

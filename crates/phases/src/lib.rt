@@ -18,7 +18,7 @@ ghost use Rattle.phases.specs.Phases.{filable_by, passed};
 
 use calendar::dates::CalendarDays;
 use fields::code::Code;
-use filing::checking::answer::Refusal;
+use filing::checking::answer::NotFiled;
 use filing::checking::check;
 use filing::entering::enter;
 use filing::entering::kind::Filable;
@@ -36,7 +36,7 @@ fn filable_by(kind: u8) -> Filable
 }
 
 // How many records a file has that passed the checks; 0 where it did not.
-fn passed(c: Result<(Code, usize), Refusal>) -> u64
+fn passed(c: Result<(Code, usize), NotFiled>) -> u64
     ensures { result ≡ passed c }
 {
     match c {

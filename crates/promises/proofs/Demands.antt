@@ -69,7 +69,7 @@ use Rattle.starting.specs.tables.Given.{table_of}
 use Rattle.starting.specs.Start.{Starts, started_with}
 use Rattle.starting.proofs.Readable.{started-reads}
 use Rattle.filing.specs.declared.entering.kind.Filable.{Filable}
-use Rattle.filing.specs.declared.checking.answer.Refusal.{Refusal}
+use Rattle.filing.specs.declared.checking.answer.NotFiled.{NotFiled}
 use Rattle.filing.specs.Effect.{Files, Came}
 use Rattle.std.specs.Prelude.{Ok}
 use Rattle.asking.specs.Items.{item_at}
@@ -109,7 +109,7 @@ pub refused-leaves-every-byte : {number : ℕ} {before after : List (List ℕ)} 
 refused-leaves-every-byte = refused
 
 -- "checks in this order": the number that filing answers is that of the first line of the paper's table that applies, and 0 where none does
-pub filing-answers-by-the-table : {b after : Buffers} {kind : Filable} {publisher : List ℕ} {day : ℕ} {text : List ℕ} {answer : Result ℕ Refusal} → Files b kind publisher day text answer after
+pub filing-answers-by-the-table : {b after : Buffers} {kind : Filable} {publisher : List ℕ} {day : ℕ} {text : List ℕ} {answer : Result ℕ NotFiled} → Files b kind publisher day text answer after
     → filed_number answer ≡ first_line (filing_table b kind publisher day text) 0
 filing-answers-by-the-table s = answers-by-table s
 

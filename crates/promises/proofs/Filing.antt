@@ -32,7 +32,7 @@ use Rattle.store.specs.entry_slots.Entries.{entry_at}
 use Rattle.store.specs.Reads.{Buffers, table_line, held, is_readable, reads}
 use Rattle.store.proofs.Checks.{reads-some}
 use Rattle.filing.specs.declared.entering.kind.Filable.{Filable}
-use Rattle.filing.specs.declared.checking.answer.Refusal.{Refusal}
+use Rattle.filing.specs.declared.checking.answer.NotFiled.{NotFiled}
 use Rattle.filing.specs.entering.Entering.{kind_number, file_kind, filed_as, entered, Enterable}
 use Rattle.filing.specs.checking.Checks.{checked}
 use Rattle.filing.specs.checking.Filing.{Decision, Refuse, Accept, within_limits, judged_to, new_to, published_to, decide, decision_of}
@@ -44,30 +44,30 @@ use Rattle.capi.specs.Offer.{filable_by, day_for, answered, FilesAs}
 use Rattle.promises.specs.Numbers.{filed_number, filed_count}
 use Rattle.promises.specs.Filed.{is_no_code, is_fault, offered_as, filing_table, named_in, JoinedAndRenewed}
 
-never : {A : Type 0} (a : Refusal) (f : Filed) → Refuse a ≡ Accept f → A
+never : {A : Type 0} (a : NotFiled) (f : Filed) → Refuse a ≡ Accept f → A
 never a f q = absurd (let z : ◌≡◌ {A = ℕ} 0 1 = cc in omega arith)
 
 -- ---- the file that is accepted is the one offered, by a publisher that is a network code
 module _ (files : List Filed) (kind : Filable) (day : ℕ) (text : List ℕ) (f : Filed) where
-  room-accepts : (g : Filed) (t : Bool) → cond t (Accept g) (Refuse Refusal.Full) ≡ Accept f → g ≡ f
+  room-accepts : (g : Filed) (t : Bool) → cond t (Accept g) (Refuse NotFiled.Full) ≡ Accept f → g ≡ f
   room-accepts g true q = cc
-  room-accepts g false q = never Refusal.Full f q
+  room-accepts g false q = never NotFiled.Full f q
 
   text-accepts : (g : Filed) (j : Result ℕ Fault) → judged_to files g j ≡ Accept f → g ≡ f
-  text-accepts g (Err fault) q = never (Refusal.Fault fault.at fault.cause) f q
+  text-accepts g (Err fault) q = never (NotFiled.Fault fault.at fault.cause) f q
   text-accepts g (Ok m) q = room-accepts g (within_limits (files ++ (g ∷ []))) q
 
-  new-accepts : (g : Filed) (j : Result ℕ Fault) (t : Bool) → cond t (Refuse Refusal.FiledAlready) (judged_to files g j) ≡ Accept f → g ≡ f
-  new-accepts g j true q = never Refusal.FiledAlready f q
+  new-accepts : (g : Filed) (j : Result ℕ Fault) (t : Bool) → cond t (Refuse NotFiled.FiledAlready) (judged_to files g j) ≡ Accept f → g ≡ f
+  new-accepts g j true q = never NotFiled.FiledAlready f q
   new-accepts g j false q = text-accepts g j q
 
-  day-accepts : (g : Filed) (j : Result ℕ Fault) (t : Bool) → cond t (new_to files g j) (Refuse Refusal.NoDay) ≡ Accept f → g ≡ f
+  day-accepts : (g : Filed) (j : Result ℕ Fault) (t : Bool) → cond t (new_to files g j) (Refuse NotFiled.NoDay) ≡ Accept f → g ≡ f
   unfolding new_to
   day-accepts g j true q = new-accepts g j (any (alike g) files) q
-  day-accepts g j false q = never Refusal.NoDay f q
+  day-accepts g j false q = never NotFiled.NoDay f q
 
   code-accepts : (r : Option Code) → published_to files kind r day text ≡ Accept f → (c : Code) × (r ≡ Some c) × (f ≡ filed_as kind c.0 day text)
-  code-accepts None q = never Refusal.NoCode f q
+  code-accepts None q = never NotFiled.NoCode f q
   code-accepts (Some c) q = (c, refl, sym (day-accepts (filed_as kind c.0 day text) (judged_file (file_kind kind) text) (in_calendar day) q))
 
 offered-by : (b : Buffers) (kind : Filable) (publisher : List ℕ) (day : ℕ) (text : List ℕ) (f : Filed) → is_readable b ≡ true → decide b kind publisher day text ≡ Accept f
@@ -82,7 +82,7 @@ number_to (Accept f) = 0
 
 module _ (files : List Filed) (kind : Filable) (day : ℕ) (text : List ℕ) where
   -- the lines from 5, 3 and 2 on
-  room-line : (f : Filed) (t : Bool) → number_to (cond t (Accept f) (Refuse Refusal.Full)) ≡ first_line ((not t, 5) ∷ []) 0
+  room-line : (f : Filed) (t : Bool) → number_to (cond t (Accept f) (Refuse NotFiled.Full)) ≡ first_line ((not t, 5) ∷ []) 0
   room-line f true = refl
   room-line f false = refl
 
@@ -91,12 +91,12 @@ module _ (files : List Filed) (kind : Filable) (day : ℕ) (text : List ℕ) whe
   text-line f (Ok m) = room-line f (within_limits (files ++ (f ∷ [])))
 
   new_line : (f : Filed) (j : Result ℕ Fault) (t : Bool)
-      → number_to (cond t (Refuse Refusal.FiledAlready) (judged_to files f j)) ≡ first_line ((t, 3) ∷ (is_fault j, 4) ∷ (not (within_limits (files ++ (f ∷ []))), 5) ∷ []) 0
+      → number_to (cond t (Refuse NotFiled.FiledAlready) (judged_to files f j)) ≡ first_line ((t, 3) ∷ (is_fault j, 4) ∷ (not (within_limits (files ++ (f ∷ []))), 5) ∷ []) 0
   new_line f j true = refl
   new_line f j false = text-line f j
 
   day-line : (f : Filed) (j : Result ℕ Fault) (t : Bool)
-      → number_to (cond t (new_to files f j) (Refuse Refusal.NoDay)) ≡ first_line ((not t, 2) ∷ (any (alike f) files, 3) ∷ (is_fault j, 4) ∷ (not (within_limits (files ++ (f ∷ []))), 5) ∷ []) 0
+      → number_to (cond t (new_to files f j) (Refuse NotFiled.NoDay)) ≡ first_line ((not t, 2) ∷ (any (alike f) files, 3) ∷ (is_fault j, 4) ∷ (not (within_limits (files ++ (f ∷ []))), 5) ∷ []) 0
   unfolding new_to
   day-line f j true = new_line f j (any (alike f) files)
   day-line f j false = refl
@@ -108,7 +108,7 @@ by-table b kind publisher day text = go (is_readable b) (code_of publisher)
     f : Option Code → Filed
     f r = offered_as kind r day text
 
-    go : (t : Bool) (r : Option Code) → number_to (cond t (published_to (held b).files kind r day text) (Refuse Refusal.Unreadable))
+    go : (t : Bool) (r : Option Code) → number_to (cond t (published_to (held b).files kind r day text) (Refuse NotFiled.Unreadable))
         ≡ first_line ((not t, 44) ∷ (is_no_code r, 1) ∷ (not (in_calendar day), 2) ∷ (any (alike (f r)) (held b).files, 3) ∷ (is_fault (judged_file (file_kind kind) text), 4) ∷ (not (within_limits ((held b).files ++ (f r ∷ []))), 5) ∷ []) 0
     go false r = refl
     go true None = refl
@@ -118,7 +118,7 @@ number-answered : (files : List Filed) (d : Decision) → filed_number (answer_t
 number-answered files (Refuse a) = refl
 number-answered files (Accept f) = refl
 
-pub answers-by-table : {b after : Buffers} {kind : Filable} {publisher : List ℕ} {day : ℕ} {text : List ℕ} {answer : Result ℕ Refusal} → Files b kind publisher day text answer after
+pub answers-by-table : {b after : Buffers} {kind : Filable} {publisher : List ℕ} {day : ℕ} {text : List ℕ} {answer : Result ℕ NotFiled} → Files b kind publisher day text answer after
     → filed_number answer ≡ first_line (filing_table b kind publisher day text) 0
 answers-by-table {b} {after} {kind} {publisher} {day} {text} s = ap filed_number s.answers ∙ number-answered (held b).files (decide b kind publisher day text) ∙ by-table b kind publisher day text
 
@@ -138,7 +138,7 @@ named-so kind c day text x =
 
 -- ---- what answer 0 says was found
 module _ {b after : Buffers} {kind : Filable} {publisher : List ℕ} {day : ℕ} {text : List ℕ} {n : ℕ} (s : Files b kind publisher day text (Ok n) after) where
-  not-refused : (a : Refusal) → decide b kind publisher day text ≡ Refuse a → Ok n ≡ Err a
+  not-refused : (a : NotFiled) → decide b kind publisher day text ≡ Refuse a → Ok n ≡ Err a
   not-refused a d = s.answers ∙ ap (answer_to (held b).files) d
 
   found : (c : Code) × (m : ℕ) × Enterable b kind c.0 day text m × (decide b kind publisher day text ≡ Accept (filed_as kind c.0 day text))
@@ -147,14 +147,14 @@ module _ {b after : Buffers} {kind : Filable} {publisher : List ℕ} {day : ℕ}
       judged : Result ℕ Fault
       judged = judged_file (file_kind kind) text
 
-      passing : (h : is_readable b ≡ true) (k : Result (Code × ℕ) Refusal) → checked b.files kind (code_of publisher) day judged ≡ k
+      passing : (h : is_readable b ≡ true) (k : Result (Code × ℕ) NotFiled) → checked b.files kind (code_of publisher) day judged ≡ k
           → (c : Code) × (m : ℕ) × Enterable b kind c.0 day text m × (decide b kind publisher day text ≡ Accept (filed_as kind c.0 day text))
       passing h (Err a) q = absurd (refused-not-filed b.files kind day (code_of publisher) judged a q n (sym (not-refused a (decided b h kind day text publisher ∙ ap (decision_of kind day text) q))))
       passing h (Ok (c, m)) q = (c, m, passed-enterable b h kind day text c m publisher q, decided b h kind day text publisher ∙ ap (decision_of kind day text) q)
 
       go : (t : Bool) → is_readable b ≡ t → (c : Code) × (m : ℕ) × Enterable b kind c.0 day text m × (decide b kind publisher day text ≡ Accept (filed_as kind c.0 day text))
       go true h = passing h (checked b.files kind (code_of publisher) day judged) refl
-      go false h = absurd (let z = ap filed_number (not-refused Refusal.Unreadable (decided-unreadable b kind publisher day text h)) in omega (arith, z))
+      go false h = absurd (let z = ap filed_number (not-refused NotFiled.Unreadable (decided-unreadable b kind publisher day text h)) in omega (arith, z))
 
   -- the file
   abbrev f : Filed
@@ -242,14 +242,14 @@ pub filed-c : {b after : Buffers} {kind : ℕ} {publisher : List ℕ} {day : ℕ
     → Files b (filable_by kind) publisher (day_for kind day) text (Ok more) after
 filed-c {b} {after} {kind} {publisher} {day} {text} {more} s = go (answered b kind publisher day text) refl
   where
-    go : (a : Result ℕ Refusal) → answered b kind publisher day text ≡ a → Files b (filable_by kind) publisher (day_for kind day) text (Ok more) after
+    go : (a : Result ℕ NotFiled) → answered b kind publisher day text ≡ a → Files b (filable_by kind) publisher (day_for kind day) text (Ok more) after
     go (Ok n) e = record { answers = ap Ok (s.tells ∙ ap filed_count e) ∙ sym e; leaves = s.leaves }
-    go (Err Refusal.Unreadable) e = absurd (let z = s.answers ∙ ap filed_number e in omega (arith, z))
-    go (Err Refusal.NoCode) e = absurd (let z = s.answers ∙ ap filed_number e in omega (arith, z))
-    go (Err Refusal.NoDay) e = absurd (let z = s.answers ∙ ap filed_number e in omega (arith, z))
-    go (Err Refusal.FiledAlready) e = absurd (let z = s.answers ∙ ap filed_number e in omega (arith, z))
-    go (Err (Refusal.Fault place cause)) e = absurd (let z = s.answers ∙ ap filed_number e in omega (arith, z))
-    go (Err Refusal.Full) e = absurd (let z = s.answers ∙ ap filed_number e in omega (arith, z))
+    go (Err NotFiled.Unreadable) e = absurd (let z = s.answers ∙ ap filed_number e in omega (arith, z))
+    go (Err NotFiled.NoCode) e = absurd (let z = s.answers ∙ ap filed_number e in omega (arith, z))
+    go (Err NotFiled.NoDay) e = absurd (let z = s.answers ∙ ap filed_number e in omega (arith, z))
+    go (Err NotFiled.FiledAlready) e = absurd (let z = s.answers ∙ ap filed_number e in omega (arith, z))
+    go (Err (NotFiled.Fault place cause)) e = absurd (let z = s.answers ∙ ap filed_number e in omega (arith, z))
+    go (Err NotFiled.Full) e = absurd (let z = s.answers ∙ ap filed_number e in omega (arith, z))
 
 -- any other number than 0 and 1 is no kind that is filed
 kind-told : (kind day : ℕ) → in_calendar (day_for kind day) ≡ true → (kind ≤ 1) × (day_for kind day ≡ day)

@@ -14,7 +14,7 @@ use Rattle.store.specs.Reads.{Buffers, Held, held}
 use Rattle.starting.specs.Start.{started_with}
 use Rattle.starting.proofs.Readable.{started-reads}
 use Rattle.filing.specs.declared.entering.kind.Filable.{Filable}
-use Rattle.filing.specs.declared.checking.answer.Refusal.{Refusal}
+use Rattle.filing.specs.declared.checking.answer.NotFiled.{NotFiled}
 use Rattle.filing.specs.checking.Filing.{Decision, Refuse, Accept, decide}
 use Rattle.filing.specs.Effect.{buffers_after, Files, Came}
 use Rattle.filing.proofs.Promises.{read-so, filed-reads}
@@ -36,7 +36,7 @@ itself : {b : Buffers} → Came b → (n : ℕ) → length (held b).files ≤ n 
 itself {b} c n h = (b, came-in-use c, refl, sym (take_all n (held b).files h))
 
 -- one file more was offered
-module _ {b after : Buffers} {kind : Filable} {publisher : List ℕ} {day : ℕ} {text : List ℕ} {answer : Result ℕ Refusal} (c : Came b) (s : Files b kind publisher day text answer after) (n : ℕ) (had : HadFirst b n) where
+module _ {b after : Buffers} {kind : Filable} {publisher : List ℕ} {day : ℕ} {text : List ℕ} {answer : Result ℕ NotFiled} (c : Came b) (s : Files b kind publisher day text answer after) (n : ℕ) (had : HadFirst b n) where
   grown : (f : Filed) → decide b kind publisher day text ≡ Accept f → HadFirst after n
   unfolding filed
   grown f d =

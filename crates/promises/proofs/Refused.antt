@@ -21,7 +21,7 @@ use Rattle.starting.specs.tables.Given.{table_of}
 use Rattle.starting.specs.Start.{answer_of, start_answer, Starts}
 use Rattle.starting.proofs.Readable.{refused-stays}
 use Rattle.filing.specs.declared.entering.kind.Filable.{Filable}
-use Rattle.filing.specs.declared.checking.answer.Refusal.{Refusal}
+use Rattle.filing.specs.declared.checking.answer.NotFiled.{NotFiled}
 use Rattle.filing.specs.checking.Filing.{Decision, Refuse, Accept, decide}
 use Rattle.filing.specs.Effect.{answer_to, buffers_after, Files}
 use Rattle.entries.specs.declared.entry.Entry.{Entry}
@@ -65,7 +65,7 @@ start-by-table {text} {before} s = ap started_number s.answers ∙ go (long_enou
     go false None = refl
 
 -- ---- filing
-file-stays : {b after : Buffers} {kind : Filable} {publisher : List ℕ} {day : ℕ} {text : List ℕ} {answer : Result ℕ Refusal} → Files b kind publisher day text answer after
+file-stays : {b after : Buffers} {kind : Filable} {publisher : List ℕ} {day : ℕ} {text : List ℕ} {answer : Result ℕ NotFiled} → Files b kind publisher day text answer after
     → (filed_number answer ≡ 0 → ⊥) → after ≡ b
 file-stays {b} {after} {kind} {publisher} {day} {text} {answer} s not-0 = go (decide b kind publisher day text) s.answers s.leaves
   where

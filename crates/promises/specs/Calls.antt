@@ -7,7 +7,7 @@ use Rattle.store.specs.Reads.{Buffers}
 use Rattle.starting.specs.declared.start.NotStarted.{NotStarted}
 use Rattle.starting.specs.Start.{Starts}
 use Rattle.filing.specs.declared.entering.kind.Filable.{Filable}
-use Rattle.filing.specs.declared.checking.answer.Refusal.{Refusal}
+use Rattle.filing.specs.declared.checking.answer.NotFiled.{NotFiled}
 use Rattle.filing.specs.Effect.{Files}
 use Rattle.entries.specs.declared.entry.Entry.{Entry}
 use Rattle.asking.specs.declared.answer.NotShown.{NotShown}
@@ -29,7 +29,7 @@ bytes_of b = b.table ∷ b.files ∷ b.regular ∷ b.corrections ∷ b.entries �
 pub data Call : ℕ → List (List ℕ) → List (List ℕ) → Type 0 where
   start : {text : List ℕ} {before after : Buffers} {answer : Result ℕ NotStarted} → Starts text before answer after → Call (started_number answer) (bytes_of before) (bytes_of after)
   start-c : {text : List ℕ} {before after : Buffers} {answer more : ℕ} → StartsAs text before answer more after → Call answer (bytes_of before) (bytes_of after)
-  file : {b after : Buffers} {kind : Filable} {publisher : List ℕ} {day : ℕ} {text : List ℕ} {answer : Result ℕ Refusal}
+  file : {b after : Buffers} {kind : Filable} {publisher : List ℕ} {day : ℕ} {text : List ℕ} {answer : Result ℕ NotFiled}
       → Files b kind publisher day text answer after → Call (filed_number answer) (bytes_of b) (bytes_of after)
   file-c : {b after : Buffers} {kind : ℕ} {publisher : List ℕ} {day : ℕ} {text : List ℕ} {answer more field cause : ℕ}
       → FilesAs b kind publisher day text answer more field cause after → Call answer (bytes_of b) (bytes_of after)

@@ -6,7 +6,7 @@ use Rattle.store.specs.journals.Files.{file_count}
 use Rattle.store.specs.Reads.{Buffers, lent}
 use Rattle.starting.specs.Start.{Starts}
 use Rattle.filing.specs.declared.entering.kind.Filable.{Filable}
-use Rattle.filing.specs.declared.checking.answer.Refusal.{Refusal}
+use Rattle.filing.specs.declared.checking.answer.NotFiled.{NotFiled}
 use Rattle.filing.specs.Effect.{Files}
 use Rattle.asking.specs.declared.answer.Unreadable.{Unreadable}
 use Rattle.std.specs.Prelude.{Result, Ok}
@@ -25,7 +25,7 @@ pub data InUse : Buffers → Type 0 where
   start : {text : List ℕ} {before after : Buffers} {n : ℕ} → Starts text before (Ok n) after → InUse after
   start-c : {text : List ℕ} {before after : Buffers} {more : ℕ} → StartsAs text before 0 more after → InUse after
   -- a file was offered, whatever was answered
-  file : {b after : Buffers} → InUse b → {kind : Filable} {publisher : List ℕ} {day : ℕ} {text : List ℕ} {answer : Result ℕ Refusal}
+  file : {b after : Buffers} → InUse b → {kind : Filable} {publisher : List ℕ} {day : ℕ} {text : List ℕ} {answer : Result ℕ NotFiled}
       → Files b kind publisher day text answer after → InUse after
   file-c : {b after : Buffers} → InUse b → {kind : ℕ} {publisher : List ℕ} {day : ℕ} {text : List ℕ} {answer more field cause : ℕ}
       → FilesAs b kind publisher day text answer more field cause after → InUse after

@@ -7,7 +7,7 @@ use Rattle.laws.specs.Told.{value_at}
 use Rattle.records.specs.names.Written.{written_told}
 use Rattle.starting.specs.declared.start.NotStarted.{NotStarted}
 use Rattle.starting.specs.Start.{started_told}
-use Rattle.filing.specs.declared.checking.answer.Refusal.{Refusal}
+use Rattle.filing.specs.declared.checking.answer.NotFiled.{NotFiled}
 use Rattle.filing.specs.checking.Answers.{answer_told}
 use Rattle.asking.specs.declared.answer.NotShown.{NotShown}
 use Rattle.asking.specs.declared.answer.NoRecord.{NoRecord}
@@ -25,10 +25,10 @@ abbrev pub started_count : Result ℕ NotStarted → ℕ
 started_count a = value_at 0 (started_told a)
 
 -- filing: 0 with the count of the journal records whose number the file names
-abbrev pub filed_number : Result ℕ Refusal → ℕ
+abbrev pub filed_number : Result ℕ NotFiled → ℕ
 filed_number a = (answer_told a).number
 
-abbrev pub filed_count : Result ℕ Refusal → ℕ
+abbrev pub filed_count : Result ℕ NotFiled → ℕ
 filed_count a = value_at 0 (answer_told a)
 
 -- reworking: 0 with how many entries changed

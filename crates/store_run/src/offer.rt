@@ -3,12 +3,12 @@ use crate::{line, print};
 use calendar::dates::CalendarDays;
 use desk::Host;
 use filing::checking::answer;
-use filing::checking::answer::Refusal;
+use filing::checking::answer::NotFiled;
 use filing::entering::kind::Filable;
 use filing::file;
 
 // What was answered: the number, with the count or the place where it has one.
-fn said(rt: &impl Host, line: &[u8], w: &[u8], a: Result<usize, Refusal>) {
+fn said(rt: &impl Host, line: &[u8], w: &[u8], a: Result<usize, NotFiled>) {
     print::text(rt, line::field(line, 1));
     print::count(rt, w, print::ANSWER, answer::number(a) as usize);
     match a {
@@ -16,13 +16,13 @@ fn said(rt: &impl Host, line: &[u8], w: &[u8], a: Result<usize, Refusal>) {
             print::count(rt, w, print::COUNT, n);
             print::end(rt);
         }
-        Err(Refusal::Fault(at, _)) => print::count(rt, w, print::PLACE, at.place),
+        Err(NotFiled::Fault(at, _)) => print::count(rt, w, print::PLACE, at.place),
         _ => {}
     }
 }
 
 // Whether the file was filed; what was answered is said where it is offered once.
-fn told(rt: &impl Host, line: &[u8], w: &[u8], a: Result<usize, Refusal>) -> bool {
+fn told(rt: &impl Host, line: &[u8], w: &[u8], a: Result<usize, NotFiled>) -> bool {
     if line::number(line, 8) == 0 {
         said(rt, line, w, a);
     }

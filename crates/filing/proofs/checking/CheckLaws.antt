@@ -1,7 +1,7 @@
 -- What the checks come to, as the code finds out. Assumes nothing.
 --     used-fits, room-left, room-none     whether there is room
 --     day-outside, day-alike, day-new     the day, then the files alike
-use Rattle.filing.specs.declared.checking.answer.Refusal.{Refusal}
+use Rattle.filing.specs.declared.checking.answer.NotFiled.{NotFiled}
 use Rattle.std.specs.Prelude.{Err}
 use Rattle.std.specs.Prelude.{Result}
 use Rattle.files.specs.declared.judge.Fault.{Fault}
@@ -23,7 +23,7 @@ use Rattle.store.proofs.Checks.{few-reports, few-corrections, counted}
 use Rattle.filing.specs.declared.entering.kind.Filable.{Filable}
 use Rattle.filing.specs.declared.entering.kind.Filable.TheVariants.{Default, Correction}
 use Rattle.filing.specs.entering.Entering.{kind_number, most}
-use Rattle.filing.specs.declared.checking.answer.Refusal.TheVariants.{NoDay, FiledAlready}
+use Rattle.filing.specs.declared.checking.answer.NotFiled.TheVariants.{NoDay, FiledAlready}
 use Rattle.filing.specs.checking.Checks.{has_room, text_checked, sought, day_checked}
 use Rattle.store.specs.declared.journals.files.File.{File}
 use Rattle.std.specs.List.{list_any, range_with_len}
@@ -80,6 +80,6 @@ module _ (files : List ℕ) (kind : Filable) (c : Code) (day : ℕ) (text : Resu
     unfolding day_checked
     day-alike t = rw (e, alike, t)
 
-    pub day-new : found ≡ false → (r : Result (Code × ℕ) Refusal) → r ≡ text_checked (has_room files kind) c text → r ≡ day_checked files kind c day text
+    pub day-new : found ≡ false → (r : Result (Code × ℕ) NotFiled) → r ≡ text_checked (has_room files kind) c text → r ≡ day_checked files kind c day text
     unfolding day_checked
     day-new t r s = rw (e, alike, t) s

@@ -26,7 +26,7 @@ use Rattle.store.specs.declared.journals.files.File.{File}
 use Rattle.store.specs.Reads.{Buffers, held, is_readable}
 use Rattle.filing.specs.declared.entering.kind.Filable.{Filable}
 use Rattle.filing.specs.entering.Entering.{kind_number, file_kind, most, filed_as, file_in, Enterable}
-use Rattle.filing.specs.declared.checking.answer.Refusal.{Refusal}
+use Rattle.filing.specs.declared.checking.answer.NotFiled.{NotFiled}
 use Rattle.filing.specs.checking.Answers.{answer_number}
 use Rattle.filing.specs.checking.Checks.{has_room, room_checked, text_checked, sought, day_checked, checked}
 use Rattle.filing.specs.checking.Filing.{within_limits, Decision, judged_to, new_to, published_to, decide, decision_of}
@@ -47,7 +47,7 @@ module _ (b : Buffers) (e : is_readable b ≡ true) (kind : Filable) (day : ℕ)
     abbrev file : Filed
     file = filed_as kind c.0 day text
 
-    room-decided : (s t : Bool) (m : ℕ) → s ≡ t → cond s (Accept file) (Refuse Refusal.Full) ≡ decision_of kind day text (room_checked t c m)
+    room-decided : (s t : Bool) (m : ℕ) → s ≡ t → cond s (Accept file) (Refuse NotFiled.Full) ≡ decision_of kind day text (room_checked t c m)
     room-decided true t m q = rw (← q)
     room-decided false t m q = rw (← q)
 
@@ -59,13 +59,13 @@ module _ (b : Buffers) (e : is_readable b ≡ true) (kind : Filable) (day : ℕ)
     unfolding held
     alike-decided = already-alike file b.files b.regular b.corrections ∙ sym (sought-same kind c.0 day text (files_of b.files))
 
-    new-decided : (s t : Bool) → s ≡ t → (u : Result (Code × ℕ) Refusal) (d : Decision) → d ≡ decision_of kind day text u
-        → cond s (Refuse Refusal.FiledAlready) d ≡ decision_of kind day text (cond t (Err Refusal.FiledAlready) u)
+    new-decided : (s t : Bool) → s ≡ t → (u : Result (Code × ℕ) NotFiled) (d : Decision) → d ≡ decision_of kind day text u
+        → cond s (Refuse NotFiled.FiledAlready) d ≡ decision_of kind day text (cond t (Err NotFiled.FiledAlready) u)
     new-decided true t q u d p = rw (← q)
     new-decided false t q u d p = rw (← q) p
 
-    day-decided : (t : Bool) (u : Result (Code × ℕ) Refusal) (d : Decision) → d ≡ decision_of kind day text u
-        → cond t d (Refuse Refusal.NoDay) ≡ decision_of kind day text (cond t u (Err Refusal.NoDay))
+    day-decided : (t : Bool) (u : Result (Code × ℕ) NotFiled) (d : Decision) → d ≡ decision_of kind day text u
+        → cond t d (Refuse NotFiled.NoDay) ≡ decision_of kind day text (cond t u (Err NotFiled.NoDay))
     day-decided true u d p = p
     day-decided false u d p = refl
 
@@ -74,9 +74,9 @@ module _ (b : Buffers) (e : is_readable b ≡ true) (kind : Filable) (day : ℕ)
   published-decided None = refl
   published-decided (Some c) =
       let j : Result ℕ Fault = judged_file (file_kind kind) text in
-      let rest : Result (Code × ℕ) Refusal = text_checked (has_room b.files kind) c j in
+      let rest : Result (Code × ℕ) NotFiled = text_checked (has_room b.files kind) c j in
       let there : Bool = any (same_file (sought kind c.0 day)) (files_of b.files) in
-      day-decided c (in_calendar day) (cond there (Err Refusal.FiledAlready) rest) (new_to (held b).files (file c) j)
+      day-decided c (in_calendar day) (cond there (Err NotFiled.FiledAlready) rest) (new_to (held b).files (file c) j)
       (new-decided c (any (alike (file c)) (held b).files) there (alike-decided c) rest (judged_to (held b).files (file c) j) (text-decided c j refl))
 
   -- this is what the checks come to where the buffers read as a store; else the answer is 44 (`decided-unreadable`)
@@ -87,7 +87,7 @@ module _ (b : Buffers) (e : is_readable b ≡ true) (kind : Filable) (day : ℕ)
   -- ---- a file that passes may be entered
   module _ (c : Code) (m : ℕ) where
     -- an answer that refuses is none that passes
-    never : {A : Type 0} (a : Refusal) → ◌≡◌ {A = Result (Code × ℕ) Refusal} (Err a) (Ok (c, m)) → A
+    never : {A : Type 0} (a : NotFiled) → ◌≡◌ {A = Result (Code × ℕ) NotFiled} (Err a) (Ok (c, m)) → A
     never a q = absurd (let z : ◌≡◌ {A = ℕ} 0 1 = cc in omega arith)
 
     -- what the checks have found out on the way
@@ -100,27 +100,27 @@ module _ (b : Buffers) (e : is_readable b ≡ true) (kind : Filable) (day : ℕ)
 
     room-found : (d : Code) (n : ℕ) (t : Bool) → room_checked t d n ≡ Ok (c, m) → (t ≡ true) × (d ≡ c) × (n ≡ m)
     room-found d n true q = let e : ◌≡◌ {A = Code × ℕ} (d, n) (c, m) = cc in (refl, ap (λ (x : Code × ℕ). x.0) e, ap (λ (x : Code × ℕ). x.1) e)
-    room-found d n false q = never Refusal.Full q
+    room-found d n false q = never NotFiled.Full q
 
     text-found : (d : Code) (j : Result ℕ Fault) → text_checked (has_room b.files kind) d j ≡ Ok (c, m) → (d ≡ c) × (j ≡ Ok m) × (has_room b.files kind m ≡ true)
-    text-found d (Err fault) q = never (Refusal.Fault fault.at fault.cause) q
+    text-found d (Err fault) q = never (NotFiled.Fault fault.at fault.cause) q
     text-found d (Ok n) q = let w = room-found d n (has_room b.files kind n) q in (w.1, ap Ok w.2, rw w.2 at w.0)
 
-    new-found : (t : Bool) (u : Result (Code × ℕ) Refusal) → cond t (Err Refusal.FiledAlready) u ≡ Ok (c, m) → (t ≡ false) × (u ≡ Ok (c, m))
-    new-found true u q = never Refusal.FiledAlready q
+    new-found : (t : Bool) (u : Result (Code × ℕ) NotFiled) → cond t (Err NotFiled.FiledAlready) u ≡ Ok (c, m) → (t ≡ false) × (u ≡ Ok (c, m))
+    new-found true u q = never NotFiled.FiledAlready q
     new-found false u q = (refl, q)
 
-    day-found : (t : Bool) (u : Result (Code × ℕ) Refusal) → cond t u (Err Refusal.NoDay) ≡ Ok (c, m) → (t ≡ true) × (u ≡ Ok (c, m))
+    day-found : (t : Bool) (u : Result (Code × ℕ) NotFiled) → cond t u (Err NotFiled.NoDay) ≡ Ok (c, m) → (t ≡ true) × (u ≡ Ok (c, m))
     day-found true u q = (refl, q)
-    day-found false u q = never Refusal.NoDay q
+    day-found false u q = never NotFiled.NoDay q
 
     found : (r : Option Code) (j : Result ℕ Fault) → checked b.files kind r day j ≡ Ok (c, m) → Found r j
     unfolding day_checked
-    found None j q = never Refusal.NoCode q
+    found None j q = never NotFiled.NoCode q
     found (Some d) j q =
-        let rest : Result (Code × ℕ) Refusal = text_checked (has_room b.files kind) d j in
+        let rest : Result (Code × ℕ) NotFiled = text_checked (has_room b.files kind) d j in
         let there : Bool = any (same_file (sought kind d.0 day)) (files_of b.files) in
-        let w = day-found (in_calendar day) (cond there (Err Refusal.FiledAlready) rest) q in
+        let w = day-found (in_calendar day) (cond there (Err NotFiled.FiledAlready) rest) q in
         let n = new-found there rest w.1 in
         let t = text-found d j n.1 in
         record {
@@ -147,39 +147,39 @@ module _ (b : Buffers) (e : is_readable b ≡ true) (kind : Filable) (day : ℕ)
           room = leb-true (records_of (kind_number kind) (files_of b.files) + m) (most kind) (and_right slot? room? w.room);
         }
 
-pub decided-unreadable : (b : Buffers) (kind : Filable) (publisher : List ℕ) (day : ℕ) (text : List ℕ) → is_readable b ≡ false → decide b kind publisher day text ≡ Refuse Refusal.Unreadable
+pub decided-unreadable : (b : Buffers) (kind : Filable) (publisher : List ℕ) (day : ℕ) (text : List ℕ) → is_readable b ≡ false → decide b kind publisher day text ≡ Refuse NotFiled.Unreadable
 unfolding decide
 decided-unreadable b kind publisher day text e = rw e
 
 -- ---- a refusal is a refusal
 -- one of the paper's numbers 1 to 5
-abbrev refuses : Result (Code × ℕ) Refusal → Bool
+abbrev refuses : Result (Code × ℕ) NotFiled → Bool
 refuses (Err a) = ltb 0 (answer_number (Err a)) && leb (answer_number (Err a)) 5
 refuses (Ok (c, m)) = true
 
 module _ (files : List ℕ) (kind : Filable) (day : ℕ) where
-  refuses-cond : (t : Bool) (u v : Result (Code × ℕ) Refusal) → refuses u ≡ true → refuses v ≡ true → refuses (cond t u v) ≡ true
+  refuses-cond : (t : Bool) (u v : Result (Code × ℕ) NotFiled) → refuses u ≡ true → refuses v ≡ true → refuses (cond t u v) ≡ true
   refuses-cond true u v p q = p
   refuses-cond false u v p q = q
 
   refuses-text : (c : Code) (j : Result ℕ Fault) → refuses (text_checked (has_room files kind) c j) ≡ true
   refuses-text c (Err fault) = refl
-  refuses-text c (Ok m) = refuses-cond (has_room files kind m) (Ok (c, m)) (Err Refusal.Full) refl refl
+  refuses-text c (Ok m) = refuses-cond (has_room files kind m) (Ok (c, m)) (Err NotFiled.Full) refl refl
 
   refuses-all : (r : Option Code) (j : Result ℕ Fault) → refuses (checked files kind r day j) ≡ true
   unfolding day_checked
   refuses-all None j = refl
   refuses-all (Some c) j =
-      let rest : Result (Code × ℕ) Refusal = text_checked (has_room files kind) c j in
+      let rest : Result (Code × ℕ) NotFiled = text_checked (has_room files kind) c j in
       let there : Bool = any (same_file (sought kind c.0 day)) (files_of files) in
-      refuses-cond (in_calendar day) (cond there (Err Refusal.FiledAlready) rest) (Err Refusal.NoDay)
-      (refuses-cond there (Err Refusal.FiledAlready) rest refl (refuses-text c j)) refl
+      refuses-cond (in_calendar day) (cond there (Err NotFiled.FiledAlready) rest) (Err NotFiled.NoDay)
+      (refuses-cond there (Err NotFiled.FiledAlready) rest refl (refuses-text c j)) refl
 
-  pub refused-number : (r : Option Code) (j : Result ℕ Fault) (a : Refusal) → checked files kind r day j ≡ Err a → (0 < answer_number (Err a)) × (answer_number (Err a) ≤ 5)
+  pub refused-number : (r : Option Code) (j : Result ℕ Fault) (a : NotFiled) → checked files kind r day j ≡ Err a → (0 < answer_number (Err a)) × (answer_number (Err a) ≤ 5)
   refused-number r j a q =
       let n : ℕ = answer_number (Err a) in
       let w : (ltb 0 n && leb n 5) ≡ true = ap refuses (sym q) ∙ refuses-all r j in
       (ltb-true 0 n (and_left (ltb 0 n) (leb n 5) w), leb-true n 5 (and_right (ltb 0 n) (leb n 5) w))
 
-  pub refused-not-filed : (r : Option Code) (j : Result ℕ Fault) (a : Refusal) → checked files kind r day j ≡ Err a → (count : ℕ) → ◌≡◌ {A = Result ℕ Refusal} (Err a) (Ok count) → ⊥
+  pub refused-not-filed : (r : Option Code) (j : Result ℕ Fault) (a : NotFiled) → checked files kind r day j ≡ Err a → (count : ℕ) → ◌≡◌ {A = Result ℕ NotFiled} (Err a) (Ok count) → ⊥
   refused-not-filed r j a q count p = let z : answer_number (Err a) ≡ 0 = ap answer_number p in omega (arith, (refused-number r j a q).0)

@@ -11,28 +11,28 @@ use Rattle.store.specs.journals.Files.{file_count, files_of, same_file, records_
 use Rattle.store.specs.declared.journals.files.File.{File}
 use Rattle.filing.specs.declared.entering.kind.Filable.{Filable}
 use Rattle.filing.specs.entering.Entering.{kind_number, most}
-use Rattle.filing.specs.declared.checking.answer.Refusal.{Refusal}
-use Rattle.filing.specs.declared.checking.answer.Refusal.TheVariants.{NoCode, NoDay, FiledAlready, Full}
+use Rattle.filing.specs.declared.checking.answer.NotFiled.{NotFiled}
+use Rattle.filing.specs.declared.checking.answer.NotFiled.TheVariants.{NoCode, NoDay, FiledAlready, Full}
 
 -- a slot for one more file, and room for its records in their journal
 unfoldable pub has_room : List ℕ → Filable → ℕ → Bool
 has_room files kind m = ltb (file_count files) 1024 && leb (records_of (kind_number kind) (files_of files) + m) (most kind)
 
-abbrev pub room_checked : Bool → Code → ℕ → Result (Code × ℕ) Refusal
+abbrev pub room_checked : Bool → Code → ℕ → Result (Code × ℕ) NotFiled
 room_checked room c m = cond room (Ok (c, m)) (Err Full)
 
-abbrev pub text_checked : (ℕ → Bool) → Code → Result ℕ Fault → Result (Code × ℕ) Refusal
-text_checked room c (Err fault) = Err (Refusal.Fault fault.at fault.cause)
+abbrev pub text_checked : (ℕ → Bool) → Code → Result ℕ Fault → Result (Code × ℕ) NotFiled
+text_checked room c (Err fault) = Err (NotFiled.Fault fault.at fault.cause)
 text_checked room c (Ok m) = room_checked (room m) c m
 
 -- a file as it is looked for
 abbrev pub sought : Filable → ℕ → ℕ → File
 sought kind publisher day = record { kind = kind_number kind; publisher = publisher; day = day; count = 0 }
 
-unfoldable pub day_checked : List ℕ → Filable → Code → ℕ → Result ℕ Fault → Result (Code × ℕ) Refusal
+unfoldable pub day_checked : List ℕ → Filable → Code → ℕ → Result ℕ Fault → Result (Code × ℕ) NotFiled
 day_checked files kind c day text =
     cond (in_calendar day) (cond (any (same_file (sought kind c.0 day)) (files_of files)) (Err FiledAlready) (text_checked (has_room files kind) c text)) (Err NoDay)
 
-abbrev pub checked : List ℕ → Filable → Option Code → ℕ → Result ℕ Fault → Result (Code × ℕ) Refusal
+abbrev pub checked : List ℕ → Filable → Option Code → ℕ → Result ℕ Fault → Result (Code × ℕ) NotFiled
 checked files kind None day text = Err NoCode
 checked files kind (Some c) day text = day_checked files kind c day text

@@ -13,8 +13,8 @@ use Rattle.model.specs.Model.{Filed, alike}
 use Rattle.store.specs.Reads.{Buffers, held, is_readable}
 use Rattle.filing.specs.declared.entering.kind.Filable.{Filable}
 use Rattle.filing.specs.entering.Entering.{file_kind, filed_as}
-use Rattle.filing.specs.declared.checking.answer.Refusal.{Refusal}
-use Rattle.filing.specs.declared.checking.answer.Refusal.TheVariants.{Unreadable, NoCode, NoDay, FiledAlready, Full}
+use Rattle.filing.specs.declared.checking.answer.NotFiled.{NotFiled}
+use Rattle.filing.specs.declared.checking.answer.NotFiled.TheVariants.{Unreadable, NoCode, NoDay, FiledAlready, Full}
 
 -- ---- the limits
 -- the records that the journal of a kind holds: the regular journal that of kind 0, the correction journal that of kind 1
@@ -30,12 +30,12 @@ within_limits files = leb (length files) 1024 && (within 8192 1048576 (stored 0 
 
 -- ---- the checks, in the paper's order
 pub data Decision : Type 0 where
-  Refuse : Refusal → Decision
+  Refuse : NotFiled → Decision
   Accept : Filed → Decision
 
 -- 4, then 5
 abbrev pub judged_to : List Filed → Filed → Result ℕ Fault → Decision
-judged_to files f (Err fault) = Refuse (Refusal.Fault fault.at fault.cause)
+judged_to files f (Err fault) = Refuse (NotFiled.Fault fault.at fault.cause)
 judged_to files f (Ok m) = cond (within_limits (files ++ (f ∷ []))) (Accept f) (Refuse Full)
 
 -- 3
@@ -52,6 +52,6 @@ unfoldable pub decide : Buffers → Filable → List ℕ → ℕ → List ℕ �
 decide b kind publisher day text = cond (is_readable b) (published_to (held b).files kind (code_of publisher) day text) (Refuse Unreadable)
 
 -- ---- the same, as the code checks it over the list of files: what it comes to stands for a decision
-abbrev pub decision_of : Filable → ℕ → List ℕ → Result (Code × ℕ) Refusal → Decision
+abbrev pub decision_of : Filable → ℕ → List ℕ → Result (Code × ℕ) NotFiled → Decision
 decision_of kind day text (Err a) = Refuse a
 decision_of kind day text (Ok (c, m)) = Accept (filed_as kind c.0 day text)

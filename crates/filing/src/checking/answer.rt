@@ -8,7 +8,7 @@ use faults::cause::{Cause, FaultPlace};
 // alike is filed, a record breaks its layout (where, and why), a limit would be passed. A file that is filed is answered with the count of
 // the journal records whose number it names.
 #[derive(Clone, Copy)]
-pub enum Refusal {
+pub enum NotFiled {
     Unreadable,
     NoCode,
     NoDay,
@@ -18,16 +18,16 @@ pub enum Refusal {
 }
 
 // The paper's number of an answer.
-pub fn number(a: Result<usize, Refusal>) -> u8
+pub fn number(a: Result<usize, NotFiled>) -> u8
     ensures { result ≡ answer_number a }
 {
     match a {
         Ok(_) => 0,
-        Err(Refusal::Unreadable) => 44,
-        Err(Refusal::NoCode) => 1,
-        Err(Refusal::NoDay) => 2,
-        Err(Refusal::FiledAlready) => 3,
-        Err(Refusal::Fault(_, _)) => 4,
-        Err(Refusal::Full) => 5,
+        Err(NotFiled::Unreadable) => 44,
+        Err(NotFiled::NoCode) => 1,
+        Err(NotFiled::NoDay) => 2,
+        Err(NotFiled::FiledAlready) => 3,
+        Err(NotFiled::Fault(_, _)) => 4,
+        Err(NotFiled::Full) => 5,
     }
 }

@@ -8,7 +8,7 @@ ghost use Rattle.filing.specs.entering.Entering.{file_kind};
 ghost use Rattle.store.specs.Reads.{good_files};
 ghost use Rattle.filing.specs.checking.Checks.{has_room, room_checked, text_checked, day_checked, checked};
 
-use crate::checking::answer::Refusal;
+use crate::checking::answer::NotFiled;
 use crate::entering::kind::Filable;
 use calendar::dates;
 use calendar::dates::CalendarDays;
@@ -43,14 +43,14 @@ fn has_room(files: &[u8], kind: Filable, m: usize) -> bool
 }
 
 // The last check: the room for the records of a file that keeps to its layouts.
-fn check_room(files: &[u8], kind: Filable, code: Code, m: usize) -> Result<(Code, usize), Refusal>
+fn check_room(files: &[u8], kind: Filable, code: Code, m: usize) -> Result<(Code, usize), NotFiled>
     requires { (8194 ≤ length files.now) × (good_files files.now ≡ true) }
     ensures { result ≡ room_checked (has_room files.now kind m) code m }
 {
     if has_room(files, kind, m) {
         return Ok((code, m));
     }
-    Err(Refusal::Full)
+    Err(NotFiled::Full)
 }
 
 // The checks of the text: its layouts, then the room for its records.
@@ -59,12 +59,12 @@ fn check_text(
     kind: Filable,
     code: Code,
     text: &[u8],
-) -> Result<(Code, usize), Refusal>
+) -> Result<(Code, usize), NotFiled>
     requires { (8194 ≤ length files.now) × (good_files files.now ≡ true) }
     ensures { result ≡ text_checked (has_room files.now kind) code (judged_file (file_kind kind) text.now) }
 {
     match judge::judge(kind.file_kind(), text) {
-        Err(fault) => Err(Refusal::Fault(fault.at, fault.cause)),
+        Err(fault) => Err(NotFiled::Fault(fault.at, fault.cause)),
         Ok(m) => check_room(files, kind, code, m),
     }
 }
@@ -76,12 +76,12 @@ fn check_day(
     code: Code,
     day: CalendarDays,
     text: &[u8],
-) -> Result<(Code, usize), Refusal>
+) -> Result<(Code, usize), NotFiled>
     requires { (8194 ≤ length files.now) × (good_files files.now ≡ true) }
     ensures { result ≡ day_checked files.now kind code day.0 (judged_file (file_kind kind) text.now) }
 {
     if !dates::in_calendar(day) {
-        return Err(Refusal::NoDay);
+        return Err(NotFiled::NoDay);
     }
     let sought = File {
         kind: kind.number(),
@@ -90,7 +90,7 @@ fn check_day(
         count: 0,
     };
     if filed_already(files, sought) {
-        return Err(Refusal::FiledAlready);
+        return Err(NotFiled::FiledAlready);
     }
     check_text(files, kind, code, text)
 }
@@ -102,10 +102,10 @@ pub fn check(
     publisher: &[u8],
     day: CalendarDays,
     text: &[u8],
-) -> Result<(Code, usize), Refusal>
+) -> Result<(Code, usize), NotFiled>
     requires { (8194 ≤ length files.now) × (good_files files.now ≡ true) }
     ensures { result ≡ checked files.now kind (code_of publisher.now) day.0 (judged_file (file_kind kind) text.now) }
 {
-    let code = Code::read(publisher).ok_or(Refusal::NoCode)?;
+    let code = Code::read(publisher).ok_or(NotFiled::NoCode)?;
     check_day(files, kind, code, day, text)
 }

@@ -19,7 +19,7 @@ use Rattle.store.specs.Reads.{Buffers}
 use Rattle.starting.specs.declared.start.NotStarted.{NotStarted}
 use Rattle.starting.specs.Start.{Starts}
 use Rattle.filing.specs.declared.entering.kind.Filable.{Filable}
-use Rattle.filing.specs.declared.checking.answer.Refusal.{Refusal}
+use Rattle.filing.specs.declared.checking.answer.NotFiled.{NotFiled}
 use Rattle.filing.specs.Effect.{Files}
 use Rattle.model.specs.Model.{Filed}
 use Rattle.verdict.specs.declared.step.Standing.{Standing}
@@ -62,7 +62,7 @@ three-settle c d e x y p q = λ i. (equation-settles c x.0 y.0 p.0 q.0 i, equati
 
 -- ---- the contracts that speak of lent memory: the answer, and every byte afterwards
 -- filing: the answer and the five buffers
-pub filing-settles : (b : Buffers) (kind : Filable) (publisher : List ℕ) (day : ℕ) (text : List ℕ) → Settles (λ (o : Result ℕ Refusal × Buffers). Files b kind publisher day text o.0 o.1)
+pub filing-settles : (b : Buffers) (kind : Filable) (publisher : List ℕ) (day : ℕ) (text : List ℕ) → Settles (λ (o : Result ℕ NotFiled × Buffers). Files b kind publisher day text o.0 o.1)
 filing-settles b kind publisher day text x y p q = pair_settles _ _ x y (p.answers, p.leaves) (q.answers, q.leaves)
 
 -- starting: the answer and the five buffers
