@@ -82,3 +82,6 @@ module _ (s : List ℕ) where
         part-4 {k} p =
             let l : length (split 58 (drop (b + 1) s)) ≡ 1 = ap length (split_one 58 (drop (b + 1) s) (rw (part-back (drop (b + 1) s) k p).0 at (lacks-part k))) in
             correction-three s (omega (arith, two.count)) ∙ three-4 _ _ _ head reported (ap part_of (last l) ∙ p)
+
+-- what the reader needs
+pub ruleset walks = (part-rest, one, colon-1, head-1, colon-2, reported-2, part-3, part-4)

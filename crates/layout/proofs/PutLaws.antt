@@ -1,10 +1,10 @@
--- Room for the first of two texts, and behind it for the other; what fits a record fits its fields. Assumes nothing.
-use Prim.Native.Nat.{ℕ, ◌+◌, ◌≤◌}
+-- What fits a record fits its fields, and what its writers need. Assumes nothing.
 use mathlib.Core.Path.{◌≡◌}
 use mathlib.Core.Bool.{true}
-use mathlib.Core.List.{List, [], ◌∷◌}
-use lib.ListN.{length}
-use Rattle.laws.proofs.Overlay.{Room}
+use lib.ListN.{length, length-append}
+use Rattle.laws.proofs.Overlay.{Room, laid-length}
+use Rattle.fields.proofs.KindLaws.{kind-always}
+use Rattle.fields.proofs.NumberLaws.{length-field, first_fits, last_fits}
 use Rattle.laws.proofs.Tests.{and_left, and_right}
 use Rattle.fields.specs.Code.{code_fits, maybe_code_fits}
 use Rattle.fields.specs.CorrectionCode.{correction_code_fits}
@@ -18,13 +18,6 @@ use Rattle.layout.specs.Part.{part_fits}
 use Rattle.layout.specs.Report.{report_part, report_fits}
 use Rattle.layout.specs.Correction.{correction_fits}
 use Rattle.layout.specs.Request.{request_fits}
-
--- room as a caller gives it
-pub room : (o : List ℕ) (at : ℕ) (t : List ℕ) → at + length t ≤ length o → Room o at t
-room o at t h = record { fits = h }
-
-abbrev pub comma : List ℕ
-comma = 44 ∷ []
 
 -- ---- what fits a record fits its fields
 pub part-fields : (p : Part) → part_fits p ≡ true
@@ -48,3 +41,6 @@ correction-parts c h =
 pub request-fields : (r : Request) → request_fits r ≡ true → (code_fits r.code ≡ true) × (maybe_date_fits r.from ≡ true)
 unfolding request_fits
 request-fields r h = (and_left (code_fits r.code) _ h, and_right (code_fits r.code) _ h)
+
+-- what the writers need: where the next text goes, and that it fits
+pub ruleset behind = (length-append, laid-length, length-field, first_fits, last_fits, part-fields, report-part, correction-parts, request-fields, kind-always)

@@ -211,3 +211,5 @@ module _ (s : List ℕ) where
 
             pub walk-7 : {kind : Option Kind} → maybe_kind_of (drop e s) ≡ Some kind → part_of s ≡ Some (record { number = number; date = date; gaining = gaining; losing = losing; kind = kind })
             walk-7 p₆ = from-5 ∙ rw p₆
+
+pub ruleset walks = (walk_1, walk_2, walk_3, walk_4, walk_5, walk_6, walk-7)

@@ -65,6 +65,7 @@ fn sound(code: CorrectionCode, u: Part, k: Part) -> Option<Correction>
 }
 
 impl Correction {
+    #[tactic(auto, using(crate::proofs::CorrectionWalk::walks))]
     pub fn read(s: &[u8]) -> Option<Correction>
         ensures { result ≡ correction_of s.now }
     {
@@ -132,6 +133,7 @@ impl Correction {
     }
 
     // Into a record that can hold it.
+    #[tactic(auto, using(crate::proofs::PutLaws::behind, crate::proofs::CorrectionLaws::whole))]
     pub fn write(self, out: &mut [u8], at: usize) -> usize
         requires { (at + length (correction_text self) ≤ length out.old) × (correction_fits self ≡ true) }
         ensures { Laid out.old at (correction_text self) out.new result }

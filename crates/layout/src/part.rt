@@ -21,6 +21,7 @@ pub struct Part {
 }
 
 impl Part {
+    #[tactic(auto, using(crate::proofs::WalkLaws::walks))]
     pub fn read(s: &[u8]) -> Option<Part>
         ensures { result ≡ part_of s.now }
     {
@@ -91,6 +92,7 @@ impl Part {
     }
 
     // Into six fields that can hold it.
+    #[tactic(auto, using(crate::proofs::PutLaws::behind, crate::proofs::PartLaws::whole))]
     pub fn write(self, out: &mut [u8], at: usize) -> usize
         requires { (at + length (part_text self) ≤ length out.old) × (part_fits self ≡ true) }
         ensures { Laid out.old at (part_text self) out.new result }

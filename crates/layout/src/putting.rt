@@ -20,6 +20,7 @@ pub(crate) fn put<T: Field>(field: T, out: &mut [u8], at: usize) -> usize
 }
 
 // Both fields of a number.
+#[tactic(auto, using(crate::proofs::PutLaws::behind))]
 pub(crate) fn put_number(number: Number, out: &mut [u8], at: usize) -> usize
     requires { (at + length (number_followed number) ≤ length out.old) × (number_fits number ≡ true) }
     ensures { Laid out.old at (number_followed number) out.new result }
@@ -29,6 +30,7 @@ pub(crate) fn put_number(number: Number, out: &mut [u8], at: usize) -> usize
 }
 
 // Both networks.
+#[tactic(auto, using(crate::proofs::PutLaws::behind))]
 pub(crate) fn put_networks(
     gaining: Option<Code>,
     losing: Option<Code>,
@@ -43,6 +45,7 @@ pub(crate) fn put_networks(
 }
 
 // The code of a correction, and `U:`.
+#[tactic(auto, using(crate::proofs::PutLaws::behind))]
 pub(crate) fn put_head(code: CorrectionCode, out: &mut [u8], at: usize) -> usize
     requires { (at + length (head_text code) ≤ length out.old) × (correction_code_fits code ≡ true) }
     ensures { Laid out.old at (head_text code) out.new result }
@@ -53,6 +56,7 @@ pub(crate) fn put_head(code: CorrectionCode, out: &mut [u8], at: usize) -> usize
 }
 
 // `,K:`, between the two parts.
+#[tactic(auto, using(crate::proofs::PutLaws::behind))]
 pub(crate) fn put_between(out: &mut [u8], at: usize) -> usize
     requires { at + 3 ≤ length out.old }
     ensures { Laid out.old at between_parts out.new result }

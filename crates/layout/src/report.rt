@@ -89,6 +89,7 @@ impl Report {
     }
 
     // Into a record that can hold it.
+    #[tactic(auto, using(crate::proofs::PutLaws::behind))]
     pub fn write(self, out: &mut [u8], at: usize) -> usize
         requires { (at + length (report_text self) ≤ length out.old) × (report_fits self ≡ true) }
         ensures { Laid out.old at (report_text self) out.new result }

@@ -57,6 +57,7 @@ impl Request {
     }
 
     // Into a record that can hold it.
+    #[tactic(auto, using(crate::proofs::PutLaws::behind, crate::proofs::RequestLaws::whole))]
     pub fn write(self, out: &mut [u8], at: usize) -> usize
         requires { (at + length (request_text self) ≤ length out.old) × (request_fits self ≡ true) }
         ensures { Laid out.old at (request_text self) out.new result }

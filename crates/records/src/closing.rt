@@ -20,6 +20,7 @@ pub fn begins(line: &[u8]) -> bool
 }
 
 // How many bytes the closing record of `n` lines has.
+#[tactic(auto, using(crate::proofs::closing::ClosingLaws::closings))]
 pub fn text_len(n: u64) -> usize
     ensures { result ≡ length (closing_text n) }
 {
@@ -38,6 +39,7 @@ pub(crate) fn put_all(out: &mut [u8], at: usize, bytes: &[u8]) -> usize
 }
 
 // The closing record of `n` lines into a lent buffer; what follows it is the answer.
+#[tactic(auto, using(crate::proofs::closing::ClosingLaws::closings))]
 pub fn put(out: &mut [u8], at: usize, n: u64) -> usize
     requires { at + length (closing_text n) ≤ length out.old }
     ensures { Laid out.old at (closing_text n) out.new result }
@@ -49,6 +51,7 @@ pub fn put(out: &mut [u8], at: usize, n: u64) -> usize
 }
 
 // Whether a line is the closing record of `n` lines.
+#[tactic(auto, using(crate::proofs::closing::ClosingLaws::closings))]
 pub fn is_closing(line: &[u8], n: u64) -> bool
     ensures { result ≡ same_lists eqb line.now (closing_text n) }
 {

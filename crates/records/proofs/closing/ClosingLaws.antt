@@ -10,7 +10,6 @@ use mathlib.Core.Path.{◌≡◌, refl, sym, ap, ◌∙◌}
 use mathlib.Core.Bool.{Bool, true, false, not}
 use mathlib.Core.List.{List, [], ◌∷◌, ◌++◌}
 use lib.ListN.{length, take, drop, length-append, take-append-drop}
-use lib.Seq.{take_all}
 use borrow.Author.Tests.{ne_eqb}
 use Rattle.laws.specs.Digits.{is_digit, digits, size_of}
 use Rattle.laws.specs.Lists.{same_lists}
@@ -19,8 +18,8 @@ use Rattle.laws.specs.Split.{is_not, lacks}
 use Rattle.laws.proofs.Tables.{all_append, all_weaker}
 use Rattle.laws.proofs.Digits.{digit_low, all_digits_lem, length_digits, size_small}
 use Rattle.laws.specs.Overlay.{Laid}
-use Rattle.laws.proofs.Same.{numbers-refl, numbers-equal, same-long}
-use Rattle.laws.proofs.Overlay.{laid_then}
+use Rattle.laws.proofs.Same.{numbers-refl, numbers-equal}
+use Rattle.laws.proofs.Overlay.{laid_then, laid-length, laid-front}
 use Rattle.records.specs.closing.Closing.{closing_word, decimal, closing_text, begins}
 
 pub length-closing : (n : ℕ) → length (closing_text n) ≡ size_of n n + 15
@@ -44,13 +43,6 @@ laid-closing n k e p q r =
     let d : k + 1 ≡ suc (size_of n n) = omega arith in
     laid_then (laid_then p (rw d at q)) r
 
-pub begins-short : (l : List ℕ) → length l < 13 → false ≡ begins l
-unfolding begins
-begins-short l h = sym (same-long eqb (take 13 l) closing_word (λ e. omega (arith, length-take-le-all 13 l h, e)))
-  where
-    length-take-le-all : (n : ℕ) (l : List ℕ) → length l < n → length (take n l) ≡ length l
-    length-take-le-all n l h = ap length (take_all n l (omega arith))
-
 digit-no-end : (b : ℕ) → is_digit b ≡ true → is_not 13 b ≡ true
 unfolding is_not
 digit-no-end b p = ap not (ne_eqb b 13 (λ e. omega (arith, digit_low b p)))
@@ -71,3 +63,6 @@ begins-not l h = go (same_lists eqb (take 13 l) closing_word) refl
         let whole : l ≡ closing_word ++ drop 13 l = sym (take-append-drop 13 l) ∙ ap (λ (f : List ℕ). f ++ drop 13 l) (numbers-equal (take 13 l) closing_word e) in
         sym h ∙ ap (lacks 101) whole
     go false e = refl
+
+-- what the functions on it need
+pub ruleset closings = (length-closing, short-closing, laid-closing, laid-length, laid-front, length_digits)

@@ -17,7 +17,8 @@ use Rattle.laws.specs.Overlay.{overlay, Laid}
 use Rattle.laws.specs.Digits.{digits}
 use Rattle.laws.proofs.Tests.{and_left, and_right}
 use Rattle.laws.proofs.Same.{numbers-equal}
-use Rattle.laws.proofs.Overlay.{laid_then}
+use Rattle.laws.proofs.Digits.{length_digits}
+use Rattle.laws.proofs.Overlay.{laid_then, laid-length}
 use Rattle.calendar.specs.Answers.{full_year, date_of}
 use Rattle.calendar.specs.declared.dates.Date.{Date}
 use Rattle.records.specs.names.Kind.{letter_of}
@@ -88,3 +89,5 @@ pub ruleset frames = (framed-length, framed-not)
 pub ruleset long_days = (six-long)
 
 pub ruleset writes = (wrote_none, wrote-short, wrote-name)
+
+pub ruleset laid_names = (laid-length, length_digits)

@@ -50,6 +50,7 @@ fn six(x: Date) -> u64
 }
 
 // The twelve bytes of a name.
+#[tactic(auto, using(crate::proofs::names::NameLaws::laid_names))]
 fn put(out: &mut [u8], letter: u8, n: u64)
     requires { 12 ≤ length out.old }
     ensures { out.new ≡ overlay out.old 0 (spelling letter n) }

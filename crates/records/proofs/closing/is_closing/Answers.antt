@@ -8,14 +8,6 @@ use mathlib.Core.Path.{sym, ap, ◌∙◌}
 use native.Mathlib.Omega.{arith}
 use Rattle.records.proofs.closing.is_closing.Goals as goal
 
-pub put-end-requires : goal.put-end-requires
-put-end-requires c =
-    omega (arith, length-closing c.args.n, short-closing c.args.n (omega arith))
-
-pub slice_bounds-right-end : goal.slice_bounds-right-end
-slice_bounds-right-end c =
-    omega (arith, laid-length c.put-end.ensures, c.put-end.ensures.ends, length-closing c.args.n, short-closing c.args.n (omega arith))
-
 pub slice_bounds-same-end : goal.slice_bounds-same-end
 slice_bounds-same-end c =
     sym (length-take-le c.put-end.result c.put-end.new.out (omega (arith, laid-length c.put-end.ensures, c.put-end.ensures.ends, length-closing c.args.n, short-closing c.args.n (omega arith))))

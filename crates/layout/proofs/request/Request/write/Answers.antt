@@ -1,16 +1,10 @@
--- `layout::request::Request::write` meets its contract: there is room for two fields, and they are the text. Assumes nothing.
-use Rattle.laws.proofs.Overlay.{room-first, room_next, laid_then}
-use Rattle.fields.specs.Code.{code_text}
+-- `layout::request::Request::write` meets its contract: its calls lay one text behind another. Assumes nothing.
+use Rattle.laws.proofs.Overlay.{room_next, laid_then}
 use Rattle.fields.specs.Date.{maybe_date_text}
 use Rattle.layout.specs.Putting.{followed}
 use Rattle.layout.proofs.PutLaws.{request-fields}
 use Rattle.layout.proofs.RequestLaws.{whole, room-request}
 use Rattle.layout.proofs.request.Request.write.Goals as goal
-
-pub put-behind-requires : goal.put-behind-requires
-put-behind-requires c =
-    let v = c.args.self in
-    (room-first (followed (code_text v.code)) (followed (maybe_date_text v.from)) (room-request v c.args.out.now c.args.at c.requires.0), (request-fields v c.requires.1).0)
 
 pub put-requires : goal.put-requires
 put-requires c =
