@@ -11,18 +11,12 @@ const NONE: u16 = 65535;
 
 // The day of a date.
 pub fn found(date: Date) -> u16 {
-    let Some(n) = dates::day_of(date) else {
-        return NONE;
-    };
-    n.0
+    dates::day_of(date).map_or(NONE, |day| day.0)
 }
 
 // The k-th working day after a day.
 pub fn after(n: u16, k: u8) -> u16 {
-    let Some(day) = working_days::working_day_after(CalendarDays(n), WorkingDays(k)) else {
-        return NONE;
-    };
-    day.0
+    working_days::working_day_after(CalendarDays(n), WorkingDays(k)).map_or(NONE, |day| day.0)
 }
 
 // 0 for a day that is none of work, 1 for one that is, and 2 outside.
@@ -50,40 +44,31 @@ pub fn weekday(n: u16) -> usize {
 
 // The eight digits of a date, yyyymmdd.
 fn eight(x: Date) -> u64 {
-    x.year as u64 * 10000 + x.month as u64 * 100 + x.day as u64
+    u64::from(x.year) * 10000 + u64::from(x.month) * 100 + u64::from(x.day)
 }
 
 // The eight digits of a day's date, and 0 where it has none, or one of another day.
 pub fn dated(n: u16) -> u64 {
-    let Some(x) = dates::date_of(CalendarDays(n)) else {
-        return 0;
-    };
-    if found(x) == n {
-        return eight(x);
+    match dates::date_of(CalendarDays(n)) {
+        Some(x) if found(x) == n => eight(x),
+        _ => 0,
     }
-    0
 }
 
 // The date that a line spells yyyy-mm-dd, between blanks.
 fn date_at(s: &[u8], k: usize) -> Date {
-    let f = text::piece(s, 32, k);
+    let f = text::piece(s, b' ', k);
     Date {
-        year: (input::number(f, 45, 0) % 10000) as u16,
-        month: (input::number(f, 45, 1) % 100) as u8,
-        day: (input::number(f, 45, 2) % 100) as u8,
+        year: (input::number(f, b'-', 0) % 10000) as u16,
+        month: (input::number(f, b'-', 1) % 100) as u8,
+        day: (input::number(f, b'-', 2) % 100) as u8,
     }
 }
 
 // Whether the line's weekday, between blanks, is that of a date.
 fn is_weekday(s: &[u8], k: usize, date: Date) -> bool {
-    let here = text::piece(b"mo di mi do fr sa so --", 32, weekday(found(date)));
-    check::same(here, text::piece(s, 32, k))
-}
-
-fn dashed(rt: &impl Print, n: u64) {
-    input::say(rt, b"-");
-    input::say_number(rt, n / 10 % 10);
-    input::say_number(rt, n % 10);
+    let here = text::piece(b"mo di mi do fr sa so --", b' ', weekday(found(date)));
+    here == text::piece(s, b' ', k)
 }
 
 // The date that is here, where another is stated.
@@ -92,16 +77,17 @@ fn outcome(rt: &impl Print, here: u64, ok: bool) {
     if ok {
         return;
     }
-    input::say(rt, b", here ");
-    input::say_number(rt, here / 10000);
-    dashed(rt, here / 100);
-    dashed(rt, here);
+    let (year, month, day) = (here / 10000, here / 100 % 100, here % 100);
+    let _ = print!(rt; ", here {year}-{month:02}-{day:02}");
 }
 
 pub fn counted(rt: &impl Print, s: &[u8]) {
     let stated = date_at(s, 8);
-    let on = after(found(date_at(s, 0)), (input::number(s, 32, 2) % 256) as u8);
-    let more = (input::number(s, 32, 5) % 16) as u16;
+    let on = after(
+        found(date_at(s, 0)),
+        (input::number(s, b' ', 2) % 256) as u8,
+    );
+    let more = (input::number(s, b' ', 5) % 16) as u16;
     let here = dated(on % 40000 + more); // no day there is has a higher number
     outcome(rt, here, (here == eight(stated)) & is_weekday(s, 9, stated));
 }

@@ -9,36 +9,32 @@ fn numbered(n: u16) -> u64 {
         month: (n % 640 / 40) as u8,
         day: (n % 40) as u8,
     };
-    days::found(date) as u64
+    u64::from(days::found(date))
 }
 
 // What is worked out of a day: its date, its weekday, whether it is one of work, the k-th such day after it; or a date's day.
 fn value(what: u8, n: u16, k: u8) -> u64 {
     match what {
-        100 => days::dated(n),
-        119 => days::weekday(n) as u64,
-        107 => days::works(n),
-        97 => days::after(n, k) as u64,
+        b'd' => days::dated(n),
+        b'w' => days::weekday(n) as u64,
+        b'k' => days::works(n),
+        b'a' => u64::from(days::after(n, k)),
         _ => numbered(n),
     }
 }
 
 fn folded(what: u8, from: u16, to: u16, k: u8) -> u64 {
-    let mut h: u64 = 0;
-    let mut n = from;
-    while n < to {
-        h = (h % 1000003 * 31 + value(what, n, k) % 1000003) % 1000003;
-        n = n + 1;
-    }
-    h
+    (from..to).fold(0, |h, n| {
+        (h % 1000003 * 31 + value(what, n, k) % 1000003) % 1000003
+    })
 }
 
 pub fn compared(rt: &impl Print, what: u8, numbers: &[u8]) {
-    let from = (input::number(numbers, 32, 0) % 65536) as u16;
-    let to = (input::number(numbers, 32, 1) % 65536) as u16;
-    let k = (input::number(numbers, 32, 2) % 256) as u8;
+    let from = (input::number(numbers, b' ', 0) % 65536) as u16;
+    let to = (input::number(numbers, b' ', 1) % 65536) as u16;
+    let k = (input::number(numbers, b' ', 2) % 256) as u8;
     input::ended(
         rt,
-        folded(what, from, to, k) == input::number(numbers, 32, 3),
+        folded(what, from, to, k) == input::number(numbers, b' ', 3),
     );
 }

@@ -9,10 +9,8 @@ fn rest(n: u64, m: u64) -> u64 {
 
 // The key that a line gives for the place `i`, or else `n` by the line's rule.
 fn key(numbers: &[u8], i: usize, n: u64) -> u64 {
-    if i < 100 {
-        if i + 5 <= text::cuts(numbers, 32) {
-            return input::wrapped(numbers, i + 5);
-        }
+    if i < 100 && i + 5 <= text::cuts(numbers, b' ') {
+        return input::wrapped(numbers, i + 5);
     }
     rest(
         rest(n, input::wrapped(numbers, 3)),
@@ -23,11 +21,9 @@ fn key(numbers: &[u8], i: usize, n: u64) -> u64 {
 fn fill(keys: &mut [u64], numbers: &[u8]) {
     let step = input::wrapped(numbers, 2);
     let mut n = input::wrapped(numbers, 1);
-    let mut i = 0;
-    while i < keys.len() {
-        keys[i] = key(numbers, i, n);
-        n = std::num::wrapping_add_u64(n, step);
-        i += 1;
+    for (i, place) in keys.iter_mut().enumerate() {
+        *place = key(numbers, i, n);
+        n = n.wrapping_add(step);
     }
 }
 
@@ -37,7 +33,7 @@ fn told(rt: &impl Print, k: usize, first: bool) {
         b": in order|: NOT in order|, same sum|, ANOTHER sum|, same bits|, OTHER bits|, others untouched|, others TOUCHED|, rises|, does not rise";
     let at = k % 5 * 2;
     let j = if first { at } else { at + 1 };
-    input::say(rt, text::piece(words, 124, j));
+    input::say(rt, text::piece(words, b'|', j));
 }
 
 // A second look, key by key: whether the first `n` are in order, their sum less what it was, the bits that are set an odd number of times in those
@@ -48,19 +44,12 @@ fn looked(rt: &impl Print, keys: &[u64], was: &[u64], n: usize) {
     let mut bits: u64 = 0;
     let mut kept = true;
     let mut last: u64 = 0;
-    let mut i = 0;
-    while i < keys.len() {
-        if was.len() <= i {
-            return;
-        }
-        let a = keys[i];
-        let b = was[i];
-        ordered = ordered & ((n <= i) | (last <= a));
-        sum = std::num::wrapping_add_u64(sum, std::num::wrapping_sub_u64(a, b));
-        bits = bits ^ a ^ b;
-        kept = kept & ((i < n) | (a == b));
+    for (i, (&a, &b)) in keys.iter().zip(was).enumerate() {
+        ordered &= n <= i || last <= a;
+        sum = sum.wrapping_add(a.wrapping_sub(b));
+        bits ^= a ^ b;
+        kept &= i < n || a == b;
         last = a;
-        i += 1;
     }
     told(rt, 0, ordered);
     told(rt, 1, sum == 0);
@@ -70,19 +59,13 @@ fn looked(rt: &impl Print, keys: &[u64], was: &[u64], n: usize) {
 
 // The first seven keys.
 fn print_first(rt: &impl Print, keys: &[u64]) {
-    let mut i = 0;
-    while i < keys.len() {
-        if 7 <= i {
-            return;
-        }
-        input::say(rt, b" ");
-        input::say_number(rt, keys[i]);
-        i += 1;
+    for key in keys.iter().take(7) {
+        let _ = print!(rt; " {key}");
     }
 }
 
 fn show(rt: &impl Print, keys: &[u64; ROOM], was: &[u64; ROOM], n: usize) {
-    input::say_number(rt, n as u64);
+    let _ = print!(rt; "{n}");
     looked(rt, keys, was, n);
     told(rt, 4, order::is_rising(keys, n));
     print_first(rt, keys);

@@ -1,6 +1,0 @@
--- `days_run::input::lines` ends, and hands on parts of the text. The measure is what is left of the text. Assumes nothing.
-use Rattle.std.proofs.Common.{◌-◌, length}
-use Rattle.days_run.proofs.input.lines.Given as goal
-
-abbrev pub decreases-loop-at : goal.decreases-loop-at
-decreases-loop-at g l = length l.s - l.at
