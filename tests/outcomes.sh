@@ -6,9 +6,8 @@ set -eu
 cd "$(dirname "$0")/.."
 theorems=crates/promises/proofs/outcomes/Outcomes.antt
 
-# rooms of a caller's own, that no user lends: what stands behind the keys and places laid, and what a table that is refused left; what is laid there is said by the
-# facts of the type that holds them
-exceptions='working::gather::gather working::gather::gather_all working::indexing::index::index working::indexing::find::gather_indexed filing::renewing::named::tag_file starting::tables::scratch::judge working::indexing::find::new working::overview::lines::want_lines'
+# rooms of a caller's own, that no user lends: what stands behind the keys and places laid, and what a table that is refused left
+exceptions='working::gather::gather working::gather::gather_all working::indexing::index::index working::indexing::find::new working::indexing::find::gather_indexed working::overview::lines::want_lines filing::renewing::named::tag_file starting::tables::scratch::judge'
 # rooms of a caller's own too, lent down so that they aren't cleared for each number: only what becomes of `room` is left out, all else is asked
 rooms='working::indexing::find::work_indexed working::overview::lines::line_standing filing::renewing::turn::renew_record'
 # the program's crates: what they print and keep has no contract, and is tested
@@ -68,11 +67,11 @@ done | sort | xargs awk -v theorems="$theorems" -v exceptions="$exceptions" -v r
     }
     inside && /^ *ensures / {
         line = $0; sub(/^ *ensures [a-z_0-9]* *\{ /, "", line); sub(/ \}$/, "", line)
-        while (line ~ /^let [a-z_]+ = / && index(line, " in ")) line = substr(line, index(line, " in ") + 4)
+        # names for parts of the arguments, in front of the fact
+        while (line ~ /^let [a-z]+ = / && (at = index(line, " in "))) line = substr(line, at + 4)
         gsub(/\)/, " )", line)
         contract = contract " " line " "
         if (idle(line) != "") fail("says nothing: " idle(line))
-        # an equation for the answer, or for a part of it
         if (line ~ /^\(?result(\.[a-z_]+)* ≡ /) answered = 1
         else if (line !~ /^\(?[a-z_]+\.new ≡ /) { form = line; sub(/ .*/, "", form) }
         next

@@ -14,7 +14,7 @@ find crates/*/src -name '*.rt' | sort | xargs awk '
     }
     # the path below src is the path of its functions; lib.rt is the crate itself
     FNR == 1 { file = FILENAME; sub(/^crates\//, "", file); sub(/\/src\//, "/", file); sub(/(\/lib)?\.rt$/, "", file); gsub("/", "::", file); type = "" }
-    /^impl / { type = $2; sub(/[^A-Za-z0-9_].*/, "", type); type = type "::" }
+    /^impl[ <]/ { type = $0; sub(/^impl(<[^>]*>)? */, "", type); sub(/[^A-Za-z0-9_].*/, "", type); type = type "::" }
     /^}/ { type = "" }
     /^ *(pub(\([a-z]*\))? )?(extern "C" )?fn / {
         head = $0; sub(/^.*fn /, "", head); sub(/[^a-z_0-9A-Z].*/, "", head); head = file "::" type head

@@ -28,7 +28,7 @@ grep -E '^crates/[^/]*/(specs|proofs)/.*\.antt$' "$room/files" | grep -v -e '/An
 find crates/*/src -name '*.rt' | sort | xargs awk '
     function tell(path) { while (path ~ /::/) { print "function " path; sub(/^[^:]*::/, "", path) } }
     FNR == 1 { file = FILENAME; sub(/^crates\//, "", file); sub(/\/src\//, "/", file); sub(/(\/lib)?\.rt$/, "", file); gsub("/", "::", file); type = ""; tell(file) }
-    /^impl / { type = $2; sub(/[^A-Za-z0-9_].*/, "", type); type = type "::" }
+    /^impl[ <]/ { type = $0; sub(/^impl(<[^>]*>)? */, "", type); sub(/[^A-Za-z0-9_].*/, "", type); type = type "::" }
     /^}/ { type = "" }
     /^ *(pub(\([a-z]*\))? )?(extern "C" )?fn / { name = $0; sub(/^.*fn /, "", name); sub(/[^a-z_0-9A-Z].*/, "", name); tell(file "::" type name) }' >>"$room/there"
 sed -n 's/^\([a-z_0-9]*\)\( staticlib\)\{0,1\}:.*/room \1/p' crates.txt | grep -v -e '_run$' -e ' laws$' >>"$room/there"

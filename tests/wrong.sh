@@ -20,7 +20,7 @@ trap 'rm -f "$public" "$public.sum"' EXIT
 public_of() {
     find "crates/$1/src" -name '*.rt' | sort | xargs awk '
         FNR == 1 { file = FILENAME; sub(/^crates\/[^\/]*\/src\//, "", file); sub(/\.rt$/, "", file); gsub("/", "::", file); of = file == "lib" ? "" : file "::"; type = "" }
-        /^impl / { type = $2; sub(/[^A-Za-z0-9_].*/, "", type); type = type "::" }
+        /^impl[ <]/ { type = $0; sub(/^impl(<[^>]*>)? */, "", type); sub(/[^A-Za-z0-9_].*/, "", type); type = type "::" }
         /^}/ { type = "" }
         /^ *pub (extern "C" )?fn / { name = $0; sub(/^ *pub (extern "C" )?fn /, "", name); sub(/[^a-z_0-9A-Z].*/, "", name); print of type name }'
 }

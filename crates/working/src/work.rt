@@ -43,18 +43,19 @@ pub fn stand_behind(journals: &Journals, line: Line, s: Standing, key: u64) -> S
     step::stand(line, s, record_behind(journals, key))
 }
 
-// The fold over the records behind the keys: where it leads, and how many records were folded.
+// The fold over the records behind the keys: where it leads, and how many records were folded, each counted as it is folded.
 pub(crate) fn fold(journals: &Journals, line: Line, keys: &[u64]) -> Worked
     ensures { result ≡ folded_behind line journals.now.regular.now journals.now.corrections.now keys.now }
 {
-    let first = step::first(line);
-    let standing = keys
-        .iter()
-        .fold(first, |s, &key| stand_behind(journals, line, s, key));
-    Worked {
-        standing,
-        count: keys.len(),
+    let mut worked = Worked {
+        standing: step::first(line),
+        count: 0,
+    };
+    for &key in keys {
+        worked.standing = stand_behind(journals, line, worked.standing, key);
+        worked.count += 1;
     }
+    worked
 }
 
 // Puts the first r keys in order.
