@@ -50,7 +50,7 @@ pub struct Said {
     pub rec: Record,
 }
 
-// The kind of the files whose records a journal holds.
+// The kind of the files whose records a journal holds, by the number that the list of files keeps in a byte (`store::journals::files::File`).
 fn kind_of(which: Journal) -> u8
     ensures { result ≡ kind_of which }
 {
