@@ -18,37 +18,27 @@ fn is_found(
     }
     show::word(rt, show::NEXT);
     show::say(rt, line);
-    if records::closing::same(line, files::read::record_bytes(kind, file, i)) {
+    if line == files::read::record_bytes(kind, file, i) {
         return lines::is_kept(kind, file, i, line);
     }
     false
 }
 
 pub fn counted(n: usize, more: bool) -> usize {
-    if n < 1000000 {
-        if more {
-            return n + 1;
-        }
-    }
-    n
+    if more && n < 1000000 { n + 1 } else { n }
 }
 
 // Each record as a part of the file, found by a walk: how many are right.
 pub fn walk(rt: &impl Print, kind: FileKind, file: &[u8], n: usize, said: bool) -> usize {
     let mut right: usize = 0;
-    let mut i: usize = 0;
     let mut at: usize = 0;
-    while i < n {
+    for i in 0..n {
         let end = files::read::line_end(file, at);
-        if end < at {
-            return right;
-        }
-        if file.len() <= end {
+        if end < at || file.len() <= end {
             return right;
         }
         right = counted(right, is_found(rt, kind, file, &file[at..end], i, said));
         at = end + 1;
-        i += 1;
     }
     right
 }
@@ -64,7 +54,7 @@ pub fn file(rt: &impl Print, kind: FileKind, file: &[u8], numbers: &[u8]) {
         show::word(rt, show::DIFFERS);
     }
     show::word(rt, show::FILE_WRITTEN);
-    writing::one(rt, 102, kind, file, numbers);
+    writing::one(rt, b'f', kind, file, numbers);
 }
 
 // The name written from what was read.
@@ -86,6 +76,6 @@ pub fn name(rt: &impl Print, s: &[u8]) {
     let day = m.day;
     let kind = m.kind;
     show::kind(rt, kind);
-    show::number(rt, day.0 as usize);
+    show::number(rt, usize::from(day.0));
     name_back(rt, m);
 }

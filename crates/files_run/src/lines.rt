@@ -82,18 +82,14 @@ fn request(s: &[u8], place: usize, out: &mut [u8]) -> usize {
 
 fn written(kind: FileKind, s: &[u8], place: usize, out: &mut [u8]) -> usize {
     match kind {
-        FileKind::Default => report(s, place, out),
         FileKind::Correction => correction(s, place, out),
         FileKind::Request => request(s, place, out),
-        FileKind::Response => report(s, place, out),
+        FileKind::Default | FileKind::Response => report(s, place, out),
     }
 }
 
 fn is_back(line: &[u8], out: &[u8], n: usize) -> bool {
-    if out.len() < n {
-        return false;
-    }
-    records::closing::same(line, &out[0..n])
+    out.get(..n) == Some(line)
 }
 
 fn compared(rt: &impl Print, kind: FileKind, line: &[u8], out: &mut [u8]) {

@@ -44,14 +44,14 @@ pub fn word(rt: &impl Print, k: usize) {
         rt,
         text::piece(
             b"| same| CHANGED|the same|not the same|: default, day |: correction, day |: request, day |: response, day | bytes| records|4 at | fault|: fault|\n  | differs|\n  written: |, written: | changed behind|, | walked|\n| |; |: |character|length|date|code|value|closing|after|41",
-            124,
+            b'|',
             k,
         ),
     );
 }
 
 pub fn number(rt: &impl Print, n: usize) {
-    let _ = desk::out::number(&mut std::io::writer(rt), n as u64);
+    let _ = print!(rt; "{n}");
 }
 
 pub fn same(rt: &impl Print, yes: bool) {
@@ -126,11 +126,10 @@ pub fn found(rt: &impl Print, j: Result<usize, Fault>) {
 // A letter for a count of records, from `a` for none; a digit for the place of a fault.
 pub fn sign(rt: &impl Print, j: Result<usize, Fault>) {
     let b = match j {
-        Ok(n) => (97 + n % 26) as u8,
-        Err(fault) => (48 + fault.at.place % 10) as u8,
+        Ok(n) => b'a' + (n % 26) as u8,
+        Err(fault) => b'0' + (fault.at.place % 10) as u8,
     };
-    let one = [b; 1];
-    say(rt, &one);
+    say(rt, &[b]);
 }
 
 // A number for what was found, from 1. No case has a thousand records.

@@ -4,15 +4,12 @@ use crate::{examples, show};
 use records::names::kind::FileKind;
 
 fn number(s: &[u8], k: usize) -> u64 {
-    let Some(n) = text::read_digits(text::piece(s, 32, k), false) else {
-        return 0;
-    };
-    n
+    text::read_digits(text::piece(s, b' ', k), false).unwrap_or(0)
 }
 
 // The word at `i`.
 fn word(s: &[u8], i: usize) -> u64 {
-    let cuts = text::cuts(s, 32);
+    let cuts = text::cuts(s, b' ');
     if cuts < 2 {
         return 0;
     }
@@ -23,20 +20,15 @@ fn word(s: &[u8], i: usize) -> u64 {
     }
     let w = number(s, k + 2);
     if k == 0 {
-        return std::num::wrapping_add_u64(w, (i / n) as u64);
+        return w.wrapping_add((i / n) as u64);
     }
     w
 }
 
 // The first `used` words, as far as there is room for them.
 fn fill(words: &mut [u64], s: &[u8], used: usize) {
-    let mut i: usize = 0;
-    while i < used {
-        if words.len() <= i {
-            return;
-        }
-        words[i] = word(s, i);
-        i += 1;
+    for (i, place) in words.iter_mut().enumerate().take(used) {
+        *place = word(s, i);
     }
 }
 
@@ -58,13 +50,7 @@ fn written(rt: &impl Print, kind: FileKind, s: &[u8], words: &mut [u64], out: &m
 
 // How many bytes of the buffer from `at` on are not as they were.
 fn changed(rt: &impl Print, s: &[u8], at: usize) {
-    let mut n: usize = 0;
-    let mut i = at;
-    while i < s.len() {
-        n = examples::counted(n, s[i] != 85);
-        i += 1;
-    }
-    show::number(rt, n);
+    show::number(rt, s.iter().skip(at).filter(|b| **b != 85).count());
     show::word(rt, show::BEHIND);
 }
 
@@ -87,8 +73,8 @@ fn looked_at(rt: &impl Print, what: u8, kind: FileKind, file: &[u8], out: &[u8],
         return;
     }
     match what {
-        102 => show::the_same(rt, records::closing::same(file, &out[0..n])),
-        119 => changed(rt, out, n),
+        b'f' => show::the_same(rt, file == &out[..n]),
+        b'w' => changed(rt, out, n),
         _ => found(rt, kind, &out[0..n]),
     }
 }

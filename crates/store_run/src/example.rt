@@ -25,20 +25,14 @@ fn record(line: &[u8]) -> Record {
 
 // The first line of the table.
 fn listed(t: &[u8]) -> Option<Line> {
-    if t.len() < 14338 {
-        return None;
-    }
-    if lines::line_count(t) == 0 {
+    if t.len() < 14338 || lines::line_count(t) == 0 {
         return None;
     }
     let l = lines::line_at(t, 0);
-    let owner = l.owner;
-    let setup = l.setup;
-    let line = Line {
-        owner: owner,
-        setup: setup,
-    };
-    Some(line)
+    Some(Line {
+        owner: l.owner,
+        setup: l.setup,
+    })
 }
 
 // The verdict on the record; the entry is then the one after it.

@@ -67,12 +67,10 @@ fn lay(out: &mut [u8], at: usize, s: &[u8], k: usize) -> usize {
 fn repeat(out: &mut [u8], at: usize, s: &[u8], n: usize, apart: usize, first: usize) -> usize {
     let mut to = at;
     let mut k = first;
-    let mut i: usize = 0;
-    while i < n {
+    for _ in 0..n {
         lay(out, to, s, k);
         to = to % 1000000 + apart % 1000000;
         k = k % 65536 + 1;
-        i += 1;
     }
     to
 }

@@ -5,18 +5,12 @@ use calendar::dates::CalendarDays;
 use fields::date;
 
 pub fn byte(s: &[u8], i: usize) -> u8 {
-    if i < s.len() {
-        return s[i];
-    }
-    0
+    s.get(i).copied().unwrap_or(0)
 }
 
 // The first n bytes.
 pub fn first(s: &[u8], n: usize) -> &[u8] {
-    if n <= s.len() {
-        return &s[0..n];
-    }
-    s
+    s.get(..n).unwrap_or(s)
 }
 
 pub fn field(line: &[u8], k: usize) -> &[u8] {
@@ -26,9 +20,7 @@ pub fn field(line: &[u8], k: usize) -> &[u8] {
 pub fn number(line: &[u8], k: usize) -> usize
     ensures { result < 1000000 }
 {
-    let Some(n) = text::read_digits(field(line, k), false) else {
-        return 0;
-    };
+    let n = text::read_digits(field(line, k), false).unwrap_or(0);
     (n % 1000000) as usize
 }
 

@@ -1,6 +1,9 @@
 // What is looked at, and texts that are printed as they are.
 use crate::{ask, example, line, print};
-use desk::{Host, page};
+use desk::{Host, copy_in};
+use shown::Shown;
+use std::fmt;
+use std::fmt::Write;
 use store::entry_slots::entry;
 use store::journals::records::Journal;
 use store::readable;
@@ -11,13 +14,7 @@ fn step(h: u64, b: u8) -> u64 {
 }
 
 fn sum(start: u64, s: &[u8]) -> u64 {
-    let mut h = start;
-    let mut i: usize = 0;
-    while i < s.len() {
-        h = step(h, s[i]);
-        i += 1;
-    }
-    h
+    s.iter().fold(start, |h, &b| step(h, b))
 }
 
 fn sum_all(t: &[u8], f: &[u8], r: &[u8], c: &[u8], e: &[u8]) -> u64 {
@@ -26,14 +23,7 @@ fn sum_all(t: &[u8], f: &[u8], r: &[u8], c: &[u8], e: &[u8]) -> u64 {
 
 // Whether each byte from a place on is 7.
 fn sevens(s: &[u8], from: usize) -> bool {
-    let mut i = from;
-    while i < s.len() {
-        if s[i] != 7 {
-            return false;
-        }
-        i += 1;
-    }
-    true
+    s.iter().skip(from).all(|b| *b == 7)
 }
 
 // Whether in each buffer all is 7 from the place on that the fields from 3 on say.
@@ -62,17 +52,29 @@ fn kept(rt: &impl Host, w: &[u8], same: bool) {
     print::end(rt);
 }
 
+// Text that is put together in a buffer, as far as there is room.
+#[derive(Drop)]
+struct Spelt<'a> {
+    room: &'a mut [u8],
+    used: usize,
+}
+
+impl fmt::Write for Spelt<'_> {
+    fn write_str(&mut self, text: &str) -> fmt::Result {
+        self.used = copy_in(self.room, self.used, text.as_bytes());
+        Ok(())
+    }
+}
+
 // The open reports, each behind a blank.
 fn open(rt: &impl Host, w: &[u8], s: &[u8]) {
-    let mut i: usize = 0;
-    while i < 8 {
+    for i in 0..8 {
         let place = text::piece(s, b';', i);
-        if place.len() == 0 {
+        if place.is_empty() {
             return;
         }
         print::word(rt, w, print::BLANK);
         print::text(rt, place);
-        i += 1;
     }
 }
 
@@ -88,34 +90,25 @@ fn spread(rt: &impl Host, line: &[u8], w: &[u8], s: &[u8]) {
     print::end(rt);
 }
 
-fn spread_first(rt: &impl Host, line: &[u8], w: &[u8], room: &[u8; page::ROOM], n: usize) {
-    spread(rt, line, w, line::first(room, n));
-}
-
 // entry;WHAT;K: the entry of a line of the table.
 fn entry(rt: &impl Host, line: &[u8], w: &[u8], e: &[u8]) {
     let k = line::number(line, 2);
-    if 1024 <= k {
+    if 1024 <= k || e.len() < 102400 {
         return;
     }
-    if e.len() < 102400 {
-        return;
-    }
-    let mut room = [0u8; page::ROOM];
-    let p = shown::entry::entry(
-        rt,
-        page::begin(page::Stream::Out),
-        &mut room,
-        entry::entry_at(e, k),
-    );
-    spread_first(rt, line, w, &room, p.used);
+    let mut room = [0u8; 1024];
+    let mut spelt = Spelt {
+        room: &mut room,
+        used: 0,
+    };
+    let _ = write!(spelt, "{}", Shown(entry::entry_at(e, k)));
+    let n = spelt.used;
+    spread(rt, line, w, line::first(&room, n));
 }
 
 // All but the first byte.
 fn rest(rt: &impl Host, line: &[u8]) {
-    if 1 <= line.len() {
-        print::text(rt, &line[1..]);
-    }
+    print::text(rt, line.get(1..).unwrap_or(&[]));
 }
 
 // What a line looks at.

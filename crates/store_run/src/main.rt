@@ -85,14 +85,11 @@ fn lines(
     e: &mut [u8; 102400],
 ) {
     let w = text::piece(s, b'\n', 0);
-    let n = text::cuts(s, b'\n');
     let mut mark: u64 = 0;
     let mut good = true;
-    let mut i: usize = 0;
-    while i < n {
+    for i in 0..text::cuts(s, b'\n') {
         let line = text::piece(s, b'\n', i);
         one(rt, line, w, &mut mark, &mut good, x, t, f, r, c, e);
-        i += 1;
     }
 }
 

@@ -31,16 +31,16 @@ fn told(rt: &impl Host, line: &[u8], w: &[u8], a: Result<usize, NotFiled>) -> bo
 
 // D for a default file, else a correction file.
 fn kind(line: &[u8]) -> Filable {
-    if line::byte(line::field(line, 2), 0) == b'D' {
-        return Filable::Default;
+    match line::field(line, 2) {
+        [b'D', ..] => Filable::Default,
+        _ => Filable::Correction,
     }
-    Filable::Correction
 }
 
 // The day that is i days behind the line's.
 fn day(line: &[u8], i: usize) -> CalendarDays {
     let first = line::day(line, 4);
-    CalendarDays(((first.0 as usize + i % 65536) % 65536) as u16)
+    CalendarDays(((usize::from(first.0) + i % 65536) % 65536) as u16)
 }
 
 // How often the file is filed, up to n times or to the first refusal.
@@ -58,15 +58,13 @@ fn filed(
 ) -> usize {
     let k = kind(line);
     let publisher = line::field(line, 3);
-    let mut i: usize = 0;
-    while i < n {
+    for i in 0..n {
         let a = file::file(t, f, r, c, e, k, publisher, day(line, i), text);
         if !told(rt, line, w, a) {
             return i;
         }
-        i += 1;
     }
-    i
+    n
 }
 
 pub fn one(

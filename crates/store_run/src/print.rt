@@ -71,7 +71,7 @@ pub fn text(rt: &impl Host, s: &[u8]) {
 }
 
 pub fn wide(rt: &impl Host, n: u64) {
-    let _ = desk::out::number(&mut std::io::writer(rt), n);
+    let _ = print!(rt; "{n}");
 }
 
 pub fn number(rt: &impl Host, n: usize) {

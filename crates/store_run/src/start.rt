@@ -26,12 +26,7 @@ fn said(rt: &impl Host, line: &[u8], w: &[u8], a: Result<usize, NotStarted>) {
 fn lent(n: usize, short: bool) -> usize
     ensures { result ≤ n }
 {
-    if short {
-        if 0 < n {
-            return n - 1;
-        }
-    }
-    n
+    if short { n.saturating_sub(1) } else { n }
 }
 
 // The buffer that is a byte short is counted from 1 on.

@@ -1,6 +1,0 @@
--- `store_run::look::sevens` is safe and ends. The measure is what is left to do. Assumes nothing.
-use Rattle.std.proofs.Common.{◌-◌, length}
-use Rattle.store_run.proofs.look.sevens.Given as goal
-
-abbrev pub decreases-loop-i : goal.decreases-loop-i
-decreases-loop-i l = length l.s - l.i
