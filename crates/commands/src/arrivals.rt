@@ -4,6 +4,7 @@ ghost use Rattle.commands.specs.Arrivals.{files_in, file_in};
 
 use store::journals::files::{FILES, FILES_LENGTH, File};
 
+// No Option: what stands at a place that has no file is said by `file_in`.
 const NO_FILE: File = File {
     kind: 0,
     publisher: 0,

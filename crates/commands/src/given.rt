@@ -27,7 +27,7 @@ pub fn name_of(path: &[u8]) -> Option<records::names::name::Name>
     records::names::name::Name::read(&path[at..])
 }
 
-// Reads a file whole, and answers how many bytes it has; where it can't be read, the reason has been told.
+// Reads a file whole, and answers how many bytes it has, not the bytes: `Offers` speaks of the first bytes of the text that was lent. Where it can't be read, the reason has been told.
 pub fn load(rt: &impl Host, path: &[u8], text: &mut [u8; LONGEST]) -> Result<usize, Failure>
     ensures { IfOk result (λ n. n ≤ length text.new) }
 {

@@ -31,7 +31,7 @@ pub fn summed(sum: Sum, bytes: &[u8]) -> Sum
         .fold(sum, |sum, &byte| sum.with(u64::from(byte)))
 }
 
-// The same over day numbers.
+// The same over day numbers: a line each, where a generic function could not say in its contract which numbers its items are.
 pub fn days_summed(days: &[u16]) -> Sum
     ensures { result ≡ sum_over no_sum days.now }
 {

@@ -17,7 +17,7 @@ pub fn count(table: &[u8]) -> usize
     lines::line_count(table).min(lines::NUMBERS)
 }
 
-// The number of a line; one of no digits where there is none.
+// The number of a line; one of no digits where there is none. No Option: `number_shown` and `entry_shown` say what stands there.
 #[tactic(auto, unfolding(crate::specs::Shown::number_shown))]
 pub fn number_at(table: &[u8], i: usize) -> Number
     ensures { result ≡ number_shown table.now i }

@@ -52,6 +52,7 @@ fn more(b: u8, left: usize) -> usize
 fn lay(out: &mut [u8], at: usize, s: &[u8], k: usize) -> usize {
     let mut to = at;
     let mut i: usize = 0;
+    // no `for`: a byte is spelt by one or by four
     while i < s.len() {
         if out.len() <= to {
             return to;
