@@ -4,9 +4,9 @@
 -- functions and holds each to one of these. Assumes nothing.
 use Rattle.std.specs.Prelude.{Result}
 use Rattle.records.specs.declared.names.written.NotWritten.{NotWritten}
-use mathlib.Core.Path.{◌≡◌, sym, ap, ◌∙◌}
+use mathlib.Core.Path.{◌≡◌, sym, ◌∙◌}
 use mathlib.Core.List.{List}
-use Prim.Native.Nat.{ℕ, ◌+◌}
+use Prim.Native.Nat.{ℕ}
 use native.Mathlib.Omega.{arith}
 use Rattle.laws.specs.Overlay.{Laid}
 use Rattle.laws.specs.Told.{Told}
@@ -24,7 +24,7 @@ use Rattle.model.specs.Model.{Filed}
 use Rattle.verdict.specs.declared.step.Standing.{Standing}
 use Rattle.store.specs.numbers.Lines.{line_count}
 use Rattle.working.specs.Working.{WorkedAfresh}
-use Rattle.filing.specs.renewing.Turns.{count_to, RecordRenewed}
+use Rattle.filing.specs.renewing.Turns.{RecordRenewed}
 use Rattle.filing.specs.entering.Entering.{Joined}
 use Rattle.filing.proofs.entering.Joining.{joined-one}
 use Rattle.asking.specs.declared.entry.EntryAnswer.{EntryAnswer}
