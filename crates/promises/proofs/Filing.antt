@@ -77,7 +77,7 @@ offered-by b kind publisher day text f whole q = code-accepts (held b).files kin
 
 -- ---- the answers are those of the paper's table
 abbrev number_to : Decision → ℕ
-number_to (Refuse a) = filed_number a
+number_to (Refuse a) = filed_number (Err a)
 number_to (Accept f) = 0
 
 module _ (files : List Filed) (kind : Filable) (day : ℕ) (text : List ℕ) where

@@ -11,7 +11,8 @@ use crate::slots::record;
 use layout::correction::Correction;
 use layout::report::Report;
 
-// Whether the slot k of the regular journal holds a report.
+// Whether the slot k of the regular journal holds a report. That of the other journal is a line of its own: a reader as a parameter would need
+// a contract for what it reads.
 #[tactic(auto, unfolding(crate::specs::Records::good_report))]
 fn good_report(regular: &[u8], k: usize) -> bool
     requires { k * 45 + 45 ≤ length regular.now }

@@ -21,7 +21,7 @@ impl Filable {
         }
     }
 
-    // The kind among all kinds of file.
+    // The kind among all kinds of file; crates above call it by this name, and a `From` beside it would say the same.
     pub fn file_kind(self) -> FileKind
         ensures { result ≡ file_kind self }
     {

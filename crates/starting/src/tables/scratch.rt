@@ -6,7 +6,7 @@ ghost use Rattle.starting.specs.tables.Given.{LaidOut, Judged};
 use crate::tables::given;
 use store::numbers::{lines, twice};
 
-// Lays the lines out behind the place of the count.
+// Lays the lines out behind the place of the count. `at` moves on by the length of a line, so this is no `for`.
 fn lay_out(text: &[u8], room: &mut [u8]) -> Option<usize>
     requires { 14338 ≤ length room.old }
     ensures { LaidOut text.now room.old result room.new }

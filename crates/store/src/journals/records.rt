@@ -33,7 +33,7 @@ pub enum Journal {
     Correction,
 }
 
-// Writes a report into the slot k of the regular journal.
+// Writes a report into the slot k of the regular journal. docs/promises/store.md names this and the next, each `record::put` at its width.
 pub fn put_report(regular: &mut [u8], k: usize, bytes: &[u8])
     requires { (k * 45 + 45 ≤ length regular.old) × (length bytes.now < 45) }
     ensures { regular.new ≡ overlay regular.old (k * 45) (slot_of 45 bytes.now) }
