@@ -24,7 +24,7 @@ pub(crate) fn number_at(records: &FileRecords, place: usize) -> Number
     requires { place < records.now.file.count }
     ensures { let r = records.now in result ≡ number_from (filed_from (records_at r.journals.regular.now r.journals.corrections.now) r.file r.start) place }
 {
-    rules::records::number_in(0, records.bytes(place))
+    rules::records::number_in(records.file.kind, records.bytes(place))
 }
 
 // Lays the tags of a file's records.
@@ -45,7 +45,7 @@ pub(crate) fn tag_file<'s, 'w>(
     ensures { result.records ≡ records.now }
 {
     lay_tags(records, wanted);
-    let count = records.file.day as usize;
+    let count = records.file.count as usize;
     order::sort(wanted, count);
     TaggedFile {
         records: *records,
@@ -71,7 +71,7 @@ pub(crate) fn named_before(file: &TaggedFile, j: usize, number: Number) -> bool
     ensures { let r = file.now.records in result ≡ named_to (filed_from (records_at r.journals.regular.now r.journals.corrections.now) r.file r.start) j number }
 {
     file.tags
-        .group(Number { first: fields::number::Digits(number.first.0 % PLACES), last: number.last })
+        .group(number)
         .iter()
         .any(|&tag| is_earlier(&file.records, j, number, tag))
 }

@@ -70,5 +70,5 @@ pub fn renew(
             corrections,
         },
     };
-    renew_file(table, &filed, entries, &filed.records(n))
+    renew_file(table, &filed, entries, &filed.records(n - 1))
 }

@@ -58,7 +58,7 @@ fn renew_number(
     let count = lines::line_count(lines);
     let k = store::numbers::find::line_of(lines, count, number);
     if k < count {
-        return renew_line(lines, index, room, entries, 0);
+        return renew_line(lines, index, room, entries, k);
     }
     count_all(index, number, room)
 }
@@ -76,7 +76,7 @@ pub(crate) fn renew_record(
     requires j_lt_count { j < file.now.records.file.count }
     ensures { let f = index.now.filed in let r = file.now.records in RecordRenewed (read_files f.files.now f.journals.regular.now f.journals.corrections.now) (filed_from (records_at r.journals.regular.now r.journals.corrections.now) r.file r.start) j lines.now entries.old entries.new result }
 {
-    let number = named::number_at(&file.records, 0);
+    let number = named::number_at(&file.records, j);
     if named::named_before(file, j, number) {
         return 0;
     }
