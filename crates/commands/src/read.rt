@@ -7,8 +7,8 @@ ghost use Rattle.commands.specs.Status.{Ends, read_status};
 use crate::fault::Columns;
 use crate::{LONGEST, end, given};
 use desk::place::PATH_MAX;
-use faults::cause::{Cause, FaultPlace};
 use desk::{Ended, Failure, Host, Page, args};
+use faults::cause::{Cause, FaultPlace};
 use records::names::kind::FileKind;
 
 // The first n lines of a file, each a record: `record` PLACE RECORD

@@ -8,8 +8,8 @@ use crate::{LONGEST, end, given, opened};
 use desk::place::PATH_MAX;
 use desk::{Ended, Failure, Host, Page, args, place};
 use disk::{Books, lock, saved};
-use std::io;
 use starting::start::NotStarted;
+use std::io;
 use std::io::ErrorKind;
 use words::refusal::Refusal;
 

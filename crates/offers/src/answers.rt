@@ -32,7 +32,12 @@ fn line<R: Host>(rt: &R, page: &mut Page<'_, R>, path: &[u8], answer: Result<usi
 }
 
 // The lines of the first offers of a list, which were answered.
-pub fn print<R: Host>(rt: &R, page: &mut Page<'_, R>, list: List<'_>, answers: &[Result<usize, NotFiled>]) {
+pub fn print<R: Host>(
+    rt: &R,
+    page: &mut Page<'_, R>,
+    list: List<'_>,
+    answers: &[Result<usize, NotFiled>],
+) {
     let lines = list
         .bytes
         .split(|&b| b == list.separator)

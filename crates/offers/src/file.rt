@@ -48,11 +48,7 @@ fn file_loaded(
 ) -> Ended {
     let mut text = [0u8; LONGEST];
     let ended = offer_each(rt, list, total, &mut text, kept, books);
-    if kept
-        .as_slice()
-        .iter()
-        .any(|answer| answer.is_ok())
-    {
+    if kept.as_slice().iter().any(|answer| answer.is_ok()) {
         if let Err(failure) = saved::save(rt, folder, books) {
             kept.clear();
             return Err(failure);
@@ -88,10 +84,7 @@ fn print(rt: &impl Host, list: List<'_>, kept: &Kept, ended: Ended) -> Ended {
     let answers = kept.as_slice();
     answers::print(rt, &mut page, list, answers);
     end::done(rt, page, ended)?;
-    if answers
-        .iter()
-        .all(|answer| answer.is_ok())
-    {
+    if answers.iter().all(|answer| answer.is_ok()) {
         Ok(())
     } else {
         Err(Failure::Refused)

@@ -14,8 +14,6 @@ use Rattle.laws.specs.Overlay.{overlay}
 use Rattle.records.specs.names.Written.{after_writing}
 use Rattle.store.specs.Reads.{Buffers, Held, held, long_enough}
 use Rattle.store.specs.declared.numbers.lines.Line.{Line}
-use Rattle.starting.specs.declared.start.Started.{Started}
-use Rattle.store.specs.entry_slots.Entries.{entry_slot}
 use Rattle.starting.specs.declared.start.NotStarted.{NotStarted}
 use Rattle.starting.specs.tables.Given.{table_of}
 use Rattle.starting.specs.Start.{answer_of, start_answer, Starts}

@@ -32,11 +32,7 @@ pub fn before(books: &Books, n: usize, i: usize) -> Entry
 }
 
 // Every entry worked out over all files and written, and the places of the lines whose entry was another one.
-pub fn reworked(
-    books: &Books,
-    entries: &mut [u8],
-    list: &mut [u16],
-) -> Result<usize, Unreadable>
+pub fn reworked(books: &Books, entries: &mut [u8], list: &mut [u16]) -> Result<usize, Unreadable>
     ensures { Reworks (lent books.now.table books.now.files books.now.regular books.now.corrections entries.old) all_files list.old result entries.new list.new }
 {
     rework::rework(

@@ -9,11 +9,7 @@ use shown::Shown;
 use store::journals::records::{CORRECTIONS, Journal, REPORTS};
 
 // JOURNAL PLACE PUBLISHER DAY PLACE-IN-FILE VERDICT RECORD
-fn line(
-    page: &mut Page<'_, impl Host>,
-    books: &Books,
-    shown: ShownRecord,
-) {
+fn line(page: &mut Page<'_, impl Host>, books: &Books, shown: ShownRecord) {
     let r = shown.shown;
     let place = shown.place;
     let letter = match shown.journal {

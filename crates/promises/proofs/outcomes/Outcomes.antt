@@ -4,7 +4,7 @@
 -- functions and holds each to one of these. Assumes nothing.
 use Rattle.std.specs.Prelude.{Result}
 use Rattle.records.specs.declared.names.written.NotWritten.{NotWritten}
-use mathlib.Core.Path.{◌≡◌, sym, ap, ◌∙◌}
+use mathlib.Core.Path.{◌≡◌, sym, ◌∙◌}
 use mathlib.Core.Path.{◌≡◌, sym, ◌∙◌}
 use mathlib.Core.List.{List}
 use Prim.Native.Nat.{ℕ}
