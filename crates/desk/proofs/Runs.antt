@@ -5,7 +5,7 @@ use mathlib.Core.Logic.{⊎_elim}
 use Prim.Native.Nat.{ℕ, ◌+◌, ◌-◌, ◌≤◌, ◌<◌, min}
 use native.Mathlib.Omega.{arith}
 use lib.ListN.{length, take, drop, take-append-drop, length-append}
-use lib.Seq.{length-take-le, set_out, take_all, take_at, drop-drop}
+use lib.Seq.{length-take-le, set_out, take_all, drop-drop}
 use borrow.Rule.Slice.PartMut.{put_mid}
 use Rattle.laws.specs.Overlay.{overlay}
 use Rattle.laws.proofs.Overlay.{overlay-append, overlay-none, overlay-parts, length-overlay}
@@ -60,27 +60,11 @@ copied-then {o} {a} {b} {o₁} {o₂} {at} {m} {n} p q =
       ends = omega (arith, p.ends, q.ends, length-append a b);
     }
 
+pub path-none : (f n o : List ℕ) (r : ℕ) → length f ≡ 0 → r ≡ min 0 (length o) → Copied o 0 (path_of f n) o r
+path-none [] n o r e h = record { bytes = overlay-none o 0; ends = h }
+path-none (b ∷ f) n o r e h = absurd (omega arith)
+
 -- ---- a path: with no folder nothing is written, else the folder, a slash and the name, one behind the other
 pub path-copied : (f : List ℕ) {n o o₁ o₂ o₃ : List ℕ} {a b r : ℕ} → (length f ≡ 0 → ⊥) → Copied o 0 f o₁ a → Copied o₁ a (47 ∷ []) o₂ b → Copied o₂ b n o₃ r → Copied o 0 (path_of f n) o₃ r
 path-copied [] some p q s = absurd (some refl)
 path-copied (x ∷ f) some p q s = copied-then p (copied-then q s)
-
--- ---- what was written from the start of a buffer on, as far as there is room
-pub taken-first : (o p o' : List ℕ) (r n : ℕ) → Copied o 0 p o' r → length o ≡ n → take r o' ≡ take n p
-unfolding overlay
-taken-first o p o' r n c e =
-    let long : length (take r p) ≡ r = length-take-le r p (omega (arith, c.ends)) in
-    let here : overlay o 0 p ≡ overlay o 0 (take r p) =
-    ⊎_elim
-    (λ (h : length p ≤ r). ap (overlay o 0) (sym (take_all r p h)))
-    (λ (h : r < length p). sym (full-after o 0 p r (omega arith) (omega (arith, c.ends))))
-    (le-or-lt (length p) r) in
-    let same : take r p ≡ take n p =
-    ⊎_elim
-    (λ (h : length p ≤ n). take_all r p (omega (arith, c.ends)) ∙ sym (take_all n p h))
-    (λ (h : n < length p). ap (λ (k : ℕ). take k p) (let k : r ≡ n = omega (arith, c.ends) in k))
-    (le-or-lt (length p) n) in
-    ap (take r) (c.bytes ∙ here ∙ overlay-parts o 0 (take r p) (omega (arith, long, c.ends)))
-    ∙ ap (take r) (append_assoc (take 0 o) (take r p) (drop (0 + length (take r p)) o))
-    ∙ take_at (take r p) (drop (0 + length (take r p)) o) r long
-    ∙ same

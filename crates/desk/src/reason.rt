@@ -24,7 +24,9 @@ impl fmt::Write for Spelled {
 }
 
 // The words without ` (os error N)`, which std puts behind the system's.
-fn without_number(text: &[u8]) -> &[u8] {
+fn without_number(text: &[u8]) -> &[u8]
+    ensures { length result.now ≤ length text.now }
+{
     let n = text.iter().rposition(|&b| b == b'(').unwrap_or(0);
     &text[..n.saturating_sub(1)]
 }

@@ -1,6 +1,7 @@
 // Loading and saving.
 ghost use Rattle.std.specs.Prelude.{◌≡◌, IfErr};
 ghost use Rattle.desk.specs.declared.failure.Failure.TheVariants.{Fault};
+ghost use Rattle.disk.specs.declared.saved.LoadError.{LoadError};
 ghost use Rattle.disk.specs.Saved.{Loads};
 
 use crate::parts::{Damaged, HolidayList};
@@ -25,7 +26,9 @@ impl From<Damaged> for LoadError {
     }
 }
 
-fn missing(rt: &impl Host, folder: &[u8], error: Error) -> LoadError {
+fn missing(rt: &impl Host, folder: &[u8], error: Error) -> LoadError
+    ensures { result ≡ LoadError.Missing }
+{
     failed(rt, folder, error);
     complain(
         rt,

@@ -1,5 +1,5 @@
 -- Answers kept, at most 16,384 of them. Assumes nothing: these are definitions.
-use Rattle.std.specs.Prelude.{cond, List, [], ◌∷◌, ◌++◌, leb, length, take}
+use Rattle.std.specs.Prelude.{cond, Result, ℕ, List, [], ◌∷◌, ◌++◌, leb, length, take}
 use Rattle.filing.specs.declared.checking.answer.NotFiled.{NotFiled}
 use Rattle.offers.specs.declared.kept.Kept.{Kept}
 
