@@ -103,8 +103,8 @@ add tests/without-contract 'system disk::saved::load'
 fails 'disk::saved::load is listed, and has a contract' tests/contracts.sh
 add tests/without-contract 'prints desk::page::torn'
 fails 'desk::page::torn is listed and is not there' tests/contracts.sh
-add tests/without-contract 'prints desk::page::tab'
-fails 'desk::page::tab is listed twice' tests/contracts.sh
+add tests/without-contract 'prints desk::page::print'
+fails 'desk::page::print is listed twice' tests/contracts.sh
 add tests/without-contract 'because desk::page::torn'
 fails 'not a reason and a function: because desk::page::torn' tests/contracts.sh
 
