@@ -53,7 +53,7 @@ mark=$(sed -n '/^ *[0-9][0-9, ]*,$/p' crates/calendar/src/table.rt | tr -d ',' |
 grep -q "^#define MARK $mark\$" include/example.c || fail "the mark of the holiday list is $mark, and the example has another"
 
 # ---- causes: those of the source, each with its number, and no other
-sed -n 's/^ *Cause::\([A-Za-z]*\) => \([0-9]*\),$/\1 \2/p' crates/faults/src/cause.rt | tr a-z A-Z >"$work/causes"
+sed -n '/^pub enum Cause {/,/^}/s/^ *\([A-Za-z]*\) = \([0-9]*\),$/\1 \2/p' crates/faults/src/cause.rt | tr a-z A-Z >"$work/causes"
 [ -s "$work/causes" ] || fail "no cause has a number in the source"
 sed -n 's/^#define DAGSKIMRA_CAUSE_//p' $header >"$work/named"
 cmp -s "$work/causes" "$work/named" || fail "the causes of the header are not those of the source"
