@@ -66,7 +66,7 @@ fn print_figure(rt: &impl Host, folder: &[u8], books: &Books) -> Ended {
 pub fn run(rt: &impl Host, count: usize) -> Ended {
     let usage = "figure STORE";
     if count != 3 {
-        return Err(words::usage(rt, "figure takes a folder", usage));
+        return Err(words::usage(rt, b"figure takes a folder", usage.as_bytes()));
     }
     let mut folder = [0u8; PATH_MAX];
     let mut books = Books::empty();

@@ -89,7 +89,7 @@ fn print(rt: &impl Host, n: usize, books: &Books) -> Ended {
 pub fn run(rt: &impl Host, count: usize) -> Ended {
     let usage = "rework STORE";
     if count != 3 {
-        return Err(words::usage(rt, "rework takes a folder", usage));
+        return Err(words::usage(rt, b"rework takes a folder", usage.as_bytes()));
     }
     let mut folder = [0u8; PATH_MAX];
     let mut books = Books::empty();

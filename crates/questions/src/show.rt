@@ -110,7 +110,7 @@ fn show(rt: &impl Host, folder: &[u8], wanted: Wanted) -> Ended {
 }
 
 fn usage(rt: &impl Host, wrong: &str) -> Failure {
-    words::usage(rt, wrong, USAGE)
+    words::usage(rt, wrong.as_bytes(), USAGE.as_bytes())
 }
 
 const USAGE: &str = "show STORE [--before N] [NUMBER...]";

@@ -55,10 +55,12 @@ fn print(rt: &impl Host, books: &Books, count: usize) -> Ended {
     end::done(rt, page, ended)
 }
 
+// Its room stands in a frame of its own: within `main` it would lie idle below those of the other commands.
+#[inline(never)]
 pub fn run(rt: &impl Host, count: usize) -> Ended {
     let usage = "why STORE NUMBER...";
     if count < 4 {
-        return Err(words::usage(rt, "why takes a folder and numbers", usage));
+        return Err(words::usage(rt, b"why takes a folder and numbers", usage.as_bytes()));
     }
     let mut folder = [0u8; PATH_MAX];
     let mut books = Books::empty();
