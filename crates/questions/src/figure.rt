@@ -32,7 +32,14 @@ fn warn(rt: &impl Host, folder: &[u8], differ: usize) {
 fn print_differing(page: &mut Page<'_, impl Host>, books: &Books) {
     let mut worked = books.entries;
     let mut list = [0u16; NUMBERS];
-    if let Ok(n) = asked::reworked(books, &mut worked, &mut list) {
+    if let Ok(n) = asked::reworked(
+        &books.table,
+        &books.files,
+        &books.regular,
+        &books.corrections,
+        &mut worked,
+        &mut list,
+    ) {
         compared::list(page, list.get(..n).unwrap_or(&list), books, &worked);
     }
 }

@@ -62,7 +62,14 @@ fn rework_loaded(
 ) -> Result<usize, ReworkError> {
     let mut worked = books.entries;
     let mut list = [0u16; NUMBERS];
-    let Ok(n) = asked::reworked(books, &mut worked, &mut list) else {
+    let Ok(n) = asked::reworked(
+        &books.table,
+        &books.files,
+        &books.regular,
+        &books.corrections,
+        &mut worked,
+        &mut list,
+    ) else {
         return Err(ReworkError::Damaged);
     };
     list_changed(rt, folder, list.get(..n).unwrap_or(&list), books, &worked)?;

@@ -25,7 +25,14 @@ fn entry_of(books: &Books, before: Option<usize>, i: usize) -> Entry
 {
     match before {
         None => table::entry_at(&books.entries, i),
-        Some(n) => asked::before(books, n, i),
+        Some(n) => asked::before(
+            &books.table,
+            &books.files,
+            n,
+            &books.regular,
+            &books.corrections,
+            i,
+        ),
     }
 }
 

@@ -12,14 +12,21 @@ use words::refusal::Refusal;
 fn report(page: &mut Page<'_, impl Host>, books: &Books, s: Stored) {
     let day = s.day;
     page.text(b"\t");
-    page.text(asked::report(books, s));
+    page.text(asked::report(&books.regular, &books.corrections, s));
     print!(page; "\t{}", Shown(day));
 }
 
 // What is printed of one word.
 fn print_word<R: Host>(rt: &R, page: &mut Page<'_, R>, books: &Books, word: &[u8]) -> Ended {
     page.text(word);
-    match asked::why(books, shown::number::read(word)) {
+    let why = asked::why(
+        &books.table,
+        &books.files,
+        &books.regular,
+        &books.corrections,
+        shown::number::read(word),
+    );
+    match why {
         Err(_) => {
             words::refusal::refused(rt, word, Refusal::Unknown);
             page.text(b"\trefused\t12\n");
