@@ -35,7 +35,11 @@ pub fn folder<'a>(
 ) -> Result<&'a [u8], Failure>
     ensures { IfOk result (λ folder. length folder.now ≤ 4096) }
 {
-    args::path(rt, 2, path).ok_or_else(|| words::usage(rt, "STORE is empty or too long", usage))
+    args::path(rt, 2, path).ok_or_else(|| words::usage(
+        rt,
+        b"STORE is empty or too long",
+        usage.as_bytes(),
+    ))
 }
 
 // Loads the store; or the end of the command, where it can't go on and has told why.

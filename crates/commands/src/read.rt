@@ -73,7 +73,7 @@ fn no_kind(rt: &impl Host, path: &[u8]) -> Ended {
 
 pub fn run(rt: &impl Host, count: usize) -> Ended {
     if count != 3 {
-        return Err(words::usage(rt, "read takes a file", "read FILE"));
+        return Err(words::usage(rt, b"read takes a file", b"read FILE"));
     }
     let mut path = [0u8; PATH_MAX];
     let path = args::path(rt, 2, &mut path).unwrap_or(&[]);

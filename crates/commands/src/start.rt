@@ -38,11 +38,11 @@ fn save_new(rt: &impl Host, folder: &[u8], books: &Books) -> Ended
     make(rt, folder).map_err(|e| words::failed(rt, folder, e))?;
     lock::take(rt, folder)?;
     // another process may have started one meanwhile
-    let saved = if saved::is_there(rt, folder) {
-        Err(there_already(rt, folder))
-    } else {
-        saved::save(rt, folder, books)
-    };
+    if saved::is_there(rt, folder) {
+        lock::release(rt, folder);
+        return Err(there_already(rt, folder));
+    }
+    let saved = saved::save(rt, folder, books);
     lock::release(rt, folder);
     saved
 }
@@ -89,7 +89,7 @@ fn start_from(rt: &impl Host, folder: &[u8], path: &[u8]) -> Ended {
 pub fn run(rt: &impl Host, count: usize) -> Ended {
     let usage = "start STORE TABLE";
     if count != 4 {
-        return Err(words::usage(rt, "start takes a folder and a table", usage));
+        return Err(words::usage(rt, b"start takes a folder and a table", usage.as_bytes()));
     }
     let mut folder = [0u8; PATH_MAX];
     let mut path = [0u8; PATH_MAX];

@@ -20,8 +20,8 @@ fn tell(ended: Ended) {
 fn wrong(rt: &impl Host, why: &str) -> Failure {
     words::usage(
         rt,
-        why,
-        "start | file | files | show | why | verdicts | figure | rework | read | demo | help; 'dagskimra help' explains each",
+        why.as_bytes(),
+        b"start | file | files | show | why | verdicts | figure | rework | read | demo | help; 'dagskimra help' explains each",
     )
 }
 

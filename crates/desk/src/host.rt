@@ -4,7 +4,7 @@ use std::fs::Files;
 use std::io::IsTerminal;
 use std::{io, process};
 
-pub trait Host: Files + Env + Print + Eprint {
+pub trait Host: Files + Env + Print {
     // Writes all the bytes to standard error, or fails. They need not be text.
     fn say(&self, bytes: &[u8]) -> io::Result<()>;
 

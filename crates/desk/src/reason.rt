@@ -1,5 +1,6 @@
 // Why a call of the system failed, in the system's words.
-ghost use Rattle.std.specs.Prelude.{◌≤◌, length};
+ghost use Rattle.std.specs.Prelude.{◌≡◌, ◌≤◌, length, take};
+ghost use Rattle.io.specs.Counts.{IsPrefixLen};
 
 use crate::run::copy_in;
 use std::fmt;
@@ -25,7 +26,8 @@ impl fmt::Write for Spelled {
 
 // The words without ` (os error N)`, which std puts behind the system's.
 fn without_number(text: &[u8]) -> &[u8]
-    ensures { length result.now ≤ length text.now }
+    ensures prefix_len { IsPrefixLen (length result.now) text.now }
+    ensures front { result.now ≡ take (length result.now) text.now }
 {
     let n = text.iter().rposition(|&b| b == b'(').unwrap_or(0);
     &text[..n.saturating_sub(1)]

@@ -3,7 +3,6 @@ use Rattle.std.specs.Prelude.{ℕ, Bool, cond, List, [], ◌∷◌, ◌++◌, le
 use Rattle.io.specs.Digits.{last_digits}
 use Rattle.laws.specs.Digits.{digits as decimals}
 use Rattle.laws.specs.Lists.{same_lists}
-use Rattle.disk.specs.declared.books.Books.{Books}
 use Rattle.disk.specs.declared.sum.Sum.{Sum}
 use Rattle.disk.specs.Sums.{sum_over, no_sum}
 
@@ -26,10 +25,6 @@ head_text version s = title ++ (version ∷ 10 ∷ (hex s.a ++ (hex s.b ++ (10 �
 -- the head over the line of a list and what follows it
 abbrev pub head_over : List ℕ → List ℕ → List ℕ
 head_over line rest = head_text (version_of line) (sum_over no_sum (line ++ rest))
-
--- over the line and the four buffers that it covers
-abbrev pub head_of_books : List ℕ → Books → List ℕ
-head_of_books line b = head_over line (b.table ++ (b.files ++ (b.regular ++ b.corrections)))
 
 -- whether a head is of version 1
 abbrev pub is_first : List ℕ → Bool

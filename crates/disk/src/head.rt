@@ -1,13 +1,15 @@
 // The head of the file: its name and version, two sums in hexadecimal, and the line of the holiday list. The sums go over that line,
 // the table, the files and the journals. The entries are not summed: whether they are what the journals say is what the figure tells.
-ghost use Rattle.std.specs.Prelude.{◌≡◌, if◌then◌else◌, nat_eq};
+ghost use Rattle.std.specs.Prelude.{◌≡◌, ◌++◌, if◌then◌else◌, nat_eq};
 ghost use Rattle.laws.specs.Overlay.{overlay};
 ghost use Rattle.disk.specs.Sums.{no_sum};
-ghost use Rattle.disk.specs.Head.{hex, is_first, head_text, head_of_books};
+ghost use Rattle.disk.specs.Head.{hex, is_first, head_text, head_over};
 
-use crate::Books;
 use crate::sum::{Sum, summed};
 use desk::copy_in;
+use store::journals::files::FILES_LENGTH;
+use store::journals::records::{CORRECTIONS_LENGTH, REGULAR_LENGTH};
+use store::numbers::lines::TABLE_LENGTH;
 
 // 18 bytes of name and version, twice sixteen hexadecimal digits, and a line end. The line of the list follows.
 pub const HEAD: usize = 51;
@@ -47,13 +49,19 @@ fn spelled(version: u8, sum: Sum) -> [u8; HEAD]
 }
 
 // The head over the line of a list; over no line it is one of version 1.
-pub fn head_of(line: &[u8], books: &Books) -> [u8; HEAD]
-    ensures { result ≡ head_of_books line.now books.now }
+pub fn head_of(
+    line: &[u8],
+    table: &[u8; TABLE_LENGTH],
+    files: &[u8; FILES_LENGTH],
+    regular: &[u8; REGULAR_LENGTH],
+    corrections: &[u8; CORRECTIONS_LENGTH],
+) -> [u8; HEAD]
+    ensures { result ≡ head_over line.now (table.now ++ (files.now ++ (regular.now ++ corrections.now))) }
 {
     let mut sum = summed(Sum::START, line);
-    sum = summed(sum, &books.table);
-    sum = summed(sum, &books.files);
-    sum = summed(sum, &books.regular);
-    sum = summed(sum, &books.corrections);
+    sum = summed(sum, table);
+    sum = summed(sum, files);
+    sum = summed(sum, regular);
+    sum = summed(sum, corrections);
     spelled(version(line.len()), sum)
 }

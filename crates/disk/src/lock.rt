@@ -21,8 +21,8 @@ fn refused(rt: &impl Host, folder: &[u8], error: Error) -> Failure
     complain(rt, folder, b"the store can't be locked; nothing was done")
 }
 
-// Writes the number of the process, and a line end.
-fn sign<F: Write>(file: &mut F, process: u32) -> Result<(), Error> {
+// Writes the number of the process, and a line end; then the file is closed.
+fn sign<F: Write + Drop>(mut file: F, process: u32) -> Result<(), Error> {
     let told = write!(file, "{process}");
     let _ = file.write_all(b"\n");
     told
@@ -32,8 +32,8 @@ fn sign<F: Write>(file: &mut F, process: u32) -> Result<(), Error> {
 pub fn take(rt: &impl Host, folder: &[u8]) -> Ended
     ensures { IfErr result (λ why. why ≡ Fault) }
 {
-    let mut file = place::create(rt, folder, b"lock").map_err(|e| refused(rt, folder, e))?;
-    sign(&mut file, rt.process_id()).map_err(|e| {
+    let file = place::create(rt, folder, b"lock").map_err(|e| refused(rt, folder, e))?;
+    sign(file, rt.process_id()).map_err(|e| {
         failed(rt, folder, e);
         complain(rt, folder, b"the store can't be locked; nothing was done");
         let _ = place::unlink(rt, folder, b"lock");

@@ -50,6 +50,17 @@ fn read_line<'a, F: Read>(
     Ok(line)
 }
 
+// The head over the line of a list and the buffers that it covers.
+fn head_over(line: &[u8], books: &Books) -> [u8; HEAD] {
+    head::head_of(
+        line,
+        &books.table,
+        &books.files,
+        &books.regular,
+        &books.corrections,
+    )
+}
+
 // A file is whole that has a head which is right for what follows, the five buffers, and nothing behind them.
 pub fn read<F: Read>(file: &mut F, books: &mut Books) -> Result<HolidayList, Damaged> {
     let mut head = [0u8; HEAD];
@@ -57,7 +68,7 @@ pub fn read<F: Read>(file: &mut F, books: &mut Books) -> Result<HolidayList, Dam
     file.read_exact(&mut head)?;
     let line = read_line(file, &head, &mut line)?;
     read_books(file, books)?;
-    if head != head::head_of(line, books) {
+    if head != head_over(line, books) {
         return Err(Damaged);
     }
     if line == list::line().as_slice() {
@@ -70,7 +81,7 @@ pub fn read<F: Read>(file: &mut F, books: &mut Books) -> Result<HolidayList, Dam
 // Writes them with the line of this program's list. Where it answers no error, they are on the device.
 pub fn write<F: Write + OpenFile>(file: &mut F, books: &Books) -> Result<(), Error> {
     let line = list::line();
-    file.write_all(&head::head_of(&line, books))?;
+    file.write_all(&head_over(&line, books))?;
     file.write_all(&line)?;
     file.write_all(&books.table)?;
     file.write_all(&books.files)?;

@@ -126,7 +126,7 @@ const USAGE: &str = "file STORE PUBLISHER FILE...\n       dagskimra file STORE -
 // file STORE --list LIST
 fn file_listed(rt: &impl Host, folder: &[u8], count: usize) -> Ended {
     if count != 5 {
-        return Err(words::usage(rt, "--list takes one list", USAGE));
+        return Err(words::usage(rt, b"--list takes one list", USAGE.as_bytes()));
     }
     let mut path = [0u8; PATH_MAX];
     let path = args::path(rt, 4, &mut path).unwrap_or(&[]);
@@ -154,8 +154,8 @@ pub fn run(rt: &impl Host, count: usize) -> Ended {
     if count < 5 {
         return Err(words::usage(
             rt,
-            "file takes a folder, a publisher and files, or a list",
-            USAGE,
+            b"file takes a folder, a publisher and files, or a list",
+            USAGE.as_bytes(),
         ));
     }
     let mut folder = [0u8; PATH_MAX];

@@ -24,16 +24,16 @@ impl<'a> List<'a> {
         ensures { IfOk result (λ n. n ≤ 16384) }
     {
         let List { bytes, separator } = self;
-        let bad = bytes
-            .split(|&b| b == separator)
-            .position(|line| !line.is_empty() && !line.contains(&b'\t'));
-        if let Some(line) = bad {
-            return Err(ListError::NoTab(line + 1));
+        let mut n: usize = 0;
+        for (i, line) in bytes.split(|&b| b == separator).enumerate() {
+            if line.is_empty() {
+                continue;
+            }
+            if !line.contains(&b'\t') {
+                return Err(ListError::NoTab(i.saturating_add(1)));
+            }
+            n = n.saturating_add(1);
         }
-        let n = bytes
-            .split(|&b| b == separator)
-            .filter(|line| !line.is_empty())
-            .count();
         if MOST < n {
             Err(ListError::TooMany)
         } else {

@@ -32,7 +32,14 @@ fn warn(rt: &impl Host, folder: &[u8], differ: usize) {
 fn print_differing(page: &mut Page<'_, impl Host>, books: &Books) {
     let mut worked = books.entries;
     let mut list = [0u16; NUMBERS];
-    if let Ok(n) = asked::reworked(books, &mut worked, &mut list) {
+    if let Ok(n) = asked::reworked(
+        &books.table,
+        &books.files,
+        &books.regular,
+        &books.corrections,
+        &mut worked,
+        &mut list,
+    ) {
         compared::list(page, list.get(..n).unwrap_or(&list), books, &worked);
     }
 }
@@ -66,7 +73,7 @@ fn print_figure(rt: &impl Host, folder: &[u8], books: &Books) -> Ended {
 pub fn run(rt: &impl Host, count: usize) -> Ended {
     let usage = "figure STORE";
     if count != 3 {
-        return Err(words::usage(rt, "figure takes a folder", usage));
+        return Err(words::usage(rt, b"figure takes a folder", usage.as_bytes()));
     }
     let mut folder = [0u8; PATH_MAX];
     let mut books = Books::empty();

@@ -25,7 +25,7 @@ fn list(page: &mut Page<'_, impl Host>, files: &[u8]) {
 pub fn run(rt: &impl Host, count: usize) -> Ended {
     let usage = "files STORE";
     if count != 3 {
-        return Err(words::usage(rt, "files takes a folder", usage));
+        return Err(words::usage(rt, b"files takes a folder", usage.as_bytes()));
     }
     let mut folder = [0u8; PATH_MAX];
     let mut books = Books::empty();

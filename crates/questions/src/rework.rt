@@ -62,7 +62,14 @@ fn rework_loaded(
 ) -> Result<usize, ReworkError> {
     let mut worked = books.entries;
     let mut list = [0u16; NUMBERS];
-    let Ok(n) = asked::reworked(books, &mut worked, &mut list) else {
+    let Ok(n) = asked::reworked(
+        &books.table,
+        &books.files,
+        &books.regular,
+        &books.corrections,
+        &mut worked,
+        &mut list,
+    ) else {
         return Err(ReworkError::Damaged);
     };
     list_changed(rt, folder, list.get(..n).unwrap_or(&list), books, &worked)?;
@@ -89,7 +96,7 @@ fn print(rt: &impl Host, n: usize, books: &Books) -> Ended {
 pub fn run(rt: &impl Host, count: usize) -> Ended {
     let usage = "rework STORE";
     if count != 3 {
-        return Err(words::usage(rt, "rework takes a folder", usage));
+        return Err(words::usage(rt, b"rework takes a folder", usage.as_bytes()));
     }
     let mut folder = [0u8; PATH_MAX];
     let mut books = Books::empty();

@@ -25,7 +25,14 @@ fn entry_of(books: &Books, before: Option<usize>, i: usize) -> Entry
 {
     match before {
         None => table::entry_at(&books.entries, i),
-        Some(n) => asked::before(books, n, i),
+        Some(n) => asked::before(
+            &books.table,
+            &books.files,
+            n,
+            &books.regular,
+            &books.corrections,
+            i,
+        ),
     }
 }
 
@@ -110,7 +117,7 @@ fn show(rt: &impl Host, folder: &[u8], wanted: Wanted) -> Ended {
 }
 
 fn usage(rt: &impl Host, wrong: &str) -> Failure {
-    words::usage(rt, wrong, USAGE)
+    words::usage(rt, wrong.as_bytes(), USAGE.as_bytes())
 }
 
 const USAGE: &str = "show STORE [--before N] [NUMBER...]";

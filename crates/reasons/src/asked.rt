@@ -5,35 +5,28 @@ ghost use Rattle.reasons.specs.Named.{why_named};
 
 use asking::looks::NotSeen;
 use asking::pairs::{Pair, Stored};
-use disk::Books;
 use fields::number::Number;
 use store::journals::records::{Journal, REPORTS, record_bytes};
 
 // Why a number stands where it does.
-pub fn why(books: &Books, number: Option<Number>) -> Result<Option<Pair>, NotSeen>
-    ensures { result ≡ why_named books.now number }
+pub fn why(
+    lines: &[u8],
+    files: &[u8],
+    regular: &[u8],
+    corrections: &[u8],
+    number: Option<Number>,
+) -> Result<Option<Pair>, NotSeen>
+    ensures { result ≡ why_named lines.now files.now regular.now corrections.now number }
 {
     let Some(number) = number else {
         return Err(NotSeen::UnknownNumber);
     };
-    asking::why::look(
-        &books.table,
-        &books.files,
-        &books.regular,
-        &books.corrections,
-        number,
-    )
+    asking::why::look(lines, files, regular, corrections, number)
 }
 
 // The bytes of a report of a pair.
-pub fn report(books: &Books, s: Stored) -> &[u8]
-    ensures { result.now ≡ part_at books.now.regular s.place }
+pub fn report<'a>(regular: &'a [u8], corrections: &'a [u8], s: Stored) -> &'a [u8]
+    ensures { result.now ≡ part_at regular.now s.place }
 {
-    record_bytes(
-        &books.regular,
-        &books.corrections,
-        Journal::Regular,
-        REPORTS,
-        s.place,
-    )
+    record_bytes(regular, corrections, Journal::Regular, REPORTS, s.place)
 }

@@ -46,7 +46,7 @@ fn print_journal(page: &mut Page<'_, impl Host>, books: &Books, which: Journal, 
 pub fn run(rt: &impl Host, count: usize) -> Ended {
     let usage = "verdicts STORE";
     if count != 3 {
-        return Err(words::usage(rt, "verdicts takes a folder", usage));
+        return Err(words::usage(rt, b"verdicts takes a folder", usage.as_bytes()));
     }
     let mut folder = [0u8; PATH_MAX];
     let mut books = Books::empty();

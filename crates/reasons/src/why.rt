@@ -12,14 +12,21 @@ use words::refusal::Refusal;
 fn report(page: &mut Page<'_, impl Host>, books: &Books, s: Stored) {
     let day = s.day;
     page.text(b"\t");
-    page.text(asked::report(books, s));
+    page.text(asked::report(&books.regular, &books.corrections, s));
     print!(page; "\t{}", Shown(day));
 }
 
 // What is printed of one word.
 fn print_word<R: Host>(rt: &R, page: &mut Page<'_, R>, books: &Books, word: &[u8]) -> Ended {
     page.text(word);
-    match asked::why(books, shown::number::read(word)) {
+    let why = asked::why(
+        &books.table,
+        &books.files,
+        &books.regular,
+        &books.corrections,
+        shown::number::read(word),
+    );
+    match why {
         Err(_) => {
             words::refusal::refused(rt, word, Refusal::Unknown);
             page.text(b"\trefused\t12\n");
@@ -55,10 +62,12 @@ fn print(rt: &impl Host, books: &Books, count: usize) -> Ended {
     end::done(rt, page, ended)
 }
 
+// Its room stands in a frame of its own: within `main` it would lie idle below those of the other commands.
+#[inline(never)]
 pub fn run(rt: &impl Host, count: usize) -> Ended {
     let usage = "why STORE NUMBER...";
     if count < 4 {
-        return Err(words::usage(rt, "why takes a folder and numbers", usage));
+        return Err(words::usage(rt, b"why takes a folder and numbers", usage.as_bytes()));
     }
     let mut folder = [0u8; PATH_MAX];
     let mut books = Books::empty();

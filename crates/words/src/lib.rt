@@ -12,7 +12,8 @@ ghost use Rattle.std.specs.Prelude.{◌≡◌};
 ghost use Rattle.desk.specs.declared.failure.Failure.TheVariants.{Fault};
 
 use desk::{Failure, Host, reason};
-use std::fmt::Display;
+use std::fmt;
+use std::fmt::{Display, Write};
 use std::io::Error;
 
 // What can't be written is left out: there is nowhere else to say it. A path or a field need not be text.
@@ -20,9 +21,21 @@ pub fn text(rt: &impl Host, bytes: &[u8]) {
     let _ = rt.say(bytes);
 }
 
+// Standard error, for what is laid out as text.
+#[derive(Drop)]
+struct Said<'a, R: Host> {
+    rt: &'a R,
+}
+
+impl<'a, R: Host> fmt::Write for Said<'a, R> {
+    fn write_str(&mut self, words: &str) -> fmt::Result {
+        self.rt.say(words.as_bytes()).map_err(|_| fmt::Error)
+    }
+}
+
 // The same of what is text.
 pub fn say(rt: &impl Host, what: impl Display + Drop) {
-    let _ = rt.eprint(what);
+    let _ = write!(Said { rt }, "{what}");
 }
 
 // A line: what, a colon, and why. Where nothing else is done, the command ends with the fault.
@@ -61,12 +74,13 @@ pub fn wants_rework(rt: &impl Host, folder: &[u8]) -> Failure
 }
 
 // A wrong command line: what is wrong, and the command's usage.
-pub fn usage(rt: &impl Host, wrong: &str, line: &str) -> Failure
+pub fn usage(rt: &impl Host, wrong: &[u8], line: &[u8]) -> Failure
     ensures { result ≡ Fault }
 {
-    say(
-        rt,
-        format_args!("dagskimra: {wrong}\nusage: dagskimra {line}\n"),
-    );
+    say(rt, "dagskimra: ");
+    text(rt, wrong);
+    say(rt, "\nusage: dagskimra ");
+    text(rt, line);
+    say(rt, "\n");
     Failure::Fault
 }

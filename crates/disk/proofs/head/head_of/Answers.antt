@@ -4,4 +4,4 @@ use Rattle.disk.proofs.head.head_of.Goals as goal
 
 pub returns : goal.returns
 returns c =
-    head-sums c.args.line.now c.args.books.now.table c.args.books.now.files c.args.books.now.regular c.args.books.now.corrections _ _ _ _ _ _ _ c.summed-sum.ensures c.summed-sum-2.ensures c.summed-sum-3.ensures c.summed-sum-4.ensures c.summed-sum-5.ensures c.version.ensures c.spelled.ensures
+    head-sums c.args.line.now c.args.table.now c.args.files.now c.args.regular.now c.args.corrections.now _ _ _ _ _ _ _ c.summed-sum.ensures c.summed-sum-2.ensures c.summed-sum-3.ensures c.summed-sum-4.ensures c.summed-sum-5.ensures c.version.ensures c.spelled.ensures
