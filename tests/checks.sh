@@ -83,6 +83,28 @@ add $of 'pub fn loose(out: &mut [u8]) -> u8' '    ensures { out.new ≡ out.old 
 fails 'text::loose: no equation for the answer' tests/outcomes.sh
 add $of 'pub fn loose(x: u8) -> u8' '    ensures heard { Unheard x result }' '{' '    x' '}'
 fails 'no theorem says that Unheard settles its outcome' tests/outcomes.sh
+# an answer by its fields: each of them, but rooms that are left out by name
+of_filed=crates/working/src/filed.rt of_index=crates/working/src/indexing/find.rt
+change $of_filed '/pub fn records(/,/^    }/{/ensures file {/d;}'
+fails 'working::filed::Filed::records: no equation for file of the answer' tests/outcomes.sh
+change $of_filed '/pub fn records(/,/^    }/{/ensures start {/d;}'
+fails 'working::filed::Filed::records: no equation for start of the answer' tests/outcomes.sh
+change $of_filed '/fn records_from(/,/^    }/{/ensures journals {/d;}'
+fails 'working::filed::Filed::records_from: no equation for journals of the answer' tests/outcomes.sh
+change $of_filed '/pub fn records(/,/^    }/{/ensures/d;}'
+fails 'working::filed::Filed::records: no ensures' tests/outcomes.sh
+change $of_index '/ensures wanted {/d'
+fails 'working::indexing::find::Index::new: no equation for wanted of the answer' tests/outcomes.sh
+change $of_index 's/^        keys: &/        room: \&/'
+fails 'working::indexing::find::Index::new: what becomes of room is not said' tests/outcomes.sh
+add $of_index 'pub fn new(x: u8) -> u8 {' '    x' '}'
+fails 'working::indexing::find::new: no ensures' tests/outcomes.sh
+add $of 'pub struct Two {' '    pub one: u8,' '    pub other: u8,' '}' 'pub fn loose(x: u8) -> Two' '    ensures one { result.one ≡ x }' '{' '    Two { one: x, other: x }' '}'
+fails 'text::loose: no equation for other of the answer' tests/outcomes.sh
+add $of 'pub struct Two {' '    pub one: u8,' '    pub other: u8,' '}' 'pub fn loose(x: u8) -> Two' '    ensures one { result.one ≡ result.other }' '    ensures other { result.other ≡ result.one }' '{' '    Two { one: x, other: x }' '}'
+fails 'text::loose: no theorem says that result.other settles its outcome' tests/outcomes.sh
+add $of 'pub fn loose(x: u8) -> Elsewhere' '    ensures one { result.one ≡ x }' '{' '    elsewhere(x)' '}'
+fails 'text::loose: the fields of its answer are not known' tests/outcomes.sh
 change crates/working/src/gather.rt 's/fn gather_all/fn gather_some/'
 fails 'working::gather::gather_all is left out and is not there' tests/outcomes.sh
 change crates/working/src/indexing/find.rt 's/fn work_indexed/fn worked_indexed/'

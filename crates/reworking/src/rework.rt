@@ -11,6 +11,7 @@ use store::numbers::lines;
 use store::readable;
 use working::filed::{Filed, Journals};
 use working::indexing::find::Index;
+use working::indexing::tags::Tags;
 use working::overview;
 
 // As many files as a store takes: over the first so many of them is over all.
@@ -76,7 +77,11 @@ fn rework_all(table: &[u8], filed: &Filed, entries: &mut [u8], m: usize, list: &
     let mut keys = [0u64; 10240];
     let mut places = [0u64; 10240];
     let mut room = [0u64; 10240];
-    let tags = overview::lines::want_lines(table, m, &mut wanted);
+    overview::lines::want_lines(table, m, &mut wanted);
+    let tags = Tags {
+        words: &wanted,
+        count: m,
+    };
     let index = Index::new(*filed, tags, &mut keys, &mut places);
     rework_lines(table, &index, &mut room, entries, m, list)
 }

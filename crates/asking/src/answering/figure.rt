@@ -13,6 +13,7 @@ use store::readable;
 use verdict::step::Standing;
 use working::filed::{Filed, Journals};
 use working::indexing::find::Index;
+use working::indexing::tags::Tags;
 use working::overview;
 
 // Whether the entry of the line i is another one than a standing has.
@@ -53,7 +54,11 @@ fn differing_among(table: &[u8], filed: &Filed, entries: &[u8], m: usize) -> usi
     let mut keys = [0u64; 10240];
     let mut places = [0u64; 10240];
     let mut room = [0u64; 10240];
-    let tags = overview::lines::want_lines(table, m, &mut wanted);
+    overview::lines::want_lines(table, m, &mut wanted);
+    let tags = Tags {
+        words: &wanted,
+        count: m,
+    };
     let index = Index::new(*filed, tags, &mut keys, &mut places);
     differing_by(table, &index, entries, m, &mut room)
 }

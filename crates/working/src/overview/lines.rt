@@ -10,7 +10,6 @@ ghost use Rattle.rules.specs.Rules.{standings};
 ghost use Rattle.working.specs.overview.Lines.{line_tag, sorted_first};
 
 use crate::indexing::find::Index;
-use crate::indexing::tags::Tags;
 use crate::indexing::{find, tags};
 use entries::entry::Line;
 use store::numbers::lines;
@@ -36,17 +35,12 @@ fn lay_tags(lines: &[u8], m: usize, wanted: &mut [u64])
 }
 
 // The first fields of the first m lines as what is wanted: their tags, in order.
-pub fn want_lines<'a>(lines: &[u8], m: usize, wanted: &'a mut [u64; 10240]) -> Tags<'a>
+pub fn want_lines(lines: &[u8], m: usize, wanted: &mut [u64; 10240])
     requires { (2 + m * 14 ≤ length lines.now) × (m ≤ 1024) }
-    ensures words { result.words.now ≡ sorted_first m (overlay wanted.old 0 (table m (line_tag lines.now))) }
-    ensures count { result.count ≡ m }
+    ensures { wanted.new ≡ sorted_first m (overlay wanted.old 0 (table m (line_tag lines.now))) }
 {
     lay_tags(lines, m, wanted);
     order::sort(wanted, m);
-    Tags {
-        words: wanted,
-        count: m,
-    }
 }
 
 // Where the line i stands over the first files of the index.
