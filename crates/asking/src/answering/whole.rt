@@ -32,7 +32,7 @@ pub fn entry<'a>(
     ensures { result ≡ entry_asked (reads (lent table.now files.now regular.now corrections.now entries.now)) number }
 {
     if !readable::readable(table, files, regular, corrections, entries) {
-        return Err(NotShown::Unreadable);
+        return Err(NotShown::Unreadable); // no entry is held
     }
     let Some(x) = number else {
         return Err(NotShown::UnknownNumber);
@@ -73,10 +73,10 @@ pub fn why<'a>(
     ensures { result ≡ why_asked (reads (lent table.now files.now regular.now corrections.now entries.now)) number }
 {
     if !readable::readable(table, files, regular, corrections, entries) {
-        return Err(NotShown::Unreadable);
+        return Err(NotShown::Unreadable); // no pair is told
     }
     let Some(x) = number else {
-        return Err(NotShown::UnknownNumber);
+        return Err(NotShown::UnknownNumber); // what is no number
     };
     Ok(why::look(table, files, regular, corrections, x)?)
 }
