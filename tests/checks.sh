@@ -182,6 +182,17 @@ edit=crates/text/must-fail/letter_is_a_digit.edit
 passes tests/wrong.sh text
 add $of 'pub fn loose(x: u8) -> u8' '    ensures { result ≡ x }' '{' '    x' '}'
 fails 'text: loose has 0 of two wrong programs' tests/wrong.sh text
+# and of functions of an impl, where its trait is public or `From`
+add $of 'impl From<Result<(), Loose>> for Digit {' '    fn from(x: Result<(), Loose>) -> Digit {' '        Digit' '    }' '}'
+fails 'text: DigitFromResultUnitLoose::from has 0 of two wrong programs' tests/wrong.sh text
+add $of 'pub trait Loose {' '    fn loose(self) -> Self;' '}' 'impl<T: Loose> Loose for Option<T> {' '    fn loose(self) -> Self {' '        self' '    }' '}'
+fails 'text: OptionLoose::loose has no wrong program that is tried at each gate' tests/wrong.sh text
+add $of 'pub(crate) trait Loose {' '    fn loose(self) -> Self;' '}' 'impl Loose for Digit {' '    fn loose(self) -> Self {' '        self' '    }' '}'
+passes tests/wrong.sh text
+restore
+add $of 'impl Display for Digit {' '    fn fmt(self) -> Self {' '        self' '    }' '}'
+passes tests/wrong.sh text
+restore
 change $edit '/^wrong: byte_at_the_front/,/^$/d'
 fails 'text: put_byte has no wrong program that is tried at each gate' tests/wrong.sh text
 change $edit '/^wrong: byte_at_the_front/,/^$/s/^old: ./old: no such code /'
