@@ -107,6 +107,10 @@ add tests/without-contract 'prints desk::page::print'
 fails 'desk::page::print is listed twice' tests/contracts.sh
 add tests/without-contract 'because desk::page::torn'
 fails 'not a reason and a function: because desk::page::torn' tests/contracts.sh
+add $pf "impl Display for Loose<'_, Word> {" '    fn fmt<W: Write>(&self, f: &mut Formatter<W>) -> fmt::Result {' '        Ok(())' '    }' '}'
+fails 'desk::run::LooseWordDisplay::fmt has no contract on its result, and is not listed' tests/contracts.sh
+change crates/shown/src/entry.rt 's/^impl Display for Shown<Place> {/impl Show for Shown<Place> {/'
+fails 'shown::entry::ShownPlaceDisplay::fmt is listed and is not there' tests/contracts.sh
 
 # ---- outer.sh
 passes tests/outer.sh
