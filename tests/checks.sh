@@ -69,6 +69,14 @@ of=crates/text/src/lib.rt
 passes tests/outcomes.sh
 change crates/filing/src/file.rt '/ensures {/d'
 fails 'filing::file::file: no ensures' tests/outcomes.sh
+add $of 'pub trait Loose {' '    fn loose(self) -> u8;' '}'
+fails 'text::Loose::loose: no ensures' tests/outcomes.sh
+add $of 'pub trait Loose {' '    fn loose(self, at: u8) -> u8' '        requires { at ≤ 9 };' '}'
+fails 'text::Loose::loose: no ensures' tests/outcomes.sh
+change crates/asking/src/looks.rt '/from_gives = { λ l a. a ≡ answer_by l }/d'
+fails 'asking::looks: impl From<NotSeen> for NotShown: no equation in from_gives' tests/outcomes.sh
+change crates/asking/src/looks.rt 's/λ l a. a ≡ answer_by l/λ l a. l ≡ l/'
+fails 'asking::looks: impl From<NotSeen> for NotShown: no equation in from_gives' tests/outcomes.sh
 add $of 'pub fn loose(x: u8) -> u8 {' '    x' '}'
 fails 'text::loose: no ensures' tests/outcomes.sh
 add $of 'pub(crate) fn loose(x: u8) -> u8 { x }'
