@@ -69,6 +69,14 @@ of=crates/text/src/lib.rt
 passes tests/outcomes.sh
 change crates/filing/src/file.rt '/ensures {/d'
 fails 'filing::file::file: no ensures' tests/outcomes.sh
+add $of 'pub trait Loose {' '    fn loose(self) -> u8;' '}'
+fails 'text::Loose::loose: no ensures' tests/outcomes.sh
+add $of 'pub trait Loose {' '    fn loose(self, at: u8) -> u8' '        requires { at ≤ 9 };' '}'
+fails 'text::Loose::loose: no ensures' tests/outcomes.sh
+change crates/asking/src/looks.rt '/from_gives = { λ l a. a ≡ answer_by l }/d'
+fails 'asking::looks: impl From<NotSeen> for NotShown: no equation in from_gives' tests/outcomes.sh
+change crates/asking/src/looks.rt 's/λ l a. a ≡ answer_by l/λ l a. l ≡ l/'
+fails 'asking::looks: impl From<NotSeen> for NotShown: no equation in from_gives' tests/outcomes.sh
 add $of 'pub fn loose(x: u8) -> u8 {' '    x' '}'
 fails 'text::loose: no ensures' tests/outcomes.sh
 add $of 'pub(crate) fn loose(x: u8) -> u8 { x }'
@@ -129,6 +137,10 @@ add tests/without-contract 'prints desk::page::print'
 fails 'desk::page::print is listed twice' tests/contracts.sh
 add tests/without-contract 'because desk::page::torn'
 fails 'not a reason and a function: because desk::page::torn' tests/contracts.sh
+add $pf "impl Display for Loose<'_, Word> {" '    fn fmt<W: Write>(&self, f: &mut Formatter<W>) -> fmt::Result {' '        Ok(())' '    }' '}'
+fails 'desk::run::LooseWordDisplay::fmt has no contract on its result, and is not listed' tests/contracts.sh
+change crates/shown/src/entry.rt 's/^impl Display for Shown<Place> {/impl Show for Shown<Place> {/'
+fails 'shown::entry::ShownPlaceDisplay::fmt is listed and is not there' tests/contracts.sh
 
 # ---- outer.sh
 passes tests/outer.sh
@@ -204,6 +216,17 @@ edit=crates/text/must-fail/letter_is_a_digit.edit
 passes tests/wrong.sh text
 add $of 'pub fn loose(x: u8) -> u8' '    ensures { result ≡ x }' '{' '    x' '}'
 fails 'text: loose has 0 of two wrong programs' tests/wrong.sh text
+# and of functions of an impl, where its trait is public or `From`
+add $of 'impl From<Result<(), Loose>> for Digit {' '    fn from(x: Result<(), Loose>) -> Digit {' '        Digit' '    }' '}'
+fails 'text: DigitFromResultUnitLoose::from has 0 of two wrong programs' tests/wrong.sh text
+add $of 'pub trait Loose {' '    fn loose(self) -> Self;' '}' 'impl<T: Loose> Loose for Option<T> {' '    fn loose(self) -> Self {' '        self' '    }' '}'
+fails 'text: OptionLoose::loose has no wrong program that is tried at each gate' tests/wrong.sh text
+add $of 'pub(crate) trait Loose {' '    fn loose(self) -> Self;' '}' 'impl Loose for Digit {' '    fn loose(self) -> Self {' '        self' '    }' '}'
+passes tests/wrong.sh text
+restore
+add $of 'impl Display for Digit {' '    fn fmt(self) -> Self {' '        self' '    }' '}'
+passes tests/wrong.sh text
+restore
 change $edit '/^wrong: byte_at_the_front/,/^$/d'
 fails 'text: put_byte has no wrong program that is tried at each gate' tests/wrong.sh text
 change $edit '/^wrong: byte_at_the_front/,/^$/s/^old: ./old: no such code /'

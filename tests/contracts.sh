@@ -1,6 +1,7 @@
 #!/bin/sh
 # Each public function of the program's crates, also one that is public within its crate alone, has a contract on its result, or stands in
-# tests/without-contract with its reason. (Those of the libraries are asked for more: tests/outcomes.sh.)
+# tests/without-contract with its reason. So does the function of each `impl Display`, by the name of its proof: `shown::entry::ShownPlaceDisplay::fmt`.
+# (Those of the libraries are asked for more: tests/outcomes.sh.)
 set -eu
 cd "$(dirname "$0")/.."
 program='desk words disk shown commands offers questions reasons'
@@ -30,15 +31,29 @@ done | sort | xargs awk -v list=tests/without-contract '
         if (split(line, sides, " ≡ ") == 2 && sides[1] == sides[2]) return 0
         return !gives || line ~ /(^|[ (])result([ ).]|$)/
     }
+    # the words of a type, joined
+    function joined(type,    words, n, i, name) {
+        gsub(/[a-z_0-9]+::|\047[a-z_]+/, "", type)
+        n = split(type, words, /[^A-Za-z0-9_]+/)
+        for (i = 1; i <= n; i++) name = name toupper(substr(words[i], 1, 1)) substr(words[i], 2)
+        return name
+    }
     # the path below src is the path of its functions; lib.rt is the crate itself
     FNR == 1 {
-        inside = 0; file = FILENAME
+        inside = 0; printed = ""; file = FILENAME
         sub(/^crates\//, "", file); sub(/\/src\//, "/", file); sub(/(\/lib)?\.rt$/, "", file); gsub("/", "::", file)
     }
     /^ *pub(\(crate\))? fn / {
         inside = 1; contract = 0; gives = 0
         name = $0; sub(/^ *pub(\(crate\))? fn /, "", name); sub(/[^a-z_0-9A-Z].*/, "", name)
         here = file "::" name
+    }
+    /^impl.* (fmt::)?Display for / { printed = $0; sub(/.*Display for /, "", printed); printed = joined(printed) "Display::" }
+    /^}/ { printed = "" }
+    printed != "" && /^ *fn / {
+        inside = 1; contract = 0; gives = 0
+        name = $2; sub(/[^a-z_0-9A-Z].*/, "", name)
+        here = file "::" printed name
     }
     inside && index($0, "->") && !/^ *(ensures|requires) / { gives = 1 }
     inside && /^ *ensures / { if (says($0)) contract = 1; next }
@@ -47,6 +62,6 @@ done | sort | xargs awk -v list=tests/without-contract '
     inside && (/\{$/ || /\{.*\}$/) { judge(); inside = 0 }
     END {
         for (name in reason) if (!(name in met)) fail(name " is listed and is not there")
-        printf "contracts: %d public functions of the program, %d with a contract on their result; %d listed without\n", publics, publics - listed, listed
+        printf "contracts: %d public functions and printed values of the program, %d with a contract on their result; %d listed without\n", publics, publics - listed, listed
         exit failed > 0
     }'

@@ -106,6 +106,14 @@ done | sort | xargs awk -v theorems="$theorems" -v exceptions="$exceptions" -v r
         else if (line !~ /^\(?[a-z_]+\.new ≡ /) { form = line; sub(/ .*/, "", form) }
         next
     }
+    # What other crates call of a trait: a public trait gives each impl its contract, and `from_gives` is that of a From.
+    /^pub trait / { trait = $3; sub(/[^A-Za-z0-9_].*/, "", trait) }
+    trait != "" && /^ *fn / { method = $2; sub(/[^a-z_0-9A-Z].*/, "", method); here = file "::" trait "::" method; heard = 0 }
+    method != "" && /^ *ensures / { heard = 1 }
+    method != "" && /[;{}]$/ && !/^ *requires / { if (!heard) fail("no ensures"); method = "" }
+    /^impl.* From<.* for / { from = file ": " $0; sub(/ \{.*/, "", from) }
+    from != "" && /ghost from_gives = / && $7 == $8 "." && $9 == "≡" { from = "" }
+    /^}/ { if (from != "") { here = from; fail("no equation in from_gives") } trait = from = method = "" }
     inside && /^ *requires / { next }
     inside {
         line = $0

@@ -1,7 +1,8 @@
 #!/bin/sh
 # The wrong programs: those in crates/NAME/must-fail are tried at each gate, those in crates/NAME/wrong whenever their crate changed (tests/again). Each can
 # be made, and each public function of a library has two at least, of which one is tried at each gate, unless no user meets the crate's functions (`inner` in
-# tests/outer). Above each change stands what is refused (tests/refused has the three forms): of code `wrong: NAME FUNCTION` or `FUNCTION.NEED`, and an edit may make several functions wrong at once; of a
+# tests/outer). So has each function of an `impl` of a public trait of these crates, or of `From`, which other crates call too: its name is that of its proof,
+# the type's and the trait's words joined (`field::OptionField::len`, `reading::NumbersFromResultUnitNoRecord::from`). Above each change stands what is refused (tests/refused has the three forms): of code `wrong: NAME FUNCTION` or `FUNCTION.NEED`, and an edit may make several functions wrong at once; of a
 # definition `wrong: NAME FILE.THEOREM`, the theorem that does not hold with it, or the function that does not follow it. A crate has one edit of code in
 # must-fail, since each costs a check of the whole crate; its file is named by its strongest wrong program. A wrong program whose tests or calls have other names
 # may bring these along in the answers of its proof (`file: proofs/FUNCTION/Answers.antt`). An edit with a line `of: definitions` changes definitions alone.
@@ -16,12 +17,38 @@ filing/count_invented'
 public=$(mktemp)
 trap 'rm -f "$public" "$public.sum"' EXIT
 
-# the public functions of a library, by their paths below the crate
+# the public traits of these crates
+traits=$(find crates/*/src -name '*.rt' | xargs awk '/^ *pub trait / { name = $3; sub(/[^A-Za-z0-9_].*/, "", name); print name }')
+
+# the public functions of a library, and those of its impls of these traits and of `From`, by their paths below the crate
 public_of() {
-    find "crates/$1/src" -name '*.rt' | sort | xargs awk '
-        FNR == 1 { file = FILENAME; sub(/^crates\/[^\/]*\/src\//, "", file); sub(/\.rt$/, "", file); gsub("/", "::", file); of = file == "lib" ? "" : file "::"; type = "" }
+    find "crates/$1/src" -name '*.rt' | sort | xargs awk -v traits="$(echo From $traits)" '
+        BEGIN { n = split(traits, names, " "); for (i = 1; i <= n; i++) public[names[i]] = 1 }
+        # the words of a type or a trait, joined; without the parameters of its impl, and without the modules of a path
+        function joined(text,    words, n, i, name) {
+            gsub(/\(\)/, "Unit", text); gsub(/[a-z_0-9]+::/, "", text); gsub(/\047[a-z_]+/, "", text)
+            n = split(text, words, /[^A-Za-z0-9_]+/); name = ""
+            for (i = 1; i <= n; i++) if (!(words[i] in parameter)) name = name toupper(substr(words[i], 1, 1)) substr(words[i], 2)
+            return name
+        }
+        # in an impl of one of these traits: what stands before the name of a function
+        function begin(head,    part, n, i, trait) {
+            split("", parameter)
+            if (match(head, /^<[^>]*>/)) {
+                n = split(substr(head, 2, RLENGTH - 2), part, ",")
+                for (i = 1; i <= n; i++) { gsub(/ |:.*/, "", part[i]); parameter[part[i]] = 1 }
+                head = substr(head, RLENGTH + 1)
+            }
+            sub(/^ */, "", head); sub(/ *(where .*)?\{.*/, "", head)
+            i = index(head, " for "); trait = substr(head, 1, i - 1)
+            name = trait; sub(/<.*/, "", name); sub(/.*::/, "", name)
+            return name in public ? joined(substr(head, i + 5)) joined(trait) "::" : ""
+        }
+        FNR == 1 { file = FILENAME; sub(/^crates\/[^\/]*\/src\//, "", file); sub(/\.rt$/, "", file); gsub("/", "::", file); of = file == "lib" ? "" : file "::"; type = met = "" }
         /^impl[ <]/ { type = $0; sub(/^impl(<[^>]*>)? */, "", type); sub(/[^A-Za-z0-9_].*/, "", type); type = type "::" }
-        /^}/ { type = "" }
+        /^impl[ <].* for / { met = begin(substr($0, 5)) }
+        /^}/ { type = met = "" }
+        met != "" && /^ *fn / { name = $2; sub(/[^a-z_0-9A-Z].*/, "", name); print of met name }
         /^ *pub (extern "C" )?fn / { name = $0; sub(/^ *pub (extern "C" )?fn /, "", name); sub(/[^a-z_0-9A-Z].*/, "", name); print of type name }'
 }
 
