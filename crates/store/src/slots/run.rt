@@ -6,13 +6,14 @@ ghost use Rattle.laws.specs.Lists.{all};
 ghost use Rattle.laws.specs.Overlay.{overlay};
 ghost use Rattle.laws.specs.Slots.{is_zero};
 
-// Writes the bytes of `src` into `dst` from `at` on.
-#[tactic(auto, using(crate::proofs::slots::Runs::part_written))]
+// Writes the bytes of `src` into `dst` from `at` on: one by one, since the library's copy asks `memmove` of whoever links the archive for C.
 pub fn write(dst: &mut [u8], at: usize, src: &[u8])
     requires { at + length src.now ≤ length dst.old }
     ensures { dst.new ≡ overlay dst.old at src.now }
 {
-    dst[at..at + src.len()].copy_from_slice(src);
+    for i in 0..src.len() {
+        dst[at + i] = src[i];
+    }
 }
 
 // Writes `b` into `dst` from `at` on, `n` times.
