@@ -2,8 +2,8 @@
 # The wrong programs: those in crates/NAME/must-fail are tried at each gate, those in crates/NAME/wrong whenever their crate changed (tests/again). Each can
 # be made, and each public function of a library has two at least, of which one is tried at each gate, unless no user meets the crate's functions (`inner` in
 # tests/outer). So has each function of an `impl` of a public trait of these crates, or of `From`, which other crates call too: its name is that of its proof,
-# the type's and the trait's words joined (`field::OptionField::len`, `reading::NumbersFromResultUnitNoRecord::from`). Above each change stands what is refused (tests/refused has the three forms): of code `wrong: NAME FUNCTION` or `FUNCTION.NEED`, and an edit may make several functions wrong at once; of a
-# definition `wrong: NAME FILE.THEOREM`, the theorem that does not hold with it, or the function that does not follow it. A crate has one edit of code in
+# the type's and the trait's words joined (`field::OptionField::len`, `reading::NumbersFromResultUnitNoRecord::from`). Above each change stands what is refused (tests/refused has the three forms): of
+# code `wrong: NAME FUNCTION` or `FUNCTION.NEED`, and an edit may make several functions wrong at once; of a definition `wrong: NAME FILE.THEOREM`, the theorem that does not hold with it, or the function that does not follow it. A crate has one edit of code in
 # must-fail, since each costs a check of the whole crate; its file is named by its strongest wrong program. A wrong program whose tests or calls have other names
 # may bring these along in the answers of its proof (`file: proofs/FUNCTION/Answers.antt`). An edit with a line `of: definitions` changes definitions alone.
 # With the name of a crate: of that crate alone.
@@ -14,6 +14,9 @@ program='desk words disk shown commands offers questions reasons'
 # the programs that the scope paper shuts out by name: each is tried at each gate, and names the need that is its promise
 paper='filing/refuses_all_files filing/stores_nothing verdict/10_answered_to_every_report verdict/holder_never_moves filing/later_files_only_journaled
 filing/count_invented'
+# tried at each gate beside a crate's one edit of code: their functions had an edit each before they became one with another
+beside='order/many_taken_for_few order/single_key_halved verdict/equal_report_kept_again layout/date_measured_with_six_digits layout/kind_of_two_bytes
+working/journals_exchanged_in_the_fold'
 public=$(mktemp)
 trap 'rm -f "$public" "$public.sum"' EXIT
 
@@ -48,7 +51,9 @@ public_of() {
         /^impl[ <]/ { type = $0; sub(/^impl(<[^>]*>)? */, "", type); sub(/[^A-Za-z0-9_].*/, "", type); type = type "::" }
         /^impl[ <].* for / { met = begin(substr($0, 5)) }
         /^}/ { type = met = "" }
-        met != "" && /^ *fn / { name = $2; sub(/[^a-z_0-9A-Z].*/, "", name); print of met name }
+        # one that only hands on to the function of its type that has the same name is that one, which has its own wrong programs
+        own != "" { if ($0 !~ "^ *self[.]" own "[(].*[)]$") print of met own; own = "" }
+        met != "" && /^ *fn / { own = $2; sub(/[^a-z_0-9A-Z].*/, "", own) }
         /^ *pub (extern "C" )?fn / { name = $0; sub(/^ *pub (extern "C" )?fn /, "", name); sub(/[^a-z_0-9A-Z].*/, "", name); print of type name }'
 }
 
@@ -62,7 +67,8 @@ for folder in crates/${1:-*}/; do
     *" $crate "*) ;;
     *) if [ -f "crates/$crate/src/lib.rt" ]; then public_of "$crate" >"$public"; fi ;;
     esac
-    find "crates/$crate/must-fail" "crates/$crate/wrong" -name '*.edit' 2>/dev/null | sort | xargs awk -v crate="$crate" -v public="$public" -v paper="$(echo $paper)" -v unmet="$(grep -cx "inner $crate" tests/outer)" '
+    find "crates/$crate/must-fail" "crates/$crate/wrong" -name '*.edit' 2>/dev/null | sort | xargs awk -v crate="$crate" -v public="$public" -v paper="$(echo $paper)" -v unmet="$(grep -cx "inner $crate" tests/outer)" -v beside="$(echo $beside)" '
+        BEGIN { for (i = split(beside, besides_list, " "); i > 0; i--) besides[besides_list[i]] = 1 }
         function fail(why) { printf "wrong: %s: %s\n", crate, why; failed = 1 }
         function name_it(name) { if (name in named) fail(name " is there twice"); named[name] = 1; all++; called = called || name == label }
         # the file of proofs that a theorem stands in has a name of its own, with a capital; a function has none
@@ -109,7 +115,7 @@ for folder in crates/${1:-*}/; do
         # a wrong program of a function is an edit of code; a definition that its code does not follow is none of its own
         /^file: src\// && of != "" && fresh {
             count[of]++; fresh = 0
-            if (folder == "must-fail") { always[of]++; if (!joined++ && edits++) fail("two edits of functions are tried at each gate: " FILENAME " is one too many") }
+            if (folder == "must-fail") { always[of]++; if (!joined++ && !(crate "/" label in besides) && edits++) fail("two edits of functions are tried at each gate: " FILENAME " is one too many") }
         }
         /^of: definitions$/ { defines = 1 }
         /^file: / && defines && !/^file: specs\// { fail(FILENAME " is of definitions, and changes " $2) }
