@@ -16,7 +16,7 @@ paper='filing/refuses_all_files filing/stores_nothing verdict/10_answered_to_eve
 filing/count_invented'
 # tried at each gate beside a crate's one edit of code: their functions had an edit each before they became one with another
 beside='order/many_taken_for_few order/single_key_halved verdict/equal_report_kept_again layout/date_measured_with_six_digits layout/kind_of_two_bytes
-working/journals_exchanged_in_the_fold'
+working/journals_exchanged_in_the_fold store/high_bit_lost'
 public=$(mktemp)
 trap 'rm -f "$public" "$public.sum"' EXIT
 
