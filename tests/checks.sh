@@ -224,6 +224,12 @@ fails 'text: OptionLoose::loose has no wrong program that is tried at each gate'
 add $of 'pub(crate) trait Loose {' '    fn loose(self) -> Self;' '}' 'impl Loose for Digit {' '    fn loose(self) -> Self {' '        self' '    }' '}'
 passes tests/wrong.sh text
 restore
+# one that hands on to the function of its type that has its name is that one; to another, it is not
+add $of 'pub trait Loose {' '    fn loose(self) -> Self;' '}' 'impl Loose for Digit {' '    fn loose(self) -> Self {' '        self.loose()' '    }' '}'
+passes tests/wrong.sh text
+restore
+add $of 'pub trait Loose {' '    fn loose(self) -> Self;' '}' 'impl Loose for Digit {' '    fn loose(self) -> Self {' '        self.tight()' '    }' '}'
+fails 'text: DigitLoose::loose has 0 of two wrong programs' tests/wrong.sh text
 add $of 'impl Display for Digit {' '    fn fmt(self) -> Self {' '        self' '    }' '}'
 passes tests/wrong.sh text
 restore

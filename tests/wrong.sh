@@ -2,10 +2,12 @@
 # The wrong programs: those in crates/NAME/must-fail are tried at each gate, those in crates/NAME/wrong whenever their crate changed (tests/again). Each can
 # be made, and each public function of a library has two at least, of which one is tried at each gate, unless no user meets the crate's functions (`inner` in
 # tests/outer). So has each function of an `impl` of a public trait of these crates, or of `From`, which other crates call too: its name is that of its proof,
-# the type's and the trait's words joined (`field::OptionField::len`, `reading::NumbersFromResultUnitNoRecord::from`). Above each change stands what is refused (tests/refused has the three forms): of
-# code `wrong: NAME FUNCTION` or `FUNCTION.NEED`, and an edit may make several functions wrong at once; of a definition `wrong: NAME FILE.THEOREM`, the theorem that does not hold with it, or the function that does not follow it. A crate has one edit of code in
-# must-fail, since each costs a check of the whole crate; its file is named by its strongest wrong program. A wrong program whose tests or calls have other names
-# may bring these along in the answers of its proof (`file: proofs/FUNCTION/Answers.antt`). An edit with a line `of: definitions` changes definitions alone.
+# the type's and the trait's words joined (`field::OptionField::len`, `reading::NumbersFromResultUnitNoRecord::from`); one that only hands on to the function
+# of its type that has its name has those of that one. Above each change stands what is refused (tests/refused has the three forms): of code `wrong: NAME
+# FUNCTION` or `FUNCTION.NEED`, and an edit may make several functions wrong at once; of a definition `wrong: NAME FILE.THEOREM`, the theorem that does not
+# hold with it, or the function that does not follow it. A crate has one edit of code in must-fail, since each costs a check of the whole crate; its file is
+# named by its strongest wrong program. A wrong program whose tests or calls have other names may bring these along in the answers of its proof (`file:
+# proofs/FUNCTION/Answers.antt`). An edit with a line `of: definitions` changes definitions alone.
 # With the name of a crate: of that crate alone.
 set -eu
 cd "$(dirname "$0")/.."
